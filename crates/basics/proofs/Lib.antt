@@ -1,0 +1,9 @@
+pub mod Cases
+pub mod Tests
+pub mod Counting
+pub mod Update
+pub mod Members
+pub mod Table
+pub mod Bits
+pub mod Bytes
+pub mod Sorting

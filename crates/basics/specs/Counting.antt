@@ -1,0 +1,10 @@
+-- Counting: how many numbers below n pass a test.
+-- Assumes nothing.
+use Prim.Native.Nat.{ℕ, zero, suc, _+_}
+use mathlib.Core.Bool.{Bool}
+use mir.Val.{boolByte}
+
+-- how many of 0 .. n - 1 pass
+unfoldable pub count : (ℕ → Bool) → ℕ → ℕ
+count p zero = 0
+count p (suc n) = count p n + boolByte (p n)

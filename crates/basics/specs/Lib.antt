@@ -1,0 +1,5 @@
+pub mod Tests
+pub mod Counting
+pub mod Update
+pub mod Members
+pub mod Bytes

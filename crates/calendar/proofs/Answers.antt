@@ -1,0 +1,39 @@
+-- The answer `dayNumber` by cases: the number of a real date, 8 for anything else.
+--
+-- `day-given` and `day-refused` read it forwards; `day-is` reads it back; `day-range` and `day-small` bound it, for sums and
+-- signed differences.
+-- Assumes nothing.
+use mathlib.Core.Path.{_≡_}
+use mathlib.Core.Bool.{true, false}
+use Prim.Native.Nat.{ℕ, _^_, _≤_, _<_}
+use native.Mathlib.Omega.{arith}
+use Rattle.basics.proofs.Cases.{by-test}
+use Rattle.refusal.specs.declared.Refusal.the-variants.{NoEntry}
+use Rattle.calendar.specs.Calendar.{isDate, dayOf, dayNumber}
+use Rattle.calendar.specs.declared.DayNumber.the-variants.{Day, Refused}
+use Rattle.calendar.specs.Order.{date}
+use Rattle.calendar.proofs.Order.{in-range}
+
+module _ (year month day : ℕ) where
+  pub day-given : isDate year month day ≡ true → dayNumber year month day ≡ Day (dayOf year month day)
+  unfolding dayNumber
+  day-given e = rw e
+
+  pub day-refused : isDate year month day ≡ false → dayNumber year month day ≡ Refused NoEntry
+  unfolding dayNumber
+  day-refused e = rw e
+
+  -- an answer with a number: the date is real and the number is its
+  pub day-is : (a : ℕ) → dayNumber year month day ≡ Day a → (isDate year month day ≡ true) × (dayOf year month day ≡ a)
+  day-is a e =
+      by-test (isDate year month day) (λ yes. (yes, let given = day-given yes in cc))
+      (λ broken. absurd (let refused = day-refused broken in let z : _≡_ {A = ℕ} 0 1 = cc in omega arith))
+
+  pub day-range : (a : ℕ) → dayNumber year month day ≡ Day a → (1 ≤ a) × (a ≤ 109573)
+  day-range a e =
+      let is = day-is a e in
+      let range = in-range (date year month day) (is .0) in
+      (omega (arith, is .1, range .0), omega (arith, is .1, range .1))
+
+  pub day-small : (a : ℕ) → dayNumber year month day ≡ Day a → a < 2 ^ 31
+  day-small a e = let range = day-range a e in omega (arith, range .1)

@@ -1,0 +1,38 @@
+-- `month_length`: each arm of the match knows which months lead to it.
+use mathlib.Core.Logic.{⊎-elim, inl, inr}
+use mathlib.Core.Path.{_≡_}
+use borrow.Author.Tests.{ne-eqb}
+use Rattle.calendar.specs.Calendar.{monthLength}
+use Rattle.calendar.proofs.month_length.Statement.{statement}
+use Rattle.calendar.proofs.month_length.Tie as tie
+
+returns : tie.Need-returns
+unfolding monthLength
+returns c = simp (c .before .match .keys1, c .if1 .taken)
+
+returns-2 : tie.Need-returns-2
+unfolding monthLength
+returns-2 c = simp (c .before .match .keys1, c .if1 .left)
+
+returns-3 : tie.Need-returns-3
+unfolding monthLength
+returns-3 c =
+    let m = c .before .args .month in
+    ⊎-elim (λ (e : m ≡ 4). simp e)
+    (⊎-elim (λ (e : m ≡ 6). simp e) (⊎-elim (λ (e : m ≡ 9). simp e) (λ (e : m ≡ 11). simp e)))
+    (c .match .keys2)
+
+returns-4 : tie.Need-returns-4
+unfolding monthLength
+returns-4 c =
+    let no = c .match .rest .1 in
+    simp (
+      ne-eqb _ 2 (c .match .rest .0 .1),
+      ne-eqb _ 4 (λ e. no (inl e)),
+      ne-eqb _ 6 (λ e. no (inr (inl e))),
+      ne-eqb _ 9 (λ e. no (inr (inr (inl e)))),
+      ne-eqb _ 11 (λ e. no (inr (inr (inr e)))),
+    )
+
+pub month-length-spec : {M : Type 1} → statement M
+month-length-spec = tie.close (tie.spec returns returns-2 returns-3 returns-4)

@@ -1,0 +1,84 @@
+-- Days left by the order of dates: 0 on the last day, positive before it, negative after it.
+--
+-- Where there is an answer, the entry is a licence and the day a date, and the answer is the difference of the two day numbers
+-- (`left-of`). The sign of a difference is the order of the two numbers (`Differences`), and day numbers keep the order of dates
+-- both ways and are one to one (crate `calendar`). So the sign is the order of the dates (`on-last-day`, `before-end`,
+-- `after-end`).
+-- Assumes nothing.
+use mathlib.Core.Path.{_≡_, _∙_, ap, sym}
+use mathlib.Core.Bool.{true, false, _&&_}
+use mathlib.Core.Logic.{_↔_}
+use Prim.Native.Nat.{ℕ}
+use native.Mathlib.Omega.{arith}
+use lib.IntN.{ℤ, pos, _-ℤ_}
+use lib.Signed.{ltZ}
+use borrow.Author.Tests.{ltb-true, lt-ltb}
+use Rattle.basics.proofs.Cases.{by-test, both}
+use Rattle.refusal.specs.declared.Refusal.the-variants.{NoEntry}
+use Rattle.calendar.specs.Calendar.{isDate}
+use Rattle.calendar.specs.Order.{Date, date, isReal, number, earlier}
+use Rattle.calendar.proofs.Order.{order-kept, order-back, one-to-one}
+use Rattle.licence.specs.declared.DaysLeft.{DaysLeft}
+use Rattle.licence.specs.declared.DaysLeft.the-variants.{Days}
+use Rattle.licence.specs.Entry.{fieldsOf, isLicence}
+use Rattle.licence.specs.Verdict.{endOf, daysLeft}
+use Rattle.licence.proofs.Ends.{end-real}
+use Rattle.licence.proofs.Differences.{diff-negative, diff-positive, diff-same, diff-zero}
+
+module _ (e year month day : ℕ) where
+  abbrev end : Date
+  end = endOf (fieldsOf e)
+
+  abbrev today : Date
+  today = date year month day
+
+  pub left-given : isLicence e ≡ true → isDate year month day ≡ true
+      → daysLeft e year month day ≡ Days (pos (number end) -ℤ pos (number today))
+  unfolding daysLeft
+  left-given p q = rw (p, q)
+
+  pub left-refused : isLicence e && isDate year month day ≡ false → daysLeft e year month day ≡ DaysLeft.Refused NoEntry
+  unfolding daysLeft
+  left-refused f = rw f
+
+  -- what an answer says of the entry and the day
+  pub record Left (n : ℤ) : Type 0 where
+    pub licence : isLicence e ≡ true
+    pub date : isDate year month day ≡ true
+    pub is : n ≡ pos (number end) -ℤ pos (number today)
+
+  pub left-of : (n : ℤ) → daysLeft e year month day ≡ Days n → Left n
+  left-of n a =
+      by-test (isLicence e && isDate year month day)
+      (λ t. let p = both (isLicence e) (isDate year month day) t in
+      let b = left-given (p .0) (p .1) in
+      record { licence = p .0; date = p .1; is = cc })
+      (λ f. let b = left-refused f in absurd (let z : _≡_ {A = ℕ} 0 1 = cc in omega arith))
+
+  module _ (n : ℤ) (a : daysLeft e year month day ≡ Days n) where
+    end-is-real : isReal end ≡ true
+    end-is-real = end-real e (left-of n a .licence)
+
+    today-is-real : isReal today ≡ true
+    today-is-real = left-of n a .date
+
+    pub on-last-day : n ≡ pos 0 ↔ today ≡ end
+    on-last-day =
+        let is = left-of n a .is in (
+          λ z. one-to-one today end today-is-real end-is-real (sym (diff-zero _ _ (sym is ∙ z))),
+          λ same. is ∙ diff-same _ _ (ap number (sym same)),
+        )
+
+    pub before-end : ltZ (pos 0) n ≡ true ↔ earlier today end ≡ true
+    before-end =
+        let sign = ap (λ (z : ℤ). ltZ (pos 0) z) (left-of n a .is) ∙ diff-positive (number end) (number today) in (
+          λ h. order-back today end today-is-real end-is-real (ltb-true _ _ (sym sign ∙ h)),
+          λ o. sign ∙ lt-ltb _ _ (order-kept today end today-is-real end-is-real o),
+        )
+
+    pub after-end : ltZ n (pos 0) ≡ true ↔ earlier end today ≡ true
+    after-end =
+        let sign = ap (λ (z : ℤ). ltZ z (pos 0)) (left-of n a .is) ∙ diff-negative (number end) (number today) in (
+          λ h. order-back end today end-is-real today-is-real (ltb-true _ _ (sym sign ∙ h)),
+          λ o. sign ∙ lt-ltb _ _ (order-kept end today end-is-real today-is-real o),
+        )

@@ -1,0 +1,10 @@
+pub mod Licensed
+pub mod RoundTrip
+pub mod Entries
+pub mod Partition
+pub mod Kept
+pub mod Renewed
+pub mod Differences
+pub mod Ends
+pub mod Left
+pub mod Verdicts

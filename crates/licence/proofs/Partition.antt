@@ -1,0 +1,66 @@
+-- Every number is exactly one of a licence entry, the empty entry, and no entry.
+--
+-- The empty entry has no real date, so it is no licence (`empty-is-none`); hence the three answers of `kindOf` are given exactly
+-- to the licence entries (`licence-kind`), to the empty entry (`empty-kind`) and to all that are neither (`nothing-kind`).
+-- Assumes nothing.
+use mathlib.Core.Path.{_≡_, refl, _∙_, ap}
+use mathlib.Core.Bool.{true, false}
+use mathlib.Core.Logic.{_↔_, _≢_}
+use Prim.Native.Nat.{ℕ}
+use native.Mathlib.Omega.{arith}
+use lib.Dec.{eqb}
+use borrow.Author.Tests.{eqb-true, eqb-false, eq-eqb, ne-eqb}
+use Rattle.basics.proofs.Cases.{by-test, true-or-false}
+use Rattle.calendar.specs.Calendar.{isDate}
+use Rattle.licence.specs.declared.Kind.the-variants.{Licence, Empty, Nothing}
+use Rattle.licence.specs.Entry.{isLicensed, isLicence, empty, kindOf}
+
+pub empty-is-none : isLicence empty ≡ false
+unfolding isLicence isLicensed isDate
+empty-is-none = refl
+
+-- a licence entry is not the empty one
+pub licence-not-empty : (e : ℕ) → isLicence e ≡ true → e ≢ empty
+licence-not-empty e p q = true-or-false (isLicence e) p (ap isLicence q ∙ empty-is-none)
+
+module _ (e : ℕ) where
+  is-licence : isLicence e ≡ true → kindOf e ≡ Licence
+  unfolding kindOf
+  is-licence p = rw p
+
+  is-empty : e ≡ empty → kindOf e ≡ Empty
+  unfolding kindOf
+  is-empty p = rw (ap isLicence p ∙ empty-is-none, eq-eqb e empty p)
+
+  is-nothing : isLicence e ≡ false → e ≢ empty → kindOf e ≡ Nothing
+  unfolding kindOf
+  is-nothing p q = rw (p, ne-eqb e empty q)
+
+  -- the three cases, each with its answer
+  by-kind : {C : Type 0} → (isLicence e ≡ true → kindOf e ≡ Licence → C) → (e ≡ empty → kindOf e ≡ Empty → C)
+      → (isLicence e ≡ false → e ≢ empty → kindOf e ≡ Nothing → C) → C
+  by-kind licence void nothing =
+      by-test (isLicence e) (λ p. licence p (is-licence p))
+      (λ p. by-test (eqb e empty) (λ q. let z = eqb-true e empty q in void z (is-empty z))
+      (λ q. let z = eqb-false e empty q in nothing p z (is-nothing p z)))
+
+  pub licence-kind : kindOf e ≡ Licence ↔ isLicence e ≡ true
+  licence-kind = (
+    λ k. by-kind (λ p _. p) (λ _ c. absurd (let z : _≡_ {A = ℕ} 0 1 = cc in omega arith))
+        (λ _ _ c. absurd (let z : _≡_ {A = ℕ} 0 1 = cc in omega arith)),
+    is-licence,
+  )
+
+  pub empty-kind : kindOf e ≡ Empty ↔ e ≡ empty
+  empty-kind = (
+    λ k. by-kind (λ _ c. absurd (let z : _≡_ {A = ℕ} 0 1 = cc in omega arith)) (λ p _. p)
+        (λ _ _ c. absurd (let z : _≡_ {A = ℕ} 0 1 = cc in omega arith)),
+    is-empty,
+  )
+
+  pub nothing-kind : kindOf e ≡ Nothing ↔ ((isLicence e ≡ false) × (e ≢ empty))
+  nothing-kind = (
+    λ k. by-kind (λ _ c. absurd (let z : _≡_ {A = ℕ} 0 1 = cc in omega arith))
+        (λ _ c. absurd (let z : _≡_ {A = ℕ} 0 1 = cc in omega arith)) (λ p q _. (p, q)),
+    λ h. is-nothing (h .0) (h .1),
+  )

@@ -1,0 +1,29 @@
+-- `is_licence`: the limit first, then the fields that `split` gives.
+-- Assumes nothing.
+use Prim.Native.Nat.{_^_}
+use mathlib.Core.Path.{_∙_, ap}
+use native.Mathlib.Omega.{arith}
+use borrow.Author.Tests.{le-ltb, lt-ltb}
+use borrow.Author.Needs.{needs}
+use Rattle.licence.specs.Entry.{isLicensed, isLicence}
+use Rattle.licence.proofs.is_licence.Statement.{statement}
+use Rattle.licence.proofs.is_licence.Tie as tie
+
+returns : tie.Need-returns
+unfolding isLicence
+returns c = simp (le-ltb (c .before .args .e) (2 ^ 40) (omega arith))
+
+split-requires : tie.Need-split-requires
+split-requires c κs = search needs
+
+is-licensed-requires : tie.Need-is-licensed-requires
+is-licensed-requires c κs = search needs
+
+returns-2 : tie.Need-returns-2
+unfolding isLicence
+returns-2 c =
+    simp (lt-ltb (c .before .before .before .args .e) (2 ^ 40) (omega arith))
+    (c .is-licensed .ensures ∙ ap isLicensed (c .before .split .ensures))
+
+pub is-licence-spec : {M : Type 1} → statement M
+is-licence-spec = tie.close (tie.spec returns split-requires is-licensed-requires returns-2)

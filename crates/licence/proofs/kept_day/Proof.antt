@@ -1,0 +1,36 @@
+-- `kept_day`: the three tests are the definition's, and where one fails the day stays.
+-- Assumes nothing.
+use mathlib.Core.Path.{_∙_, sym}
+use mathlib.Core.Logic.{⊎-elim}
+use borrow.Author.Needs.{needs}
+use borrow.Author.Tests.{eq-eqb, ne-eqb, not-true, not-false}
+use Rattle.licence.specs.Renewal.{keptDay}
+use Rattle.licence.proofs.kept_day.Statement.{statement}
+use Rattle.licence.proofs.kept_day.Tie as tie
+
+is-leap-requires : tie.Need-is-leap-requires
+is-leap-requires c κs = search needs
+
+returns : tie.Need-returns
+unfolding keptDay
+returns c =
+    simp (
+      eq-eqb _ _ (c .before .before .before .before .if1 .taken),
+      c .before .before .if2 .taken,
+      sym (c .before .is-leap .ensures) ∙ not-true _ (c .if3 .taken),
+    )
+
+returns-2 : tie.Need-returns-2
+unfolding keptDay
+returns-2 c =
+    ⊎-elim
+    (λ w. simp (
+      eq-eqb _ _ (w .0 .taken),
+      w .2 .taken,
+      sym (w .3 .ensures) ∙ not-false _ (w .4 .left),
+    ))
+    (⊎-elim (λ w. simp (eq-eqb _ _ (w .0 .taken), w .2 .left)) (λ w. simp (ne-eqb _ _ (w .left))))
+    (c .if1 .came)
+
+pub kept-day-spec : {M : Type 1} → statement M
+kept-day-spec = tie.close (tie.spec is-leap-requires returns returns-2)

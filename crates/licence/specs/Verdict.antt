@@ -1,0 +1,42 @@
+-- Days left and verdict on a day (01, section 'Entry and calendar').
+--
+-- In order: the last day; days left; the verdict by days left and state; the verdict on a day.
+-- Assumes nothing.
+use Prim.Native.Nat.{ℕ}
+use mathlib.Core.Bool.{cond, _&&_, _||_}
+use lib.Dec.{eqb}
+use lib.IntN.{ℤ, pos, _-ℤ_}
+use lib.Signed.{ltZ}
+use Rattle.refusal.specs.declared.Refusal.the-variants.{NoEntry}
+use Rattle.calendar.specs.Calendar.{isDate}
+use Rattle.calendar.specs.Order.{Date, date, number}
+use Rattle.licence.specs.declared.Fields.{Fields}
+use Rattle.licence.specs.declared.DaysLeft.{DaysLeft}
+use Rattle.licence.specs.declared.DaysLeft.the-variants.{Days}
+use Rattle.licence.specs.declared.Verdict.{Verdict}
+use Rattle.licence.specs.declared.Verdict.the-variants.{Pulp, Hold, Print}
+use Rattle.licence.specs.Entry.{fieldsOf, isLicence, suspended, withdrawn}
+
+-- the last day
+abbrev pub endOf : Fields → Date
+endOf f = date (f .year) (f .month) (f .day)
+
+-- the end's day number minus the day's, refused (8) where e is no licence entry or the day no real date
+unfoldable pub daysLeft : ℕ → ℕ → ℕ → ℕ → DaysLeft
+daysLeft e year month day =
+    cond (isLicence e && isDate year month day)
+    (Days (pos (number (endOf (fieldsOf e))) -ℤ pos (number (date year month day))))
+    (DaysLeft.Refused NoEntry)
+
+-- pulp when days left are negative or the state is withdrawn; otherwise hold when suspended, print when open
+unfoldable pub verdictBy : ℤ → ℕ → Verdict
+verdictBy left state =
+    cond (ltZ left (pos 0) || eqb state withdrawn) Pulp (cond (eqb state suspended) Hold Print)
+
+-- the same, or the refusal of days left
+abbrev pub judged : DaysLeft → ℕ → Verdict
+judged (Days left) state = verdictBy left state
+judged (DaysLeft.Refused r) state = Verdict.Refused r
+
+unfoldable pub verdictOf : ℕ → ℕ → ℕ → ℕ → Verdict
+verdictOf e year month day = judged (daysLeft e year month day) (fieldsOf e .state)

@@ -1,0 +1,5 @@
+pub mod Pairs
+pub mod Fields
+pub mod Numbers
+pub mod RoundTrip
+pub mod Packing

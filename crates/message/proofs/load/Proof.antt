@@ -1,0 +1,33 @@
+-- `load`: eleven bytes spell three and eight.
+use mathlib.Core.Path.{ap, _∙_}
+use native.Mathlib.Omega.{arith}
+use Rattle.basics.proofs.Bytes.{spelt-two}
+use Rattle.message.specs.Layout.{words}
+use Rattle.message.proofs.Numbers.{words-back}
+use borrow.Author.Needs.{needs}
+use Rattle.message.proofs.load.Statement.{statement}
+use Rattle.message.proofs.load.Tie as tie
+
+read-bytes-requires : tie.Need-read-bytes-requires
+read-bytes-requires c κs = search needs
+
+cast-t4 : tie.Need-cast-t4
+cast-t4 c = search needs
+
+add-read-bytes : tie.Need-add-read-bytes
+add-read-bytes c = search needs
+
+read-bytes-requires-2 : tie.Need-read-bytes-requires-2
+read-bytes-requires-2 c κs = search needs
+
+returns : tie.Need-returns
+returns c =
+    let a = c .before .before .before .args in
+    let h = c .before .read-bytes in
+    let l = c .read-bytes2 in
+    words-back (h .result) (l .result) (l .ensures .0)
+    ∙ ap words (cc (spelt-two (a .s .now) (a .at) 3 8 (omega arith), h .ensures .1, l .ensures .1))
+
+pub load-spec : {M : Type 1} → statement M
+load-spec =
+    tie.close (tie.spec read-bytes-requires cast-t4 add-read-bytes read-bytes-requires-2 returns)

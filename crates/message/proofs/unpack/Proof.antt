@@ -1,0 +1,35 @@
+-- `unpack`: a slice holds bytes, so only its length is tested before the number that they spell.
+use mathlib.Core.Path.{_≡_, ap, _∙_}
+use native.Mathlib.Omega.{arith}
+use lib.ListN.{length, take}
+use lib.Seq.{take-all}
+use borrow.Author.Tests.{ne-eqb}
+use Rattle.basics.proofs.Bytes.{are-bytes}
+use Rattle.message.specs.declared.Words.{Words}
+use Rattle.message.specs.Layout.{unpackOf, messageOf, wordsNumber}
+use Rattle.message.proofs.RoundTrip.{of-words-unpacks}
+use borrow.Author.Needs.{needs}
+use Rattle.message.proofs.unpack.Statement.{statement}
+use Rattle.message.proofs.unpack.Tie as tie
+
+returns : tie.Need-returns
+unfolding unpackOf
+returns c = simp (ne-eqb _ _ (c .if1 .taken))
+
+load-requires : tie.Need-load-requires
+load-requires c κs = search needs
+
+of-words-requires : tie.Need-of-words-requires
+of-words-requires c κs = search needs
+
+returns-2 : tie.Need-returns-2
+returns-2 c =
+    let s = c .before .before .before .before .args .s .now in
+    let eleven : length s ≡ 11 = c .before .before .if1 .left in
+    let all : take 11 s ≡ s = take-all 11 s (omega arith) in
+    let bytes = are-bytes s (λ i. omega (arith, c .before .before .before .shared-slice-known .given i)) in
+    c .of-words .ensures ∙ ap (λ (w : Words). messageOf (wordsNumber w)) (c .before .load .ensures)
+    ∙ rw all (of-words-unpacks s eleven bytes)
+
+pub unpack-spec : {M : Type 1} → statement M
+unpack-spec = tie.close (tie.spec returns load-requires of-words-requires returns-2)

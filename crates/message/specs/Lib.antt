@@ -1,0 +1,4 @@
+pub mod Pair
+pub mod Order
+pub mod Layout
+pub mod Packing

@@ -1,0 +1,30 @@
+-- A ladder of refusals: which one is given (01: 'The lowest number that applies is returned').
+--
+-- In order: a rung, the answer of a ladder, and what it is for a ladder to stand in the table's order.
+-- Assumes nothing.
+use Prim.Native.Nat.{ℕ}
+use mathlib.Core.Bool.{Bool, true, cond, _&&_}
+use mathlib.Core.List.{List, [], _∷_}
+use mathlib.Core.Option.{Option, none, some}
+use lib.Dec.{ltb}
+use Rattle.refusal.specs.declared.Refusal.{Refusal}
+use Rattle.refusal.specs.Numbers.{numberOf}
+
+-- a refusal, and whether it applies
+pub record Rung : Type 0 where
+  pub refusal : Refusal
+  pub applies : Bool
+
+infix 70 _when_
+abbrev pub _when_ : Refusal → Bool → Rung
+r when b = record { refusal = r; applies = b }
+
+-- the first refusal of the ladder that applies
+abbrev pub lowest : List Rung → Option Refusal
+lowest [] = none
+lowest (r ∷ rs) = cond (r .applies) (some (r .refusal)) (lowest rs)
+
+-- every rung has a higher number than n and than those before it
+abbrev pub rising : ℕ → List Rung → Bool
+rising n [] = true
+rising n (r ∷ rs) = ltb n (numberOf (r .refusal)) && rising (numberOf (r .refusal)) rs

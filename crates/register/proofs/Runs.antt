@@ -1,0 +1,65 @@
+-- Runs computed from the definitions, so that the theorems are about something: what each answers is what 01's rules
+-- give.
+--
+-- In order: the answers of a list of steps, one by one; how the runs judge entries and bytes. The runs are in the
+-- files of Runs/.
+-- Assumes nothing.
+use mathlib.Core.List.{List, [], _∷_}
+use Prim.Native.Nat.{ℕ, zero, suc, _*_, _+_, _^_}
+use lib.Dec.{eqb}
+use lib.ListN.{length}
+use Rattle.basics.specs.Bytes.{spelt}
+use Rattle.basics.specs.Counting.{count}
+use Rattle.basics.specs.Tests.{allBelow}
+use Rattle.basics.specs.Update.{update}
+use Rattle.message.specs.declared.Entry.{Entry}
+use Rattle.message.specs.declared.Pair.{Pair}
+use Rattle.message.specs.Pair.{counter, stamp, pairOf}
+use Rattle.message.specs.Layout.{messageOf, unpackOf}
+use Rattle.register.specs.declared.Answer.{Answer}
+use Rattle.register.specs.declared.Answer.the-variants.{Went}
+use Rattle.register.specs.Settings.{Settings, isServer, isClient, isHonest}
+use Rattle.register.specs.Server.{stored, serverAfter, serverSends, forwards, sentTo}
+use Rattle.register.specs.PairSet.{insert, add, has}
+use Rattle.register.specs.Client.{isIdle, isReading, isStoring, nextRead, started, withPair, withInfo, withAck}
+use Rattle.register.specs.Client.{entryOf}
+use Rattle.register.specs.Client.{isNoted, isAtMost, higher, highestOf, allPairs, notOld, valid, counts, chosen}
+use Rattle.register.specs.Client.{concluded, looked, acknowledged, takesInfo, clientTakes}
+use Rattle.register.specs.World.{putsUp, putsDown, leavesUp, leavesDown, nextUp, nextDown}
+use Rattle.register.specs.World.{nextServers, nextClients, nextStopped, apply, answerOf}
+use Rattle.register.specs.Steps.{Step, Formats, isEmpty, oldest, hasRoom, roomUp, roomDown, isReply}
+use Rattle.register.specs.Steps.{ladder, refusalOf, accepted, eventOf}
+use Rattle.register.specs.History.{worldAt, answerAt}
+pub mod Listing
+pub mod Overlap
+pub mod Disagree
+pub mod RowsDisagree
+
+-- the answers of n steps from step i on
+abbrev pub answersFrom : Settings → Formats → List Step → ℕ → ℕ → List Answer
+answersFrom S F steps i zero = []
+answersFrom S F steps i (suc n) = answerAt S F steps i ∷ answersFrom S F steps (suc i) n
+
+-- all answers of a list of steps; to unfold it is to unfold all that it computes with
+unfoldable pub answers : Settings → Formats → List Step → List Answer
+unfolding worldAt answerOf eventOf refusalOf ladder accepted apply nextServers nextClients nextStopped nextUp
+    nextDown leavesUp leavesDown putsUp putsDown isEmpty oldest hasRoom roomUp roomDown isReply allBelow count update
+    isServer isClient isHonest stored serverAfter serverSends forwards sentTo insert add has isIdle isReading isStoring
+    nextRead started withPair withInfo withAck entryOf isNoted isAtMost higher highestOf allPairs notOld valid counts
+    chosen concluded looked acknowledged takesInfo clientTakes counter stamp pairOf spelt messageOf unpackOf
+answers S F steps = answersFrom S F steps 0 (length steps)
+
+abbrev pub went : ℕ → List Answer
+went zero = []
+went (suc n) = Went ∷ went n
+
+-- the entry of 01's examples, 29 February 2024, 40 copies, open, is the runs' only licence entry
+abbrev pub theEntry : Entry
+theEntry = record { 0 = 0x7E82E80141 }
+
+abbrev pub formats : Formats
+formats = record { isLicence = λ e. eqb (e .0) 0x7E82E80141; unpack = unpackOf }
+
+-- the pair of a counter, a client and that entry, in 64 bits
+abbrev pub pairBy : ℕ → ℕ → Pair
+pairBy c d = record { 0 = c * 2 ^ 44 + d * 2 ^ 40 + 0x7E82E80141 }

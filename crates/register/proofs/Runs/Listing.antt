@@ -1,0 +1,28 @@
+-- The listing of 01, 'The program rehearse': one server, one client; a write, then a read, step by step with their
+-- answers.
+-- Assumes nothing.
+use mathlib.Core.Path.{_≡_, refl}
+use mathlib.Core.Bool.{false}
+use mathlib.Core.List.{List, [], _∷_}
+use Rattle.basics.specs.Counting.{count}
+use Rattle.basics.specs.Tests.{allBelow}
+use Rattle.register.specs.declared.Answer.the-variants.{Went, Read, Wrote}
+use Rattle.register.specs.Settings.{Settings, Accepted, inRange, setupRefusal}
+use Rattle.register.specs.Steps.{Step, R, W, K, D}
+use Rattle.register.proofs.Runs.{answers, theEntry, formats, pairBy}
+
+-- S 0 1 0
+abbrev alone : Settings
+alone = record { f = 0; clients = 1; faulty = λ k. false }
+
+set-up : Accepted alone
+unfolding setupRefusal inRange allBelow count
+set-up = refl
+
+abbrev steps : List Step
+steps = W 1 theEntry ∷ K 1 1 ∷ D 1 1 ∷ K 1 1 ∷ K 1 1 ∷ D 1 1 ∷ R 1 ∷ K 1 1 ∷ D 1 1 ∷ []
+
+listing : answers alone formats steps
+    ≡ Went ∷ Went ∷ Went ∷ Went ∷ Went ∷ Wrote (pairBy 1 1) ∷ Went ∷ Went ∷ Read (pairBy 1 1) ∷ []
+unfolding answers
+listing = refl

@@ -1,0 +1,203 @@
+-- In the run of `Disagree` no rows of the two reads agree on its two writes: the first row has the write of step 0 before that of
+-- step 16, the second has them the other way round. So 01 cannot ask for agreement on all writes.
+--
+-- Why: both reads show the pair of the write of step 0, so each stands right after it. The first read ended before the write of step
+-- 16 began, and this write ended before the second read began.
+-- In order: what the run answers; its operations; places in a row; the two rows.
+-- Assumes nothing.
+use mathlib.Core.Path.{_≡_, refl, sym, ap, _∙_, subst}
+use mathlib.Core.Bool.{Bool, true, false, not, _||_}
+use mathlib.Core.Logic.{_⊎_, inl, inr}
+use mathlib.Core.List.{List, _++_}
+use Prim.Native.Nat.{ℕ, suc, _<_}
+use native.Mathlib.Omega.{arith}
+use lib.Dec.{leb}
+use lib.ListN.{getD}
+use borrow.Author.Tests.{leb-true}
+use Rattle.basics.specs.Members.{Member, At}
+use Rattle.basics.specs.Tests.{allBelow}
+use Rattle.basics.proofs.Cases.{by-either}
+use Rattle.basics.proofs.Tests.{below}
+use Rattle.message.specs.declared.Pair.{Pair}
+use Rattle.register.specs.declared.Answer.{Answer}
+use Rattle.register.specs.declared.Answer.the-variants.{Went, Read, Wrote, Spent, Refused}
+use Rattle.register.specs.Steps.{Step}
+use Rattle.register.specs.History.{answerAt, WriteBegins, AnswersRead, AnswersWrite, ReadEnds, WriteEnds}
+use Rattle.register.specs.History.{Sends}
+use Rattle.register.specs.DemandThree.{Earlier, Row}
+use Rattle.register.proofs.Runs.{answers, theEntry, formats, pairBy}
+use Rattle.register.proofs.Runs.Disagree.{four, first, early, second, late}
+
+abbrev steps : List Step
+steps = first ++ early ++ second ++ late
+
+-- ---- what the run answers
+
+isRead : Answer → Bool
+isRead Went = false
+isRead (Read p) = true
+isRead (Wrote p) = false
+isRead Spent = false
+isRead (Refused x) = false
+
+isEnd : Answer → Bool
+isEnd Went = false
+isEnd (Read p) = false
+isEnd (Wrote p) = true
+isEnd Spent = true
+isEnd (Refused x) = false
+
+-- no step above a and below b answers so
+abbrev none : (Answer → Bool) → ℕ → ℕ → Bool
+none test a b = allBelow (λ i. leb i a || not (test (answerAt four formats steps i))) b
+
+excused : (a b : Bool) → a || not b ≡ true → b ≡ true → a ≡ true
+excused true b h e = refl
+excused false true h e = h
+excused false false h e = e
+
+no-answer : (test : Answer → Bool) (a b : ℕ) → none test a b ≡ true → (i : ℕ) → a < i → i < b
+    → test (answerAt four formats steps i) ≡ true → ⊥
+no-answer test a b h i low high e =
+    let x = leb-true i a (excused (leb i a) _ (below _ b h i high) e) in omega arith
+
+-- ---- its operations
+
+-- the pair that both reads show, and that of the later write
+abbrev shown : Pair
+shown = pairBy 1 2
+
+abbrev lower : Pair
+lower = pairBy 1 1
+
+read-answer : (i : ℕ) (q : Pair) → answerAt four formats steps i ≡ Read q → isRead (answerAt four formats steps i) ≡ true
+unfolding isRead
+read-answer i q e = rw e refl
+
+end-answer : (i : ℕ) → ((q : Pair) × (answerAt four formats steps i ≡ Wrote q)) ⊎ (answerAt four formats steps i ≡ Spent)
+    → isEnd (answerAt four formats steps i) ≡ true
+unfolding isEnd
+end-answer i (inl (q, e)) = rw e refl
+end-answer i (inr e) = rw e refl
+
+read-once : (b j : ℕ) → none isRead b j ≡ true → (i : ℕ) → b < i → i < j → (q : Pair) → AnswersRead four formats steps i 3 q → ⊥
+read-once b j h i low high q x = no-answer isRead b j h i low high (read-answer i q (x .answer))
+
+write-once : (b j d : ℕ) → none isEnd b j ≡ true → (i : ℕ) → b < i → i < j → AnswersWrite four formats steps i d → ⊥
+write-once b j d h i low high x = no-answer isEnd b j h i low high (end-answer i (x .answer))
+
+first-read : ReadEnds four formats steps 7 3 15 shown
+unfolding answers isRead
+first-read =
+    record {
+      begins = record { inList = omega arith; step = refl; answer = refl };
+      later = omega arith;
+      ends = record { inList = omega arith; server = 4; step = refl; answer = refl };
+      next = read-once 7 15 refl;
+    }
+
+second-read : ReadEnds four formats steps 31 3 40 shown
+unfolding answers isRead
+second-read =
+    record {
+      begins = record { inList = omega arith; step = refl; answer = refl };
+      later = omega arith;
+      ends = record { inList = omega arith; server = 4; step = refl; answer = refl };
+      next = read-once 31 40 refl;
+    }
+
+later-begins : WriteBegins four formats steps 16 1
+unfolding answers
+later-begins = record { inList = omega arith; entry = theEntry; step = refl; answer = refl }
+
+later-write : WriteEnds four formats steps 16 1 30
+unfolding answers isEnd
+later-write =
+    record {
+      begins = later-begins;
+      later = omega arith;
+      ends = record { inList = omega arith; server = 4; step = refl; answer = inl (lower, refl) };
+      next = write-once 16 30 1 refl;
+    }
+
+-- the write of step 0 sends what the reads show
+first-sends : Sends four formats steps 0 2 6 shown
+unfolding answers isEnd
+first-sends =
+    record {
+      begins = record { inList = omega arith; entry = theEntry; step = refl; answer = refl };
+      later = omega arith;
+      inList = omega arith;
+      server = 3;
+      step = refl;
+      to = 1;
+      puts = inr (inl refl);
+      unended = λ i low high x. write-once 0 7 2 refl i low (omega arith) x;
+    }
+
+later-sends : Sends four formats steps 16 1 22 lower
+unfolding answers isEnd
+later-sends =
+    record {
+      begins = later-begins;
+      later = omega arith;
+      inList = omega arith;
+      server = 4;
+      step = refl;
+      to = 1;
+      puts = inr (inl refl);
+      unended = λ i low high x. write-once 16 23 1 refl i low (omega arith) x;
+    }
+
+-- ---- places in a row
+
+-- a read that shows that pair stands right after the write of step 0
+record RightAfter (row : List ℕ) (b : ℕ) : Type 0 where
+  place : ℕ
+  write : At row 0 place
+  read : At row b (suc place)
+
+right-after : (b j : ℕ) (row : List ℕ) → Row four formats steps b j shown row → RightAfter row b
+right-after b j row h =
+    by-either (h .legal) (λ q. absurd (let z : shown .0 ≡ 0 = ap (λ (p : Pair). p .0) (q .0) in omega arith))
+    (λ q. let is : 0 ≡ q .0 = q .2 .only 0 2 6 first-sends in
+    record { place = q .1; write = subst (λ (w : ℕ). At row w (q .1)) (sym is) (q .4); read = q .5 })
+
+later-member : (b j : ℕ) (row : List ℕ) → Row four formats steps b j shown row → Member 16 row
+later-member b j row h = h .members 16 .1 (inr (record { client = 1; at = 22; pair = lower; sends = later-sends }))
+
+-- ---- the two rows
+
+pub rows-disagree : (row₁ row₂ : List ℕ) → Row four formats steps 7 15 shown row₁ → Row four formats steps 31 40 shown row₂
+    → Earlier row₁ 0 16 × Earlier row₂ 16 0
+rows-disagree row₁ row₂ h₁ h₂ = (before, after)
+  where
+    before : Earlier row₁ 0 16
+    before =
+        let a = right-after 7 15 row₁ h₁ in
+        let e =
+        h₁ .order 7 16 15 (h₁ .members 7 .1 (inl refl)) (later-member 7 15 row₁ h₁) (inl (3, shown, first-read)) (omega arith) in
+        let same : e .one ≡ suc (a .place) = h₁ .once 7 (e .one) (suc (a .place)) (e .first) (a .read) in
+        record {
+          one = a .place;
+          two = e .two;
+          first = a .write;
+          second = e .second;
+          before = let x = e .before in omega arith;
+        }
+
+    after : Earlier row₂ 16 0
+    after =
+        let a = right-after 31 40 row₂ h₂ in
+        let e =
+        h₂ .order 16 31 30 (later-member 31 40 row₂ h₂) (h₂ .members 31 .1 (inl refl)) (inr (1, later-write)) (omega arith) in
+        let same : e .two ≡ suc (a .place) = h₂ .once 31 (e .two) (suc (a .place)) (e .second) (a .read) in
+        let other : e .one ≡ a .place → ⊥ = λ q.
+        let z : _≡_ {A = ℕ} 16 0 = sym (e .first .is) ∙ ap (λ (i : ℕ). getD row₂ i 0) q ∙ a .write .is in omega arith in
+        record {
+          one = e .one;
+          two = a .place;
+          first = e .first;
+          second = a .write;
+          before = let x = e .before in omega arith;
+        }

@@ -1,0 +1,55 @@
+-- Demand 3 holds: for every accepted setup and every list of steps, with any lawful formats.
+--
+-- Rows and their agreement are `Regular`. A quiet client is idle at the end of the list (`Quiet`), and an operation that has not
+-- ended leaves its client in a phase that is not idle (`ReadStatus`, `WriteStatus`); so it has nothing open.
+-- Assumes nothing.
+use Prim.Native.Nat.{ℕ}
+use lib.ListN.{length}
+use Rattle.basics.proofs.Cases.{by-either, clash}
+use Rattle.register.specs.Steps.{Formats}
+use Rattle.register.specs.History.{Quiet, NothingOpen}
+use Rattle.register.specs.DemandThree.{Holds, DemandThreeBy}
+use Rattle.register.proofs.Lawful.{Lawful}
+use Rattle.register.proofs.Run.{Run}
+use Rattle.register.proofs.ReadStatus.{read-status}
+use Rattle.register.proofs.WriteStatus.{in-phase, write-status}
+use Rattle.register.proofs.Translation.{read-begins, write-begins, reads-in, reads-out, writes-in, writes-out}
+use Rattle.register.proofs.Regular.{row, is-row, agree}
+use Rattle.register.proofs.Quiet.{idle}
+
+module _ (r : Run) where
+  pub nothing-open : (d : ℕ) → Quiet (r .S) (r .F) (r .steps) d → NothingOpen (r .S) (r .F) (r .steps) d
+  nothing-open d q =
+      let now = idle r (length (r .steps)) d (q .client) (q .works) (q .noWrite) (q .up) (q .down) in
+      record {
+        reads = λ b x. by-either (read-status r b d (read-begins r b d x) (length (r .steps)) (x .inList))
+            (λ o. let h = o .phase in clash (cc))
+            (λ o. (
+              o .at,
+              o .pair,
+              record {
+                begins = x;
+                later = o .after;
+                ends = reads-out r (o .at) d (o .pair) (o .before) (o .reads);
+                next = λ i lo hi p y. o .first i lo hi p (reads-in r i d p y);
+              },
+            ));
+        writes = λ b x. by-either (write-status r b d (x .entry) (write-begins r b d x) (length (r .steps)) (x .inList))
+            (λ o. in-phase r b d (x .entry) (length (r .steps)) o (λ h. clash (cc)) (λ c h. clash (cc)))
+            (λ o. (
+              o .at,
+              record {
+                begins = x;
+                later = o .after;
+                ends = writes-out r (o .at) d (o .before) (o .writes);
+                next = λ i lo hi y. o .first i lo hi (writes-in r i d y);
+              },
+            ));
+      }
+
+  pub holds : Holds (r .S) (r .F) (r .steps)
+  holds = record { row = row r; rows = is-row r; agree = agree r; quiet = nothing-open }
+
+pub demand-three : (F : Formats) → Lawful F → DemandThreeBy F
+demand-three F lawful S accepted steps =
+    holds (record { S = S; F = F; steps = steps; accepted = accepted; lawful = lawful })

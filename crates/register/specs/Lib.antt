@@ -1,0 +1,9 @@
+pub mod Thresholds
+pub mod Settings
+pub mod Server
+pub mod PairSet
+pub mod Client
+pub mod World
+pub mod Steps
+pub mod History
+pub mod DemandThree

@@ -1,0 +1,150 @@
+-- The six steps, with any arguments: when each is refused, and which event it is (01, 'Rehearsal' and the table).
+--
+-- In order: the steps; room on channels; the ladder of refusals of each step, in the table's order; the event of a step.
+-- Soundness (3) is not here, since a world is always sound; the code's states are judged in `system`.
+-- Assumes nothing.
+use Prim.Native.Nat.{ℕ, suc, _+_}
+use mathlib.Core.Bool.{Bool, true, false, not, _&&_, _||_}
+use mathlib.Core.List.{List, [], _∷_}
+use mathlib.Core.Option.{Option, none, some}
+use lib.Dec.{leb}
+use lib.ListN.{length}
+use Rattle.basics.specs.Tests.{allBelow}
+use Rattle.refusal.specs.declared.Refusal.{Refusal}
+use Rattle.refusal.specs.declared.Refusal.the-variants as no
+use Rattle.refusal.specs.Ladder.{Rung, _when_, lowest}
+use Rattle.message.specs.declared.Entry.{Entry}
+use Rattle.message.specs.declared.Message.{Message}
+use Rattle.message.specs.declared.Message.the-variants.{GetInfo, Info, Done, WriteInfo, Fwd, WriteAck}
+use Rattle.message.specs.declared.Unpacked.{Unpacked}
+use Rattle.message.specs.declared.Unpacked.the-variants.{Good, Bad}
+use Rattle.register.specs.declared.Phase.the-variants.{Reading, ReadingForWrite}
+use Rattle.register.specs.Settings.{Settings, servers, isServer, isClient, isHonest}
+use Rattle.register.specs.Server.{serverSends, sentTo}
+use Rattle.register.specs.Client.{isIdle, highest}
+use Rattle.register.specs.World.{World, Event, refuses, begins, serves, takes, stops, lies, takenBy}
+
+-- R d, W d entry, K k d, D d k, C d, and L k d with any bytes
+pub data Step : Type 0 where
+  R : ℕ → Step
+  W : ℕ → Entry → Step
+  K : ℕ → ℕ → Step
+  D : ℕ → ℕ → Step
+  C : ℕ → Step
+  L : ℕ → ℕ → List ℕ → Step
+
+-- how the steps judge entries and bytes: which entries are licence entries, and which bytes are which message
+pub record Formats : Type 0 where
+  pub isLicence : Entry → Bool
+  pub unpack : List ℕ → Unpacked
+
+-- the slots of a channel
+abbrev pub slots : ℕ
+slots = 8
+
+-- no message waits; the oldest that does
+unfoldable pub isEmpty : List Message → Bool
+isEmpty [] = true
+isEmpty (m ∷ ms) = false
+
+unfoldable pub oldest : List Message → Message
+oldest [] = Done
+oldest (m ∷ ms) = m
+
+-- a channel has a number of free slots
+unfoldable pub hasRoom : List Message → ℕ → Bool
+hasRoom c more = leb (length c + more) slots
+
+-- the bytes are a message that a server sends
+unfoldable pub isReply : Unpacked → Bool
+isReply (Good (Info t p)) = true
+isReply (Good (Fwd p)) = true
+isReply (Good (WriteAck c)) = true
+isReply (Good (GetInfo t)) = false
+isReply (Good Done) = false
+isReply (Good (WriteInfo p)) = false
+isReply Bad = false
+
+module _ (S : Settings) (F : Formats) where
+  -- every channel from client d that does not drop has room for more messages
+  unfoldable pub roomUp : World → ℕ → ℕ → Bool
+  roomUp w d more = allBelow (λ i. not (isHonest S (suc i)) || hasRoom (w .up d (suc i)) more) (servers S)
+
+  -- every channel from server k that does not drop has room for what the server sends after message m of client d
+  unfoldable pub roomDown : World → ℕ → ℕ → Message → Bool
+  roomDown w k d m =
+      allBelow
+      (λ i. w .stopped (suc i)
+      || hasRoom (w .down (suc i) k) (length (sentTo (suc i) (serverSends (w .servers k) d m)))) (S .clients)
+
+  -- the refusals of a step, lowest first; a read's start counts 2 places, a write's 3
+  unfoldable pub ladder : World → Step → List Rung
+  ladder w (R d) =
+      no.NoSuchProcess when not (isClient S d)
+      ∷ no.Stopped when w .stopped d
+      ∷ no.Busy when not (isIdle (w .clients d .phase))
+      ∷ no.Exhausted when leb highest (w .clients d .reads .0)
+      ∷ no.FullChannel when not (roomUp w d 2)
+      ∷ []
+  ladder w (W d e) =
+      no.NoSuchProcess when not (isClient S d)
+      ∷ no.Stopped when w .stopped d
+      ∷ no.Busy when not (isIdle (w .clients d .phase))
+      ∷ no.NoEntry when not (F .isLicence e)
+      ∷ no.Exhausted when leb highest (w .clients d .reads .0)
+      ∷ no.FullChannel when not (roomUp w d 3)
+      ∷ []
+  ladder w (K k d) =
+      no.NoSuchProcess when not (isClient S d && isServer S k)
+      ∷ no.WrongRole when S .faulty k
+      ∷ no.EmptyChannel when isEmpty (w .up d k)
+      ∷ no.FullChannel when not (roomDown w k d (oldest (w .up d k)))
+      ∷ []
+  ladder w (D d k) =
+      no.NoSuchProcess when not (isClient S d && isServer S k)
+      ∷ no.Stopped when w .stopped d
+      ∷ no.EmptyChannel when isEmpty (w .down d k)
+      ∷ no.FullChannel when not (roomUp w d (length (takenBy S w d k (oldest (w .down d k)) .sends)))
+      ∷ []
+  ladder w (C d) = no.NoSuchProcess when not (isClient S d) ∷ no.Stopped when w .stopped d ∷ []
+  ladder w (L k d bytes) =
+      no.NoSuchProcess when not (isClient S d && isServer S k)
+      ∷ no.WrongRole when not (S .faulty k)
+      ∷ no.Malformed when not (isReply (F .unpack bytes))
+      ∷ no.FullChannel when not (w .stopped d || hasRoom (w .down d k) 1)
+      ∷ []
+
+  -- the refusal of a step, if there is one
+  unfoldable pub refusalOf : World → Step → Option Refusal
+  unfolding ladder
+  refusalOf w s = lowest (ladder w s)
+
+  -- the event of a step that is not refused
+  abbrev pub servesOldest : ℕ → ℕ → List Message → Event
+  servesOldest k d [] = refuses no.EmptyChannel
+  servesOldest k d (m ∷ ms) = serves k d m ms
+
+  abbrev pub takesOldest : ℕ → ℕ → List Message → Event
+  takesOldest d k [] = refuses no.EmptyChannel
+  takesOldest d k (m ∷ ms) = takes d k m ms
+
+  abbrev pub liesWith : ℕ → ℕ → Unpacked → Event
+  liesWith k d (Good m) = lies k d m
+  liesWith k d Bad = refuses no.Malformed
+
+  unfoldable pub accepted : World → Step → Event
+  accepted w (R d) = begins d Reading
+  accepted w (W d e) = begins d (ReadingForWrite e)
+  accepted w (K k d) = servesOldest k d (w .up d k)
+  accepted w (D d k) = takesOldest d k (w .down d k)
+  accepted w (C d) = stops d
+  accepted w (L k d bytes) = liesWith k d (F .unpack bytes)
+
+  abbrev pub decided : Option Refusal → Event → Event
+  decided none e = e
+  decided (some r) e = refuses r
+
+  -- the event of a step
+  unfoldable pub eventOf : World → Step → Event
+  unfolding refusalOf accepted
+  eventOf w s = decided (refusalOf w s) (accepted w s)

@@ -1,0 +1,9 @@
+//! `reference < SCRIPT`: prints what `rehearse` prints.
+
+use std::io::{self, BufReader, BufWriter};
+
+fn main() -> io::Result<()> {
+    let input = BufReader::with_capacity(1 << 16, io::stdin().lock());
+    let output = BufWriter::with_capacity(1 << 16, io::stdout().lock());
+    reference::session::run(input, output)
+}
