@@ -6,7 +6,9 @@
 
 Nothing here is taken from the crates: dates are datetime.date's, entries are joined from their bit widths, and every
 answer comes from the sentences of 01. A line for each year: its number, then digests of the day numbers, the renewals,
-and the days left with the verdicts, over all 16 x 32 patterns of month and day that an entry can hold.
+and the days left with the verdicts, over all 16 x 32 patterns of month and day that an entry can hold. Then a line for
+each value of the four kind bits: digests of unpacking numbers whose fields stand at their edges, and of packing messages,
+some with a field over its width, into buffers of 0 to 13 bytes.
 """
 import datetime
 import pathlib
@@ -96,9 +98,79 @@ def line(year):
     return f"{year} {numbers} {renewals} {verdicts}"
 
 
+FIELDS = ("tag", 20), ("counter", 20), ("client", 4), ("entry", 40)
+USED = {
+    1: ("tag",),
+    2: ("tag", "counter", "client", "entry"),
+    3: (),
+    4: ("counter", "client", "entry"),
+    5: ("counter", "client", "entry"),
+    6: ("counter",),
+}
+TAGS_AND_COUNTERS = 0, 1, 2**20 - 1, 2**20, 2**32 - 1
+PAIRS = 0, 1, 2**40 - 1, 2**40, 2**44, 2**64 - 1
+MALFORMED, SHORT_BUFFER = 9, 13
+
+
+def packed(kind, fields):
+    """Eleven bytes, most significant bit first: kind 4, tag 20, counter 20, client 4, entry 40."""
+    bits = f"{kind:04b}" + "".join(f"{fields[name]:0{width}b}" for name, width in FIELDS)
+    return int(bits, 2).to_bytes(11, "big")
+
+
+def unpacked(text):
+    """The numbers of an answer: 0, the kind and the fields that it uses; or the refusal."""
+    if len(text) != 11:
+        return [MALFORMED]
+    bits = "".join(f"{byte:08b}" for byte in text)
+    kind, at, fields = int(bits[:4], 2), 4, {}
+    for name, width in FIELDS:
+        fields[name] = int(bits[at : at + width], 2)
+        at += width
+    if kind not in USED or any(fields[name] for name, _ in FIELDS if name not in USED[kind]):
+        return [MALFORMED]
+    return [0, kind] + [fields[name] for name in USED[kind]]
+
+
+def unpack_digest(kind):
+    h = 0
+    for tag in 0, 1, 2**20 - 1:
+        for counter in 0, 1, 2**20 - 1:
+            for client in 0, 1, 15:
+                for entry in 0, 1, 2**40 - 1:
+                    fields = {"tag": tag, "counter": counter, "client": client, "entry": entry}
+                    text = packed(kind, fields) + b"\0"
+                    for length in 10, 11, 12:
+                        h = digest(h, unpacked(text[:length]))
+    return h
+
+
+def pack_digest(kind):
+    """The messages of a kind, and of kind 6 where there is no other."""
+    kind = kind if 1 <= kind <= 5 else 6
+    h = 0
+    for number in TAGS_AND_COUNTERS:
+        for pair in PAIRS:
+            fields = {"tag": 0, "counter": pair >> 44, "client": pair >> 40 & 15, "entry": pair % 2**40}
+            fields["counter" if kind == 6 else "tag"] = number
+            fields = {name: fields[name] if name in USED[kind] else 0 for name, _ in FIELDS}
+            for length in range(14):
+                buffer = b"\xa5" * length
+                if any(fields[name] >= 2**width for name, width in FIELDS):
+                    answer = MALFORMED
+                elif length < 11:
+                    answer = SHORT_BUFFER
+                else:
+                    answer, buffer = 0, packed(kind, fields) + buffer[11:]
+                h = digest(h, [answer, *buffer])
+    return h
+
+
 def lines():
     for year in range(1898, 2203):
         yield line(year)
+    for kind in range(16):
+        yield f"kind {kind} {unpack_digest(kind)} {pack_digest(kind)}"
 
 
 def main():

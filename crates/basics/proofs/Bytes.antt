@@ -1,14 +1,16 @@
 -- Numbers as bytes and back.
 --
--- The last k bytes of a number spell its remainder by 256 ^ k (`spelt-back`), and bytes are the bytes of the number that they spell
--- (`bytes-back`): both by induction, since a byte in front is a digit to the base 256 above what the others spell (`spelt-split`,
--- `spelt-lt`). Bytes of a number in two parts are those of the parts (`bytes-join`).
+-- The last k bytes of a number spell its remainder by 256 ^ k (`spelt-back`), and bytes are the bytes of the number that they
+-- spell (`bytes-back`): both by induction, since a byte in front is a digit to the base 256 above what the others spell
+-- (`spelt-split`, `spelt-lt`). Bytes of a number in two parts are those of the parts (`bytes-join`), also where they are read
+-- from a list or stored in one (`spelt-two`, `sets-two`).
 -- Assumes nothing.
 use mathlib.Core.Path.{_≡_, refl, sym, ap, _∙_}
 use mathlib.Core.Bool.{true}
 use mathlib.Core.List.{List, [], _∷_, _++_, append-assoc}
 use Prim.Native.Nat.{ℕ, zero, suc, _+_, _-_, _*_, _/_, _%_, _^_, _≤_, _<_}
-use native.Mathlib.Nat.{pow-zero, pow-succ', mul-assoc, add-assoc, zero-mul, zero-add, add-mul, add-comm, add-zero, add-suc, suc-add, mod-lt, mod-eq-of-lt}
+use native.Mathlib.Nat.{pow-zero, pow-succ', mul-assoc, add-assoc, zero-mul, zero-add, add-mul, add-comm, add-zero}
+use native.Mathlib.Nat.{add-suc, suc-add, mod-lt, mod-eq-of-lt}
 use native.Mathlib.Nat.{mul-add-div-right, mul-add-mod-self-right, div-div-eq-div-mul}
 use native.Mathlib.Omega.{arith}
 use lib.Arith.{digits-lt, digits-div, digits-mod, mod-mul}
@@ -149,7 +151,8 @@ spelt-two s at j k h =
     let t = take k (drop (at + j) s) in
     let l : length t ≡ k =
     length-take-le k (drop (at + j) s) (simp length-drop (omega arith)) in
-    ap (λ (u : List ℕ). spelt 0 u) (take-add j k (drop at s) ∙ ap (λ (u : List ℕ). take j (drop at s) ++ take k u) (drop-drop j at s))
+    ap (λ (u : List ℕ). spelt 0 u)
+    (take-add j k (drop at s) ∙ ap (λ (u : List ℕ). take j (drop at s) ++ take k u) (drop-drop j at s))
     ∙ spelt-join 0 (take j (drop at s)) t ∙ spelt-split (spelt 0 (take j (drop at s))) t
     ∙ ap (λ (n : ℕ). spelt 0 (take j (drop at s)) * 256 ^ n + spelt 0 t) l
 

@@ -5,28 +5,27 @@
 -- empty channel's bytes (`clear-row`).
 -- Assumes nothing.
 use mathlib.Core.Path.{_≡_, refl, sym, ap, _∙_}
-use mathlib.Core.Bool.{true, false}
 use mathlib.Core.List.{List, [], _∷_, _++_, append-assoc, append-nil}
-use Prim.Native.Nat.{ℕ, zero, suc, _+_, _-_, _*_, _≤_, _<_}
+use Prim.Native.Nat.{ℕ, suc, _+_, _-_, _*_, _≤_, _<_}
 use native.Mathlib.Nat.{zero-add}
 use native.Mathlib.Omega.{arith}
-use lib.Dec.{eqb, ltb}
-use lib.ListN.{length, getD, set, take, drop, replicate, length-append, length-replicate, replicate-append-replicate, take-append-drop, length-drop}
+use lib.ListN.{length, getD, set, take, drop, replicate, length-append, length-replicate, length-drop}
+use lib.ListN.{replicate-append-replicate, take-append-drop}
 use lib.Seq.{getD-append-add, length-take-le}
 use borrow.Author.Tests.{lt-ltb, ne-eqb}
-use Rattle.channel.specs.Memory.{countAt, listed, filled, zeroed, bytesAt, putOn, shifted, taken, cleared}
+use Rattle.channel.specs.Memory.{countAt, filled, zeroed, bytesAt, putOn, shifted, taken, cleared}
 use Rattle.channel.specs.Layout.{packed, row}
 use Rattle.channel.proofs.Filled.{filled-same}
 use Rattle.channel.proofs.Inside.{listed-all, listed-same, listed-zeros, inside-get, inside-set, inside-bytes}
 use Rattle.channel.proofs.Inside.{filled-length, inside-filled, filled-whole}
 
 module _ {A : Type 0} (pack : A → List ℕ) (eleven : (a : A) → length (pack a) ≡ 11) where
-  packed-length : (ms : List A) → length (packed pack ms) ≡ length ms * 11
+  pub packed-length : (ms : List A) → length (packed pack ms) ≡ length ms * 11
   unfolding packed
   packed-length [] = refl
   packed-length (m ∷ ms) = omega (arith, length-append (pack m) (packed pack ms), eleven m, packed-length ms)
 
-  packed-more : (ms : List A) (m : A) → packed pack (ms ++ m ∷ []) ≡ packed pack ms ++ pack m
+  pub packed-more : (ms : List A) (m : A) → packed pack (ms ++ m ∷ []) ≡ packed pack ms ++ pack m
   unfolding packed
   packed-more [] m = append-nil (pack m)
   packed-more (x ∷ ms) m = rw (packed-more ms m) (sym (append-assoc (pack x) (packed pack ms) (pack m)))
@@ -143,7 +142,8 @@ module _ {A : Type 0} (pack : A → List ℕ) (eleven : (a : A) → length (pack
       rw (first m ms)
       (filled-same l 1 (λ j. getD l (12 + j) 0) v 77
       (λ j less. ap (λ (k : ℕ). getD l (k + j) 0) (sym twelve) ∙ getD-append-add (c ∷ pack m) q j 0)
-      ∙ ap (λ (x : List ℕ). filled x 1 v 77) here ∙ inside-filled (c ∷ []) y t 1 0 v 77 refl (omega arith) ∙ ap (λ (x : List ℕ). (c ∷ []) ++ x ++ t) whole
+      ∙ ap (λ (x : List ℕ). filled x 1 v 77) here ∙ inside-filled (c ∷ []) y t 1 0 v 77 refl (omega arith)
+      ∙ ap (λ (x : List ℕ). (c ∷ []) ++ x ++ t) whole
       ∙ sym (append-nil ((c ∷ q) ++ t)))
 
   -- and a slot of zeros at the end: the bytes of the rest

@@ -3,12 +3,12 @@
 -- In order: what is behind the run (`filled-after`); runs of equal values (`filled-same`); a run in two parts (`filled-join`).
 -- Nothing here asks for the length of the list: a store outside it does nothing.
 -- Assumes nothing.
-use mathlib.Core.Path.{_≡_, refl, sym, ap, _∙_}
+use mathlib.Core.Path.{_≡_, refl, _∙_}
 use mathlib.Core.List.{List}
 use Prim.Native.Nat.{ℕ, zero, suc, _+_, _≤_, _<_}
 use native.Mathlib.Nat.{add-zero, add-suc, add-assoc}
 use native.Mathlib.Omega.{arith}
-use lib.ListN.{getD, set}
+use lib.ListN.{getD}
 use lib.Seq.{getD-set-other}
 use Rattle.channel.specs.Memory.{filled}
 

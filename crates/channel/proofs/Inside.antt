@@ -1,18 +1,18 @@
 -- What is read and stored in the middle of a list.
 --
 -- Reads and stores at places that lie within the middle part r of s ++ r ++ t are reads and stores in r alone (`inside-get`,
--- `inside-set`, `inside-bytes`, `inside-filled`). A run of reads is a part of the list (`listed-part`), and a run of stores over
+-- `inside-set`, `inside-bytes`, `inside-filled`). A run of reads is a part of the list (`listed-first`), and a run of stores over
 -- a whole part is the values (`filled-whole`).
 -- Assumes nothing.
 use mathlib.Core.Path.{_≡_, refl, sym, ap, _∙_}
 use mathlib.Core.List.{List, [], _∷_, _++_, append-assoc, append-nil}
 use Prim.Native.Nat.{ℕ, zero, suc, _+_, _≤_, _<_}
-use native.Mathlib.Nat.{zero-add, add-zero, add-suc, add-assoc}
+use native.Mathlib.Nat.{zero-add, add-zero, add-suc}
 use native.Mathlib.Numerals.{add-one}
 use native.Mathlib.Omega.{arith}
-use lib.ListN.{length, getD, set, take, drop, replicate, List·getD-append, length-set, length-append, length-drop, length-take, length-replicate}
+use lib.ListN.{length, getD, set, take, drop, replicate, List·getD-append, length-set, length-append}
 use lib.ListN.{replicate-append-replicate}
-use lib.Seq.{getD-append-add, set-append-left, set-split, take-suc, getD-drop, take-all, append-snoc, set-at, getD-at, drop-cons}
+use lib.Seq.{getD-append-add, set-append-left, take-suc, take-all, append-snoc, set-at, drop-cons}
 use Rattle.channel.specs.Memory.{listed, filled}
 
 -- ---- lists of values
@@ -69,7 +69,8 @@ set-behind (x ∷ s) t o v =
 pub inside-set : (s r t : List ℕ) (at o v : ℕ) → at ≡ length s + o → o < length r
     → set (s ++ r ++ t) at v ≡ s ++ set r o v ++ t
 inside-set s r t at o v e h =
-    rw (e, append-assoc s r t) (set-behind s (r ++ t) o v ∙ rw (set-append-left r t o v h) (sym (append-assoc s (set r o v) t)))
+    rw (e, append-assoc s r t)
+    (set-behind s (r ++ t) o v ∙ rw (set-append-left r t o v h) (sym (append-assoc s (set r o v) t)))
 
 pub inside-bytes : (s r t : List ℕ) (at o n : ℕ) → at ≡ length s + o → o + n ≤ length r
     → listed (λ j. getD (s ++ r ++ t) (at + j) 0) n ≡ listed (λ j. getD r (o + j) 0) n

@@ -7,7 +7,6 @@ use mathlib.Core.Path.{_≡_, refl, sym, ap, _∙_}
 use mathlib.Core.List.{List, [], _∷_, _++_, append-nil}
 use Prim.Native.Nat.{ℕ, zero, suc, _+_, _*_, _≤_, _<_}
 use native.Mathlib.Nat.{suc-mul}
-use native.Mathlib.Omega.{arith}
 use lib.ListN.{length, replicate, replicate-append-replicate}
 use Rattle.basics.specs.Update.{update}
 use Rattle.basics.proofs.Update.{update-at}
@@ -48,7 +47,7 @@ module _ {A : Type 0} (pack : A → List ℕ) (eleven : (a : A) → length (pack
     layout-length = tabled-length 89 (λ i. row pack (ch i)) 156 wide
 
     module _ (i : ℕ) (inside : i < 156) where
-      reads : {X : Type 0} (f : List ℕ → X) (x : X)
+      pub reads : {X : Type 0} (f : List ℕ → X) (x : X)
           → ((s t : List ℕ) → length s ≡ i * 89 → f (s ++ row pack (ch i) ++ t) ≡ x) → f (layout pack ch) ≡ x
       unfolding layout
       reads f x h =
@@ -70,7 +69,8 @@ module _ {A : Type 0} (pack : A → List ℕ) (eleven : (a : A) → length (pack
       pub layout-count : countAt (layout pack ch) i ≡ length (ch i)
       layout-count = reads (λ b. countAt b i) (length (ch i)) (count-row pack eleven (ch i) i (fits i inside))
 
-      pub layout-put : (m : A) → length (ch i) < 8 → putOn (layout pack ch) i (pack m) ≡ layout pack (update ch i (ch i ++ m ∷ []))
+      pub layout-put : (m : A) → length (ch i) < 8
+          → putOn (layout pack ch) i (pack m) ≡ layout pack (update ch i (ch i ++ m ∷ []))
       layout-put m room = acts (λ b. putOn b i (pack m)) (ch i ++ m ∷ []) (put-row pack eleven (ch i) m i room)
 
       -- a full channel stays as it is

@@ -3,4 +3,9 @@ pub mod Words
 pub mod Inside
 pub mod Rows
 pub mod Channel
+pub mod Passing
 pub mod Laws
+pub mod Held
+pub mod Laid
+pub mod Messages
+pub mod Places

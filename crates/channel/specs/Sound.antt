@@ -1,12 +1,12 @@
 -- When the channels' memory is sound, and which messages sound memory holds.
 --
--- 01, of a sound state: 'lengths and fields are in range, desk wires hold kinds 1, 3, 4 and keeper wires 2, 5, 6, none a misprint,
--- .. unused places are zero'. That wires that drop are empty is judged where it is known which ones drop, in `system`.
+-- 01, of a sound state: 'lengths and fields are in range, desk wires hold kinds 1, 3, 4 and keeper wires 2, 5, 6, none a
+-- misprint, .. unused places are zero'. That wires that drop are empty is judged in `system`, which knows which ones drop.
 --
--- In order: bytes that are zero; a channel, for any test of what its slots hold; all channels; what they hold; the test of messages.
+-- In order: bytes that are zero; a channel, for any test of its slots; all channels; what they hold; the test of messages.
 -- Assumes nothing.
 use Prim.Native.Nat.{ℕ, _+_, _-_, _*_}
-use mathlib.Core.Bool.{Bool, true, false, not}
+use mathlib.Core.Bool.{Bool, false, not}
 use mathlib.Core.List.{List, [], _∷_}
 use lib.Dec.{eqb, leb}
 use lib.ListN.{getD}
@@ -52,9 +52,13 @@ goes down (Good (Fwd p)) = down
 goes down (Good (WriteAck c)) = down
 goes down Bad = false
 
--- the memory holds messages that go the way of their channels
+-- a slot of channel i holds a message that goes the channel's way
+abbrev pub slotTest : ℕ → List ℕ → Bool
+slotTest i s = goes (isDown i) (unpackOf s)
+
+-- the memory is sound
 unfoldable pub sound : List ℕ → Bool
-sound b = soundBy (λ i s. goes (isDown i) (unpackOf s)) b
+sound b = soundBy slotTest b
 
 -- the message of bytes; where they are none it does not matter which
 unfoldable pub messageIn : Unpacked → Message

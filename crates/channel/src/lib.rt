@@ -3,15 +3,16 @@
 // Channel i has its count at i * 89 and eight slots of eleven bytes behind it, oldest message first. A slot that is not used
 // is zero. What the bytes stand for is in specs/Layout; proofs/ has the laws that callers use.
 ghost use mathlib.Core.Path.{_≡_};
-ghost use Prim.Native.Nat.{_+_, _*_, _<_, _≤_, _/_, _%_, _^_};
+ghost use Prim.Native.Nat.{_+_, _*_, _<_, _≤_, _^_};
 ghost use mathlib.Core.Bool.{true};
 ghost use lib.ListN.{getD, replicate};
 ghost use lib.Pow.{areBytes};
 ghost use Rattle.basics.specs.Bytes.{bigEndian, spelt};
 ghost use Rattle.message.specs.Layout.{unpackOf, words, wordsNumber};
 ghost use Rattle.basics.specs.Tests.{all, allBelow};
-ghost use Rattle.channel.specs.Sound.{channelTests, goes, isDown, sound, zeroFrom};
+ghost use Rattle.channel.specs.Sound.{channelTests, goes, slotTest, sound, zeroFrom};
 ghost use Rattle.channel.specs.Memory.{bytesAt, cleared, countAt, filled, oldestOn, putOn, shifted, taken, zeroed};
+ghost use Rattle.channel.specs.Memory.{toClient, toServer};
 use basics::byte;
 use basics::push;
 use message::Message;
@@ -21,6 +22,25 @@ use message::Words;
 // The memory of all channels.
 pub type Slots = [u8; 13884];
 
+// Channels, and how many of them go from clients to servers.
+const CHANNELS: usize = 156;
+const UPWARD: usize = 78;
+
+// Servers that a client has channels to.
+const SERVERS: usize = 13;
+
+// Messages that a channel holds at most.
+const CAPACITY: u8 = 8;
+
+// Bytes of a message, of a channel, of a channel's slots, and of all of them but the last.
+const WIDTH: usize = 11;
+const SPAN: usize = 89;
+const ROOM: usize = 88;
+const MOVED: usize = 77;
+
+// Where the last slot begins.
+const LAST: usize = 78;
+
 // No message anywhere, and every slot zero.
 pub fn empty_slots() -> Slots
     ensures { λ r. ⌜ r ≡ replicate 13884 0 ⌝ }
@@ -28,12 +48,28 @@ pub fn empty_slots() -> Slots
     [0u8; 13884]
 }
 
+// The channel from client d to server k.
+pub fn to_server(d: usize, k: usize) -> usize
+    requires { ⌜ (1 ≤ d) × (d ≤ 6) × (1 ≤ k) × (k ≤ 13) ⌝ }
+    ensures { λ r. ⌜ (r ≡ toServer d k) × (r < 78) ⌝ }
+{
+    (d - 1) * SERVERS + (k - 1)
+}
+
+// The channel from server k to client d.
+pub fn to_client(d: usize, k: usize) -> usize
+    requires { ⌜ (1 ≤ d) × (d ≤ 6) × (1 ≤ k) × (k ≤ 13) ⌝ }
+    ensures { λ r. ⌜ (r ≡ toClient d k) × (r < 156) ⌝ }
+{
+    UPWARD + to_server(d, k)
+}
+
 // How many messages channel i holds.
 pub fn count(b: &Slots, i: usize) -> u8
     requires { ⌜ i < 156 ⌝ }
     ensures { λ r. ⌜ r ≡ countAt (now (b .entry)) i ⌝ }
 {
-    b[i * 89]
+    b[i * SPAN]
 }
 
 // The n bytes from `at` on become zero.
@@ -73,7 +109,9 @@ fn pushed(x: u64, v: u8) -> u64
 // The number that the n bytes from `at` on spell.
 fn number(b: &Slots, at: usize, n: usize) -> u64
     requires { ⌜ (at + n ≤ 13884) × (n ≤ 8) ⌝ }
-    ensures { λ r. ⌜ (r ≡ spelt 0 (bytesAt (now (b .entry)) at n)) × (r < 2 ^ (8 * n)) × (areBytes (bytesAt (now (b .entry)) at n) ≡ true) ⌝ }
+    ensures number { λ r. ⌜ r ≡ spelt 0 (bytesAt (now (b .entry)) at n) ⌝ }
+    ensures below { λ r. ⌜ r < 2 ^ (8 * n) ⌝ }
+    ensures bytes { λ r. ⌜ areBytes (bytesAt (now (b .entry)) at n) ≡ true ⌝ }
 {
     let mut x = 0;
     let mut j = 0;
@@ -89,10 +127,10 @@ pub fn put(b: &mut Slots, i: usize, w: Words)
     requires { ⌜ i < 156 ⌝ }
     ensures { λ r. ⌜ now (b .exit) ≡ putOn (now (b .entry)) i (bigEndian 11 (wordsNumber w)) ⌝ }
 {
-    let at = i * 89;
+    let at = i * SPAN;
     let k = b[at];
-    if k < 8 {
-        let free = at + 1 + k as usize * 11;
+    if k < CAPACITY {
+        let free = at + 1 + k as usize * WIDTH;
         spell(b, free, w.0 as u64, 3);
         spell(b, free + 3, w.1, 8);
         b[at] = k + 1;
@@ -102,7 +140,8 @@ pub fn put(b: &mut Slots, i: usize, w: Words)
 // The message in the slot at `at`, as two words; and that its bytes are bytes.
 fn load(b: &Slots, at: usize) -> Words
     requires { ⌜ at + 11 ≤ 13884 ⌝ }
-    ensures { λ r. ⌜ (r ≡ words (spelt 0 (bytesAt (now (b .entry)) at 11))) × (areBytes (bytesAt (now (b .entry)) at 11) ≡ true) ⌝ }
+    ensures words { λ r. ⌜ r ≡ words (spelt 0 (bytesAt (now (b .entry)) at 11)) ⌝ }
+    ensures bytes { λ r. ⌜ areBytes (bytesAt (now (b .entry)) at 11) ≡ true ⌝ }
 {
     Words(number(b, at, 3) as u32, number(b, at + 3, 8))
 }
@@ -112,7 +151,7 @@ pub fn oldest(b: &Slots, i: usize) -> Words
     requires { ⌜ i < 156 ⌝ }
     ensures { λ r. ⌜ r ≡ oldestOn (now (b .entry)) i ⌝ }
 {
-    load(b, i * 89 + 1)
+    load(b, i * SPAN + 1)
 }
 
 // Each of the seven slots from `at` on gets what the next one held.
@@ -121,8 +160,8 @@ fn shift(b: &mut Slots, at: usize)
     ensures { λ r. ⌜ now (b .exit) ≡ shifted (now (b .entry)) at ⌝ }
 {
     let mut j = 0;
-    while j < 77 {
-        let v = b[at + 11 + j];
+    while j < MOVED {
+        let v = b[at + WIDTH + j];
         b[at + j] = v;
         j += 1;
     }
@@ -133,11 +172,11 @@ pub fn take(b: &mut Slots, i: usize)
     requires { ⌜ i < 156 ⌝ }
     ensures { λ r. ⌜ now (b .exit) ≡ taken (now (b .entry)) i ⌝ }
 {
-    let at = i * 89;
+    let at = i * SPAN;
     let k = b[at];
     if 0 < k {
         shift(b, at + 1);
-        zero(b, at + 78, 11);
+        zero(b, at + LAST, WIDTH);
         b[at] = k - 1;
     }
 }
@@ -147,7 +186,7 @@ pub fn clear(b: &mut Slots, i: usize)
     requires { ⌜ i < 156 ⌝ }
     ensures { λ r. ⌜ now (b .exit) ≡ cleared (now (b .entry)) i ⌝ }
 {
-    zero(b, i * 89, 89);
+    zero(b, i * SPAN, SPAN);
 }
 
 // ---- soundness
@@ -198,7 +237,7 @@ fn slots_go(b: &Slots, at: usize, n: usize, down: bool) -> bool
 {
     let mut s = 0;
     while s < n {
-        if !slot_goes(b, at + s * 11, down) {
+        if !slot_goes(b, at + s * WIDTH, down) {
             return false;
         }
         s += 1;
@@ -209,21 +248,21 @@ fn slots_go(b: &Slots, at: usize, n: usize, down: bool) -> bool
 // Whether channel i is sound. Most are empty, and one pass over their bytes says so.
 fn channel_sound(b: &Slots, i: usize) -> bool
     requires { ⌜ i < 156 ⌝ }
-    ensures { λ r. ⌜ r ≡ all (channelTests (λ j s. goes (isDown j) (unpackOf s)) (now (b .entry)) i) ⌝ }
+    ensures { λ r. ⌜ r ≡ all (channelTests slotTest (now (b .entry)) i) ⌝ }
 {
-    let at = i * 89;
-    if zeros(b, at, 89) {
+    let at = i * SPAN;
+    if zeros(b, at, SPAN) {
         return true;
     }
     let k = b[at];
-    if 8 < k {
+    if CAPACITY < k {
         return false;
     }
     let n = k as usize;
-    if !slots_go(b, at + 1, n, 78 <= i) {
+    if !slots_go(b, at + 1, n, UPWARD <= i) {
         return false;
     }
-    zeros(b, at + 1 + n * 11, 88 - n * 11)
+    zeros(b, at + 1 + n * WIDTH, ROOM - n * WIDTH)
 }
 
 // Whether the memory is sound: every count in range, every used slot a message that goes its channel's way, all else zero.
@@ -231,7 +270,7 @@ pub fn is_sound(b: &Slots) -> bool
     ensures { λ r. ⌜ r ≡ sound (now (b .entry)) ⌝ }
 {
     let mut i = 0;
-    while i < 156 {
+    while i < CHANNELS {
         if !channel_sound(b, i) {
             return false;
         }

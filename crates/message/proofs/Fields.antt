@@ -1,7 +1,7 @@
 -- The message of a number, by its words: kind and tag in front of 64 low bits.
 --
--- A number is h * 2 ^ 64 + l with l below 2 ^ 64, and h is kind * 2 ^ 20 + tag. The fields behind the tag are those of l alone, and
--- they are all zero exactly when l is. So `messageOf` asks of l and the tag what `byWords` says, which is what the code asks.
+-- A number is h * 2 ^ 64 + l with l below 2 ^ 64, and h is kind * 2 ^ 20 + tag. The fields behind the tag are those of l alone,
+-- and they are all zero exactly when l is. So `messageOf` asks of l and the tag what `byWords` says, which is what the code asks.
 -- Assumes nothing.
 use mathlib.Core.Path.{_≡_, refl, sym, ap, _∙_}
 use mathlib.Core.Bool.{Bool, true, cond, _&&_}
@@ -41,7 +41,8 @@ module _ (h l : ℕ) (small : l < 2 ^ 64) where
   pair-of-words : pairIn (h * 2 ^ 64 + l) ≡ record { 0 = l }
   unfolding pairOf
   pair-of-words =
-      let e : counterOf (h * 2 ^ 64 + l) * 2 ^ 44 + clientOf (h * 2 ^ 64 + l) * 2 ^ 40 + entryOf (h * 2 ^ 64 + l) ≡ l = omega arith in
+      let n = h * 2 ^ 64 + l in
+      let e : counterOf n * 2 ^ 44 + clientOf n * 2 ^ 40 + entryOf n ≡ l = omega arith in
       λ i. record { 0 = e i }
 
 -- ---- which fields are zero
@@ -75,7 +76,8 @@ zero-low l =
     let r = eqb-true (l % 2 ^ 44) 0 (p .1) in
     zero-test l (omega arith))
     (λ e. let z = eqb-true l 0 e in
-    both-of (eqb (l / 2 ^ 44) 0) (eqb (l % 2 ^ 44) 0) (zero-test (l / 2 ^ 44) (omega arith)) (zero-test (l % 2 ^ 44) (omega arith))))
+    both-of (eqb (l / 2 ^ 44) 0) (eqb (l % 2 ^ 44) 0) (zero-test (l / 2 ^ 44) (omega arith))
+    (zero-test (l % 2 ^ 44) (omega arith))))
 
 -- ---- the message of two words
 

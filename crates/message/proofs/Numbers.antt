@@ -41,7 +41,8 @@ lowOf (Fwd p) = p .0 % 2 ^ 64
 lowOf (WriteAck c) = c .0 % 2 ^ 20 * 2 ^ 44
 
 -- the fields of a pair, each in its place, are the pair's last 64 bits
-pair-bits : (x : ℕ) → x / 2 ^ 44 % 2 ^ 20 * 2 ^ 44 + x / 2 ^ 40 % 2 ^ 4 % 2 ^ 4 * 2 ^ 40 + x % 2 ^ 40 % 2 ^ 40 * 2 ^ 0 ≡ x % 2 ^ 64
+pair-bits : (x : ℕ)
+    → x / 2 ^ 44 % 2 ^ 20 * 2 ^ 44 + x / 2 ^ 40 % 2 ^ 4 % 2 ^ 4 * 2 ^ 40 + x % 2 ^ 40 % 2 ^ 40 * 2 ^ 0 ≡ x % 2 ^ 64
 pair-bits x = rw (mod-mod (x / 2 ^ 40) (2 ^ 4), mod-mod x (2 ^ 40)) (omega arith)
 
 pub number-words : (m : Message) → numberOf m ≡ headOf m * 2 ^ 64 + lowOf m
@@ -82,8 +83,9 @@ by-head (GetInfo r) w =
     ∙ ap (λ (t : ℕ). Good (GetInfo (record { 0 = t }))) (mod-eq-of-lt (ltb-true (r .0) (2 ^ 20) w))
 by-head (Info r p) w =
     let b = both (ltb (r .0) (2 ^ 20)) (ltb (p .0) (2 ^ 64)) w in
+    let l = p .0 % 2 ^ 64 in
     of-head 2 (r .0 % 2 ^ 20) (p .0 % 2 ^ 64) (mod-lt (r .0) (pow-pos 20))
-    ∙ ap (λ (t : ℕ). Good (Info (record { 0 = t }) (record { 0 = p .0 % 2 ^ 64 }))) (mod-eq-of-lt (ltb-true (r .0) (2 ^ 20) (b .0)))
+    ∙ ap (λ (t : ℕ). Good (Info (record { 0 = t }) (record { 0 = l }))) (mod-eq-of-lt (ltb-true (r .0) (2 ^ 20) (b .0)))
     ∙ ap (λ (l : ℕ). Good (Info r (record { 0 = l }))) (mod-eq-of-lt (ltb-true (p .0) (2 ^ 64) (b .1)))
 by-head Done w = refl
 by-head (WriteInfo p) w = ap (λ (l : ℕ). Good (WriteInfo (record { 0 = l }))) (mod-eq-of-lt (ltb-true (p .0) (2 ^ 64) w))

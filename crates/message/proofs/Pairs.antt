@@ -1,8 +1,8 @@
 -- The laws of pairs: a pair is its parts, its timestamp is counter * 16 + client, and its order is the order of its number.
 --
--- A pair is a number in three digits, counter, client and entry, of which the last two have a base, 2 ^ 4 and 2 ^ 40. So the parts
--- of a pair of parts are these parts (`counter-of`, `client-of`, `entry-of`, `stamp-of`), a pair is the pair of its parts (`parts`),
--- and of two numbers the one with the lower first digit is lower, whatever the rest (`digits-order`).
+-- A pair is a number in three digits, counter, client and entry, of which the last two have a base, 2 ^ 4 and 2 ^ 40. So the
+-- parts of a pair of parts are these parts (`counter-of`, `client-of`, `entry-of`, `stamp-of`), a pair is the pair of its parts
+-- (`parts`), and of two numbers the one with the lower first digit is lower, whatever the rest (`digits-order`).
 -- Assumes nothing.
 use mathlib.Core.Path.{_≡_, refl, sym, ap, _∙_}
 use mathlib.Core.Bool.{Bool}

@@ -1,8 +1,8 @@
 -- Packing and unpacking undo each other: no bytes but a message's own are taken for it.
 --
 -- A message within its widths is found again in its number (`Numbers.found`), and eleven bytes spell that number, so its bytes
--- unpack to it (`unpack-pack`). Conversely bytes are those of the number that they spell, and a message found in a number has that
--- very number (`Numbers.only`), so what is unpacked packs into the bytes that it was unpacked from (`pack-unpack`).
+-- unpack to it (`unpack-pack`). Conversely bytes are those of the number that they spell, and a message found in a number has
+-- that very number (`Numbers.only`), so what is unpacked packs into the bytes that it was unpacked from (`pack-unpack`).
 -- Assumes nothing.
 use mathlib.Core.Path.{_≡_, sym, ap, _∙_}
 use mathlib.Core.Bool.{true, _&&_}

@@ -27,11 +27,10 @@ use Rattle.message.specs.Pair.{counter, client, entry, pairOf}
 
 -- ---- the fields
 
--- the bytes of a message
-abbrev pub messageBytes : ℕ
-messageBytes = 11
+-- how many bits each field has
+abbrev pub kindBits : ℕ
+kindBits = 4
 
--- how many bits each field has, the kind's besides
 abbrev pub tagBits : ℕ
 tagBits = 20
 
@@ -44,7 +43,7 @@ clientBits = 4
 abbrev pub entryBits : ℕ
 entryBits = 40
 
--- how many bits stand behind each field
+-- how many bits stand behind each field; behind the tag stands the pair
 abbrev pub entryAt : ℕ
 entryAt = 0
 
@@ -60,7 +59,11 @@ tagAt = counterAt + counterBits
 abbrev pub kindAt : ℕ
 kindAt = tagAt + tagBits
 
--- the field of w bits in a number, and a value put there (its last w bits)
+-- the bytes of a message: 11
+abbrev pub messageBytes : ℕ
+messageBytes = (kindAt + kindBits) / 8
+
+-- the field of w bits in a number, and the last w bits of a value put there
 abbrev pub field : ℕ → ℕ → ℕ → ℕ
 field at w n = n / 2 ^ at % 2 ^ w
 
@@ -88,7 +91,8 @@ entryOf = field entryAt entryBits
 -- the number of a kind and its fields: tag, counter, client, entry
 abbrev pub joined : ℕ → ℕ → ℕ → ℕ → ℕ → ℕ
 joined k t c d e =
-    k * 2 ^ kindAt + placed tagAt tagBits t + placed counterAt counterBits c + placed clientAt clientBits d + placed entryAt entryBits e
+    k * 2 ^ kindAt + placed tagAt tagBits t + placed counterAt counterBits c + placed clientAt clientBits d
+    + placed entryAt entryBits e
 
 -- 'Kinds and the fields they use .. A field not used is zero.'
 unfoldable pub numberOf : Message → ℕ
@@ -116,7 +120,7 @@ abbrev pub zeros : List ℕ → Bool
 zeros [] = true
 zeros (x ∷ xs) = eqb x 0 && zeros xs
 
--- a number of kind k is the message m where the fields that the kind does not use are zero; another number is as `other` says
+-- a number of kind k is the message m if the fields that the kind does not use are zero; a number of another kind is `other`
 abbrev pub kind : ℕ → ℕ → List ℕ → Message → Unpacked → Unpacked
 kind n k unused m other = cond (eqb (kindOf n) k) (cond (zeros unused) (Good m) Bad) other
 
@@ -132,7 +136,7 @@ messageOf n =
 
 -- ---- widths
 
--- no field of the message is over its width (the fields of a pair are not where its number has 64 bits)
+-- no field of the message is over its width; those of a pair are not if its number has 64 bits
 unfoldable pub wellFormed : Message → Bool
 wellFormed (GetInfo r) = ltb (r .0) (2 ^ tagBits)
 wellFormed (Info r p) = ltb (r .0) (2 ^ tagBits) && ltb (p .0) (2 ^ tagAt)

@@ -1,7 +1,7 @@
 -- Timestamps and pairs (01, section 'Message').
 --
--- A pair is one number of 64 bits: counter 20, client 4, entry 40, most significant first. So the order of pairs, by counter, then
--- client, then entry, is the order of their numbers, and that of timestamps is the order of the first 24 bits.
+-- A pair is one number of 64 bits: counter 20, client 4, entry 40, most significant first. So the order of pairs, by counter,
+-- then client, then entry, is the order of their numbers, and that of timestamps is the order of the first 24 bits.
 --
 -- In order: the parts of a pair; a pair of its parts; the initial pair; the orders.
 -- Assumes nothing.
@@ -10,7 +10,6 @@ use mathlib.Core.Bool.{Bool}
 use lib.Dec.{eqb, ltb}
 use Rattle.message.specs.declared.Entry.{Entry}
 use Rattle.message.specs.declared.Pair.{Pair}
-use Rattle.message.specs.declared.Timestamp.{Timestamp}
 use Rattle.message.specs.declared.WriteCounter.{WriteCounter}
 
 -- the counter, half of the timestamp

@@ -1,7 +1,7 @@
 // The types of the protocol and the message's eleven bytes (01, section 'Message').
 ghost use mathlib.Core.Path.{_≡_};
 ghost use mathlib.Core.Bool.{cond, _&&_};
-ghost use Prim.Native.Nat.{_<_, _≤_, _+_, _*_, _/_, _%_, _^_};
+ghost use Prim.Native.Nat.{_<_, _≤_, _+_, _*_, _%_, _^_};
 ghost use lib.Dec.{eqb, ltb};
 ghost use lib.ListN.{length, take, drop};
 ghost use lib.Seq.{sets};
@@ -51,26 +51,26 @@ pub enum Packed {
     Refused(Refusal),
 }
 
-// The bytes of a message: those of the first word, and of the second.
+// The bytes of a message, of its first word, and of its second.
 const MESSAGE_BYTES: usize = 11;
 
 const HEAD_BYTES: usize = 3;
 
 const LOW_BYTES: usize = 8;
 
-// In the first word, the bits behind the kind; in the second, those behind the counter and behind the client.
+// The bits behind the kind in the first word, and behind counter and client in the second.
 const KIND_AT: u32 = 20;
 
 const COUNTER_AT: u32 = 44;
 
 const CLIENT_AT: u32 = 40;
 
-// A tag or counter: its bits, and the first number over its width.
+// The bits of a tag or counter, and the first number over its width.
 const TWENTY_BITS: u32 = 0xF_FFFF;
 
 const OVER_TWENTY: u32 = 0x10_0000;
 
-// The bits of a client and of an entry, and all behind the counter.
+// The bits of a client, of an entry, and all behind the counter.
 const CLIENT_BITS: u64 = 0xF;
 
 const ENTRY_BITS: u64 = 0xFF_FFFF_FFFF;

@@ -1,7 +1,8 @@
 -- Acknowledged: an honest server that has acknowledged a write is at or above the write's timestamp.
 --
--- Why: it sends WRITE_ACK c to a client only when it takes a WRITE_INFO of that client with counter c, which carries the client's
--- own number, and after that it is at or above that pair (`Grows.taken-write`) and never falls.
+-- Why: it sends WRITE_ACK c to a client only when it takes a WRITE_INFO of that client with counter c, which
+-- carries the client's own number, and after that it is at or above that pair (`Grows.taken-write`) and never
+-- falls.
 -- Assumes nothing.
 use mathlib.Core.Path.{_≡_, refl, sym, ap}
 use mathlib.Core.Bool.{true, false}
@@ -26,7 +27,8 @@ use Rattle.register.specs.History.{worldAt}
 use Rattle.register.proofs.Enabled.{Enabled}
 use Rattle.register.proofs.Run.{Run, world, event, enabled-at}
 use Rattle.register.proofs.Sends.{Reply, info, forward, ack}
-use Rattle.register.proofs.Frames.{ClientNext, same, starts, took, client-next, Answers, Puts, up-cases, down-cases}
+use Rattle.register.proofs.Frames.{ClientNext, same, starts, took, client-next, Answers, Puts}
+use Rattle.register.proofs.Frames.{up-cases, down-cases}
 use Rattle.register.proofs.Frames.{server-after}
 use Rattle.register.proofs.Grows.{taken-write, grows}
 use Rattle.register.proofs.ClientFacts.{Acks, outcome-acks}
@@ -38,12 +40,14 @@ AtLeast w d k c = c .0 * 16 + d ≤ stamp (w .servers k .pair)
 
 pub record Acknowledged (S : Settings) (w : World) : Type 0 where
   pub own : (d k : ℕ) (p : Pair) → Member (WriteInfo p) (w .up d k) → client p ≡ d
-  pub channel : (d k : ℕ) → isHonest S k ≡ true → (c : WriteCounter) → Member (WriteAck c) (w .down d k) → AtLeast w d k c
+  pub channel : (d k : ℕ) → isHonest S k ≡ true → (c : WriteCounter) → Member (WriteAck c) (w .down d k)
+      → AtLeast w d k c
   pub counted : (d k : ℕ) → isHonest S k ≡ true → (c : WriteCounter)
       → Acks (w .clients d) k c → AtLeast w d k c
 
 -- a WRITE_ACK answers a WRITE_INFO with its counter
-ack-of : (s : Server) (a : ℕ) (m : Message) (d : ℕ) (x : Message) → Reply s a m d x → (c : WriteCounter) → x ≡ WriteAck c
+ack-of : (s : Server) (a : ℕ) (m : Message) (d : ℕ) (x : Message) → Reply s a m d x → (c : WriteCounter)
+    → x ≡ WriteAck c
     → (p : Pair) × (m ≡ WriteInfo p) × (counter p ≡ c) × (a ≡ d)
 ack-of s a m d x (info t e q) c h = clash (cc)
 ack-of s a m d x (forward p e q) c h = clash (cc)
@@ -63,7 +67,8 @@ module _ (S : Settings) (F : Formats) (w : World) (e : Event) (en : Enabled S F 
       let to : a .sender ≡ d = s .3 in
       rw (server-after S w e k (a .sender) (a .message) (a .rest) (a .event)) (omega arith)
 
-  counts : (d k : ℕ) → isHonest S k ≡ true → (c : WriteCounter) (y : Client) → ClientNext S F w e d y → Acks y k c
+  counts : (d k : ℕ) → isHonest S k ≡ true → (c : WriteCounter) (y : Client) → ClientNext S F w e d y
+      → Acks y k c
       → AtLeast w d k c
   unfolding started
   counts d k g c y (same _ _) h = A .counted d k g c h

@@ -1,8 +1,8 @@
 -- What an accepted setup gives: its numbers are in range, and at most f of the n servers are faulty.
 --
--- The setup's ladder let it pass, so neither of its tests applied (`bounds`). A client's number then fits four bits, an honest
--- server has a number from 1 to n and is not faulty, and of any servers that pass a test at most f are not honest
--- (`counted-honest`); in particular n − f servers are honest (`many-honest`).
+-- The setup's ladder let it pass, so neither of its tests applied (`bounds`). A client's number then fits
+-- four bits, an honest server has a number from 1 to n and is not faulty, and of any servers that pass a test
+-- at most f are not honest (`counted-honest`); in particular n − f servers are honest (`many-honest`).
 -- Assumes nothing.
 use mathlib.Core.Path.{_≡_, refl}
 use mathlib.Core.Bool.{Bool, true, false, not, _&&_}

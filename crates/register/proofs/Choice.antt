@@ -9,17 +9,17 @@ use mathlib.Core.Bool.{Bool, true, false}
 use mathlib.Core.Logic.{inl, inr, _≢_}
 use mathlib.Core.Option.{Option, none, some}
 use mathlib.Core.List.{List, [], _∷_}
-use Prim.Native.Nat.{ℕ, zero, suc, _+_, _-_, _*_, _≤_}
+use Prim.Native.Nat.{ℕ, zero, suc, _≤_}
 use native.Mathlib.Nat.{le-refl}
 use native.Mathlib.Omega.{arith}
 use lib.Dec.{eqb}
-use borrow.Author.Tests.{ltb-true, ltb-false, eqb-true, eqb-false, leb-true, le-leb}
+use borrow.Author.Tests.{ltb-true, ltb-false, eqb-true, eqb-false}
 use Rattle.basics.specs.Members.{Member}
 use Rattle.basics.proofs.Cases.{by-test, by-either, true-or-false, both, both-of}
 use Rattle.basics.proofs.Members.{member-left, member-right, member-cases}
 use Rattle.message.specs.declared.Pair.{Pair}
 use Rattle.message.specs.Pair.{stamp, below}
-use Rattle.register.specs.Thresholds.{counted, enough}
+use Rattle.register.specs.Thresholds.{counted, enough, notOldBy, validBy}
 use Rattle.register.specs.PairSet.{has}
 use Rattle.register.specs.Client.{Client, isNoted, isAtMost, higher, highestOf, allPairs, notOld, valid, counts}
 use Rattle.register.specs.Client.{chosen}
@@ -114,25 +114,25 @@ module _ (sets : ℕ → List Pair) where
 module _ (n f : ℕ) (x : Client) where
   -- a pair counts: it is not old, and valid
   pub record Counts (p : Pair) : Type 0 where
-    pub notOld : 2 * f + 1 ≤ counted (λ k. isAtMost (stamp p) (x .noted k)) n
-    pub valid : f + 1 ≤ counted (λ k. has p (x .sets k)) n
+    pub notOld : notOldBy f (counted (λ k. isAtMost (stamp p) (x .noted k)) n) ≡ true
+    pub valid : validBy f (counted (λ k. has p (x .sets k)) n) ≡ true
 
   -- a chosen pair: enough timestamps are noted; it counts, is in a set, and none that counts and is in one is higher
   pub record Chosen (p : Pair) : Type 0 where
-    pub spoken : n - f ≤ counted (λ k. isNoted (x .noted k)) n
+    pub spoken : enough n f (counted (λ k. isNoted (x .noted k)) n) ≡ true
     pub counts : Counts p
     pub held : InSet (x .sets) n p
     pub top : (q : Pair) → InSet (x .sets) n q → Counts q → q .0 ≤ p .0
 
   counts-true : (d : ℕ) (p : Pair) → counts n f d x p ≡ true → Counts p
   unfolding counts notOld valid
-  counts-true d p h = let c = both _ _ h in record { notOld = leb-true _ _ (c .0); valid = leb-true _ _ (c .1) }
+  counts-true d p h = let c = both (notOld n f d x p) (valid n f d x p) h in record { notOld = c .0; valid = c .1 }
 
   true-counts : (d : ℕ) (p : Pair) → Counts p → counts n f d x p ≡ true
   unfolding counts notOld valid
-  true-counts d p c = both-of _ _ (le-leb _ _ (c .notOld)) (le-leb _ _ (c .valid))
+  true-counts d p c = both-of (notOld n f d x p) (valid n f d x p) (c .notOld) (c .valid)
 
-  chosen-of : (d : ℕ) (p : Pair) → n - f ≤ counted (λ k. isNoted (x .noted k)) n
+  chosen-of : (d : ℕ) (p : Pair) → enough n f (counted (λ k. isNoted (x .noted k)) n) ≡ true
       → Highest (counts n f d x) (allPairs (x .sets) n) p → Chosen p
   chosen-of d p h g =
       record {
@@ -146,16 +146,16 @@ module _ (n f : ℕ) (x : Client) where
   unfolding chosen
   chosen-some d p e =
       by-test (enough n f (counted (λ k. isNoted (x .noted k)) n))
-      (λ b. chosen-of d p (leb-true _ _ b)
+      (λ b. chosen-of d p b
       (subst (Found (counts n f d x) (allPairs (x .sets) n)) (rw b at e) (found (counts n f d x) (allPairs (x .sets) n))))
       (λ b. absurd (let e′ : none ≡ some p = rw b at e in let z : _≡_ {A = ℕ} 0 1 = cc in omega arith))
 
   -- nothing is chosen: too few are noted, or no pair of a set counts
-  pub chosen-none : (d : ℕ) → chosen n f d x ≡ none → n - f ≤ counted (λ k. isNoted (x .noted k)) n
+  pub chosen-none : (d : ℕ) → chosen n f d x ≡ none → enough n f (counted (λ k. isNoted (x .noted k)) n) ≡ true
       → (p : Pair) → InSet (x .sets) n p → Counts p → ⊥
   unfolding chosen
   chosen-none d e h p s c =
-      let e′ : highestOf (counts n f d x) (allPairs (x .sets) n) ≡ none = rw (le-leb _ _ h) at e in
+      let e′ : highestOf (counts n f d x) (allPairs (x .sets) n) ≡ none = rw h at e in
       let none-counts =
       subst (Found (counts n f d x) (allPairs (x .sets) n)) e′ (found (counts n f d x) (allPairs (x .sets) n)) in
       true-or-false (counts n f d x p) (true-counts d p c)

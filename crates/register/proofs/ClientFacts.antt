@@ -1,7 +1,8 @@
 -- What a message of server k changes in a client, part by part, by cases on its outcome.
 --
--- The read number stays. A timestamp noted, a pair in a set, an acknowledgement that is there afterwards was there before, or has
--- just come from server k in a message that says so. What the client puts on its channels is DONE, or a write's WRITE_INFO.
+-- The read number stays. A timestamp noted, a pair in a set, an acknowledgement that is there afterwards was
+-- there before, or has just come from server k in a message that says so. What the client puts on its
+-- channels is DONE, or a write's WRITE_INFO.
 -- Assumes nothing.
 use mathlib.Core.Path.{_≡_, refl, ap}
 use mathlib.Core.Bool.{true, false}
@@ -25,7 +26,8 @@ use Rattle.register.specs.Settings.{Settings}
 use Rattle.register.specs.PairSet.{add}
 use Rattle.register.specs.Client.{Client, cleared, setLimit, highest, withPair, withInfo, withAck, Taken}
 use Rattle.register.proofs.PairSets.{add-from}
-use Rattle.register.proofs.Outcomes.{Grown, noted, added, Outcome, dropped, waits, shows, spends, sends, acks, ends}
+use Rattle.register.proofs.Outcomes.{Grown, noted, added, Outcome, dropped, waits, shows, spends}
+use Rattle.register.proofs.Outcomes.{sends, acks, ends}
 use Rattle.register.proofs.Outcomes.{choice, nextCounter, grown-reads}
 
 pub none-some : {A : Type 0} {a : A} → none ≡ some a → ⊥
@@ -56,7 +58,8 @@ module _ (S : Settings) (d : ℕ) (x : Client) (k : ℕ) (m : Message) where
     pub message : m ≡ Info (x .reads) pair
     pub is : u ≡ stamp pair
 
-  pub grown-note : (y : Client) → Grown x k m y → (j u : ℕ) → y .noted j ≡ some u → (x .noted j ≡ some u) ⊎ NewNote j u
+  pub grown-note : (y : Client) → Grown x k m y → (j u : ℕ) → y .noted j ≡ some u
+      → (x .noted j ≡ some u) ⊎ NewNote j u
   unfolding withInfo withPair
   grown-note y (noted t p e q n) j u h =
       update-at (λ (o : Option ℕ). o ≡ some u → (x .noted j ≡ some u) ⊎ NewNote j u) (x .noted) k j (some (stamp p))
@@ -89,7 +92,8 @@ module _ (S : Settings) (d : ℕ) (x : Client) (k : ℕ) (m : Message) where
       (λ e. inr (record { server = ek; message = rw e h })) (λ old. inl (rw ek at old)))
       (λ ne mem. inl mem)
 
-  pub grown-pair : (y : Client) → Grown x k m y → (j : ℕ) (p : Pair) → Member p (y .sets j) → Member p (x .sets j) ⊎ NewPair j p
+  pub grown-pair : (y : Client) → Grown x k m y → (j : ℕ) (p : Pair) → Member p (y .sets j)
+      → Member p (x .sets j) ⊎ NewPair j p
   unfolding withInfo withPair
   grown-pair y (noted t q e same n) j p h = set-pair j q p (inr (t, e)) h
   grown-pair y (added q e) j p h = set-pair j q p (inl e) h
@@ -140,7 +144,8 @@ module _ (S : Settings) (d : ℕ) (x : Client) (k : ℕ) (m : Message) where
     pub is : x′ ≡ WriteInfo (pairOf (nextCounter pair) d entry)
     pub after : o .client ≡ cleared (Storing entry (nextCounter pair)) (x .reads)
 
-  pub outcome-sends : (o : Taken) → Outcome S d x k m o → (x′ : Message) → Member x′ (o .sends) → (x′ ≡ Done) ⊎ PutsWrite o x′
+  pub outcome-sends : (o : Taken) → Outcome S d x k m o → (x′ : Message) → Member x′ (o .sends)
+      → (x′ ≡ Done) ⊎ PutsWrite o x′
   outcome-sends o (dropped _) x′ h = absurd h
   outcome-sends o (waits y g _ _) x′ h = absurd h
   outcome-sends o (shows y p g _ _) x′ h = by-either h (λ q. inl q) (λ q. absurd q)

@@ -1,9 +1,9 @@
 -- What holds on the way to demand 3, in the words of the history, as later work needs it.
 --
--- In order: no two writes send one timestamp; a write that ended before another began has the lower timestamp (001, lemma 5.4); a
--- write that ended before a read began has none higher than the read shows (lemma 5.3); every pair shown is initial, or the pair of
--- exactly one write that began before the read ended; server timestamps never fall; READ, WROTE and SPENT each end exactly one
--- operation of their client.
+-- In order: no two writes send one timestamp; a write that ended before another began has the lower timestamp
+-- (001, lemma 5.4); a write that ended before a read began has none higher than the read shows (lemma 5.3);
+-- every pair shown is initial, or the pair of exactly one write that began before the read ended; server
+-- timestamps never fall; READ, WROTE and SPENT each end exactly one operation of their client.
 -- Assumes nothing.
 use mathlib.Core.Path.{_≡_, refl}
 use mathlib.Core.Logic.{_⊎_, inl, inr}
@@ -43,14 +43,16 @@ finished r b d c i e q =
       first = λ i′ lo hi wr. e .next i′ lo hi (writes-out r i′ c (omega arith) wr);
     })
 
-same-client : (r : Run) (b d j c i : ℕ) (p : Pair) → Sending r b d j p → WriteEnds (r .S) (r .F) (r .steps) b c i → c ≡ d
+same-client : (r : Run) (b d j c i : ℕ) (p : Pair) → Sending r b d j p
+    → WriteEnds (r .S) (r .F) (r .steps) b c i → c ≡ d
 same-client r b d j c i p s e = let x = s .begins in let y = write-begins r b c (e .begins) in cc
 
 module _ (S : Settings) (F : Formats) (accepted : Accepted S) (lawful : Lawful F) (steps : List Step) where
   abbrev run : Run
   run = record { S = S; F = F; steps = steps; accepted = accepted; lawful = lawful }
 
-  pub distinct-stamps : (b₁ d₁ j₁ b₂ d₂ j₂ : ℕ) (p₁ p₂ : Pair) → Sends S F steps b₁ d₁ j₁ p₁ → Sends S F steps b₂ d₂ j₂ p₂
+  pub distinct-stamps : (b₁ d₁ j₁ b₂ d₂ j₂ : ℕ) (p₁ p₂ : Pair) → Sends S F steps b₁ d₁ j₁ p₁
+      → Sends S F steps b₂ d₂ j₂ p₂
       → stamp p₁ ≡ stamp p₂ → b₁ ≡ b₂
   distinct-stamps b₁ d₁ j₁ b₂ d₂ j₂ p₁ p₂ s₁ s₂ e =
       unique run b₁ d₁ j₁ b₂ d₂ j₂ p₁ p₂ (sends-in run b₁ d₁ j₁ p₁ s₁) (sends-in run b₂ d₂ j₂ p₂ s₂) e
@@ -62,14 +64,16 @@ module _ (S : Settings) (F : Formats) (accepted : Accepted S) (lawful : Lawful F
       let q = sends-once run b d₁ j₁ d₂ j₂ p₁ p₂ (sends-in run b d₁ j₁ p₁ s₁) (sends-in run b d₂ j₂ p₂ s₂) in
       (q .client, q .step, q .pair)
 
-  pub writes-ordered : (b₁ d₁ j₁ c i b₂ d₂ j₂ : ℕ) (p₁ p₂ : Pair) → Sends S F steps b₁ d₁ j₁ p₁ → WriteEnds S F steps b₁ c i
+  pub writes-ordered : (b₁ d₁ j₁ c i b₂ d₂ j₂ : ℕ) (p₁ p₂ : Pair) → Sends S F steps b₁ d₁ j₁ p₁
+      → WriteEnds S F steps b₁ c i
       → Sends S F steps b₂ d₂ j₂ p₂ → i < b₂ → stamp p₁ < stamp p₂
   writes-ordered b₁ d₁ j₁ c i b₂ d₂ j₂ p₁ p₂ s₁ e s₂ lt =
       let s = sends-in run b₁ d₁ j₁ p₁ s₁ in
       let f = finished run b₁ d₁ c i e (same-client run b₁ d₁ j₁ c i p₁ s e) in
       ordered run b₁ d₁ j₁ i b₂ d₂ j₂ p₁ p₂ s (sends-in run b₂ d₂ j₂ p₂ s₂) (f .later) (f .writes) (f .first) lt
 
-  pub reads-not-old : (b₁ d₁ j₁ c i b₂ d₂ j₂ : ℕ) (p₁ p₂ : Pair) → Sends S F steps b₁ d₁ j₁ p₁ → WriteEnds S F steps b₁ c i
+  pub reads-not-old : (b₁ d₁ j₁ c i b₂ d₂ j₂ : ℕ) (p₁ p₂ : Pair) → Sends S F steps b₁ d₁ j₁ p₁
+      → WriteEnds S F steps b₁ c i
       → ReadEnds S F steps b₂ d₂ j₂ p₂ → i < b₂ → stamp p₁ ≤ stamp p₂
   reads-not-old b₁ d₁ j₁ c i b₂ d₂ j₂ p₁ p₂ s₁ e x lt =
       let s = sends-in run b₁ d₁ j₁ p₁ s₁ in
@@ -79,21 +83,25 @@ module _ (S : Settings) (F : Formats) (accepted : Accepted S) (lawful : Lawful F
       not-old run j₂ d₂ p₂ (stamp p₁) (h .decides) (rw (h .begun) (stored-stays run i b₂ (stamp p₁) (omega arith) st))
 
   -- what a read shows
-  pub shown-genuine : (b d j : ℕ) (p : Pair) → ReadEnds S F steps b d j p → (p ≡ initial) ⊎ ((w : ℕ) × PairOf S F steps p w × (w < j))
+  pub shown-genuine : (b d j : ℕ) (p : Pair) → ReadEnds S F steps b d j p
+      → (p ≡ initial) ⊎ ((w : ℕ) × PairOf S F steps p w × (w < j))
   shown-genuine b d j p x =
       by-either (chosen-known run j d p (showing run b d j p x .decides)) (λ e. inl e)
       (λ k. let w = sender run (k .at) (k .client) p (k .puts) in
       let before = k .before in
       let after = w .sending .after in
       let inside = x .ends .inList in
-      inr (w .begin,
-      record {
-        client = k .client;
-        at = k .at;
-        sends = sends-out run (w .begin) (k .client) (k .at) p (omega arith) (w .sending);
-        only = λ b′ d′ j′ s. unique run b′ d′ j′ (w .begin) (k .client) (k .at) p p (sends-in run b′ d′ j′ p s) (w .sending) refl;
-      },
-      omega arith))
+      inr (
+        w .begin,
+        record {
+          client = k .client;
+          at = k .at;
+          sends = sends-out run (w .begin) (k .client) (k .at) p (omega arith) (w .sending);
+          only = λ b′ d′ j′ s. unique run b′ d′ j′ (w .begin) (k .client) (k .at) p p (sends-in run b′ d′ j′ p s)
+              (w .sending) refl;
+        },
+        omega arith,
+      ))
 
   pub stamps-never-fall : (i j : ℕ) → i ≤ j → (k : ℕ)
       → stamp (worldAt S F steps i .servers k .pair) ≤ stamp (worldAt S F steps j .servers k .pair)

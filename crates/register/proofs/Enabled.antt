@@ -1,7 +1,8 @@
 -- What an accepted event was checked for.
 --
--- A step that no rung of its ladder refuses has passed the tests of all rungs; `Enabled` says what that is for each event, and
--- `enabled` that every event of a step has it. All later proofs go by cases on events and use this, and never look at the ladders.
+-- A step that no rung of its ladder refuses has passed the tests of all rungs; `Enabled` says what that is
+-- for each event, and `enabled` that every event of a step has it. All later proofs go by cases on events and
+-- use this, and never look at the ladders.
 -- Assumes nothing.
 use mathlib.Core.Path.{_≡_, refl}
 use mathlib.Core.Bool.{true, false, _||_}
@@ -19,12 +20,15 @@ use Rattle.register.specs.declared.Phase.the-variants.{Idle, Reading, Re
 use Rattle.register.specs.Settings.{Settings, isServer, isClient, isHonest}
 use Rattle.register.specs.Client.{isIdle, highest}
 use Rattle.register.specs.World.{World, Event, refuses, begins, serves, takes, stops, lies, takenBy}
-use Rattle.register.specs.Steps.{Step, R, W, K, D, C, L, Formats, oldest, hasRoom, isReply, roomUp, roomDown}
-use Rattle.register.specs.Steps.{ladder, refusalOf, servesOldest, takesOldest, liesWith, accepted, eventOf}
+use Rattle.register.specs.Steps.{Step, R, W, K, D, C, L, Formats, oldest, hasRoom, isReply, roomUp}
+use Rattle.register.specs.Steps.{roomDown}
+use Rattle.register.specs.Steps.{ladder, refusalOf, servesOldest, takesOldest, liesWith, accepted}
+use Rattle.register.specs.Steps.{eventOf}
 use Rattle.register.proofs.Ladders.{climbed}
 use Rattle.register.proofs.Bounds.{honest-of}
 
--- the slots that a start keeps free on every channel to an honest server: a read's DONE, a write's WRITE_INFO too
+-- the slots that a start keeps free on every channel to an honest server: a read's DONE, a write's WRITE_INFO
+-- too
 abbrev pub places : Phase → ℕ
 places Idle = 1
 places Reading = 2
@@ -86,7 +90,8 @@ module _ (S : Settings) (F : Formats) (w : World) where
   takes-enabled d k [] e c s h r = tt
   takes-enabled d k (m ∷ ms) e c s h r = record { client = c; server = s; works = h; channel = e; room = r }
 
-  lies-enabled : (k d : ℕ) (bytes : List ℕ) (u : Unpacked) → F .unpack bytes ≡ u → isClient S d ≡ true → isServer S k ≡ true
+  lies-enabled : (k d : ℕ) (bytes : List ℕ) (u : Unpacked) → F .unpack bytes ≡ u → isClient S d ≡ true
+      → isServer S k ≡ true
       → S .faulty k ≡ true → isReply u ≡ true → w .stopped d || hasRoom (w .down d k) 1 ≡ true
       → Enabled (liesWith S F k d u)
   lies-enabled k d bytes Bad e c s h r room = tt
@@ -118,7 +123,8 @@ module _ (S : Settings) (F : Formats) (w : World) where
   accepted-enabled (K k d) h =
       let no = climbed (ladder S F w (K k d)) h in
       let there = both (isClient S d) (isServer S k) (not-false _ (no .0)) in
-      serves-enabled k d (w .up d k) refl (there .0) (honest-of S k (there .1) (no .1 .0)) (not-false _ (no .1 .1 .1 .0))
+      serves-enabled k d (w .up d k) refl (there .0) (honest-of S k (there .1) (no .1 .0))
+      (not-false _ (no .1 .1 .1 .0))
   accepted-enabled (D d k) h =
       let no = climbed (ladder S F w (D d k)) h in
       let there = both (isClient S d) (isServer S k) (not-false _ (no .0)) in
@@ -129,7 +135,8 @@ module _ (S : Settings) (F : Formats) (w : World) where
   accepted-enabled (L k d bytes) h =
       let no = climbed (ladder S F w (L k d bytes)) h in
       let there = both (isClient S d) (isServer S k) (not-false _ (no .0)) in
-      lies-enabled k d bytes (F .unpack bytes) refl (there .0) (there .1) (not-false _ (no .1 .0)) (not-false _ (no .1 .1 .0))
+      lies-enabled k d bytes (F .unpack bytes) refl (there .0) (there .1) (not-false _ (no .1 .0))
+      (not-false _ (no .1 .1 .0))
       (not-false _ (no .1 .1 .1 .0))
 
   pub enabled : (s : Step) → Enabled (eventOf S F w s)

@@ -1,4 +1,5 @@
--- The entry of an open write fits its forty bits, so that the timestamp of the pair it sends is its counter and its client.
+-- The entry of an open write fits its forty bits, so that the timestamp of the pair it sends is its counter
+-- and its client.
 --
 -- Why: a write begins with a licence entry, which fits (`Lawful`), and keeps it.
 -- Assumes nothing.

@@ -1,9 +1,10 @@
 -- What an event does to one client, one server and one channel.
 --
--- A client is as it was, or starts, or takes a message (`client-next`); a server is as it was, or takes a message (`server-next`).
--- A message on a channel after an event was there before or has just been put there (`up-cases`, `down-cases`), and one that was
--- there before stays, or is the one that is taken, or its channel is emptied by a stop (`up-stays`, `down-stays`). What is put on a
--- channel that does not drop is there (`up-new`, `down-new`).
+-- A client is as it was, or starts, or takes a message (`client-next`); a server is as it was, or takes a
+-- message (`server-next`). A message on a channel after an event was there before or has just been put there
+-- (`up-cases`, `down-cases`), and one that was there before stays, or is the one that is taken, or its
+-- channel is emptied by a stop (`up-stays`, `down-stays`). What is put on a channel that does not drop is
+-- there (`up-new`, `down-new`).
 -- Assumes nothing.
 use mathlib.Core.Path.{_≡_, refl}
 use mathlib.Core.Bool.{Bool, true, false, cond, _&&_}
@@ -23,7 +24,8 @@ use Rattle.register.specs.Settings.{Settings, isServer, isHonest}
 use Rattle.register.specs.Server.{Server, serverAfter, serverSends, sentTo}
 use Rattle.register.specs.Client.{Client, nextRead, started, Taken}
 use Rattle.register.specs.World.{World, Event, refuses, begins, serves, takes, stops, lies, takenBy}
-use Rattle.register.specs.World.{putsUp, putsDown, leavesUp, leavesDown, nextUp, nextDown, nextServers, nextClients, apply}
+use Rattle.register.specs.World.{putsUp, putsDown, leavesUp, leavesDown, nextUp, nextDown, nextServers}
+use Rattle.register.specs.World.{nextClients, apply}
 use Rattle.register.specs.Steps.{Formats}
 use Rattle.register.proofs.Bounds.{honest-server, honest-not-faulty}
 use Rattle.register.proofs.Enabled.{Enabled}
@@ -51,8 +53,10 @@ module _ (S : Settings) (F : Formats) (w : World) where
   -- client d after an event
   pub data ClientNext (e : Event) (d : ℕ) : Client → Type 0 where
     same : startsAt e d ≡ false → takesAt e d ≡ false → ClientNext e d (w .clients d)
-    starts : (ph : Phase) → e ≡ begins d ph → Enabled S F w (begins d ph) → ClientNext e d (started (w .clients d) ph)
-    took : (k : ℕ) (m : Message) (ms : List Message) (o : Taken) → e ≡ takes d k m ms → Enabled S F w (takes d k m ms)
+    starts : (ph : Phase) → e ≡ begins d ph → Enabled S F w (begins d ph)
+        → ClientNext e d (started (w .clients d) ph)
+    took : (k : ℕ) (m : Message) (ms : List Message) (o : Taken) → e ≡ takes d k m ms
+        → Enabled S F w (takes d k m ms)
         → o ≡ takenBy S w d k m → Outcome S d (w .clients d) k m o → ClientNext e d (o .client)
 
   -- server k after an event
@@ -115,7 +119,8 @@ module _ (S : Settings) (F : Formats) (w : World) where
   puts-of (stops c) d k m h = h
   puts-of (lies j c x) d k m h = h
 
-  pub of-puts : (e : Event) (d k : ℕ) (m : Message) → isServer S k ≡ true → Puts e d m → Member m (putsUp S w e d k)
+  pub of-puts : (e : Event) (d k : ℕ) (m : Message) → isServer S k ≡ true → Puts e d m
+      → Member m (putsUp S w e d k)
   unfolding putsUp
   of-puts (refuses r) d k m g h = h
   of-puts (begins c ph) d k m g h = rw (eq-eqb c d (h .0), g) (inl (h .1))
@@ -132,7 +137,8 @@ module _ (S : Settings) (F : Formats) (w : World) where
       (λ e. let q = both (eqb a x) (eqb b y) e in rw e (new (eqb-true a x (q .0)) (eqb-true b y (q .1))))
       (λ e. rw e old)
 
-  left-up : (e : Event) → Enabled S F w e → (d k : ℕ) (m : Message) → Member m (leavesUp S w e d k) → Member m (w .up d k)
+  left-up : (e : Event) → Enabled S F w e → (d k : ℕ) (m : Message) → Member m (leavesUp S w e d k)
+      → Member m (w .up d k)
   unfolding leavesUp
   left-up (refuses r) en d k m h = h
   left-up (begins c ph) en d k m h = h
@@ -174,7 +180,8 @@ module _ (S : Settings) (F : Formats) (w : World) where
       (λ a. inl (member-left m (leavesUp S w e d k) (cond (S .faulty k) [] (putsUp S w e d k)) a)) (λ a. inr a)
 
   -- what a client puts on its channels is on those to honest servers
-  pub up-new : (e : Event) (d k : ℕ) (m : Message) → isHonest S k ≡ true → Puts e d m → Member m (apply S w e .up d k)
+  pub up-new : (e : Event) (d k : ℕ) (m : Message) → isHonest S k ≡ true → Puts e d m
+      → Member m (apply S w e .up d k)
   unfolding apply nextUp
   up-new e d k m g h =
       rw (honest-not-faulty S k g)
@@ -268,12 +275,14 @@ module _ (S : Settings) (F : Formats) (w : World) where
       (member-right m (leavesDown S w (serves k c x xs) d k) (sentTo d (serverSends (w .servers k) c x)) h)
 
 -- the server that takes a message, the client that does, the client that starts
-pub server-after : (S : Settings) (w : World) (e : Event) (k d : ℕ) (m : Message) (ms : List Message) → e ≡ serves k d m ms
+pub server-after : (S : Settings) (w : World) (e : Event) (k d : ℕ) (m : Message) (ms : List Message)
+    → e ≡ serves k d m ms
     → apply S w e .servers k ≡ serverAfter (w .servers k) d m
 unfolding apply nextServers
 server-after S w e k d m ms q = rw (q, update-same) refl
 
-pub client-after : (S : Settings) (w : World) (e : Event) (d k : ℕ) (m : Message) (ms : List Message) → e ≡ takes d k m ms
+pub client-after : (S : Settings) (w : World) (e : Event) (d k : ℕ) (m : Message) (ms : List Message)
+    → e ≡ takes d k m ms
     → apply S w e .clients d ≡ takenBy S w d k m .client
 unfolding apply nextClients
 client-after S w e d k m ms q = rw (q, update-same) refl

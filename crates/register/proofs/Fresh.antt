@@ -1,8 +1,10 @@
--- Fresh: what a reading client has heard of an honest server for this read is as new as the server was when the read began.
+-- Fresh: what a reading client has heard of an honest server for this read is as new as the server was when
+-- the read began.
 --
--- Why: the read has a read number of its own. An INFO with that number answers the GET_INFO of this read, so the server sent it
--- after the read began, with its pair of that moment, and server timestamps never fall (`Grows`). A timestamp is noted only from an
--- INFO with the current number. A message with an older number never gets the current one, since a start raises it.
+-- Why: the read has a read number of its own. An INFO with that number answers the GET_INFO of this read, so
+-- the server sent it after the read began, with its pair of that moment, and server timestamps never fall
+-- (`Grows`). A timestamp is noted only from an INFO with the current number. A message with an older number
+-- never gets the current one, since a start raises it.
 -- Assumes nothing.
 use mathlib.Core.Path.{_≡_, refl, sym, ap, _∙_, subst}
 use mathlib.Core.Bool.{Bool, true, false}
@@ -28,7 +30,8 @@ use Rattle.register.specs.History.{worldAt}
 use Rattle.register.proofs.Enabled.{Enabled}
 use Rattle.register.proofs.Run.{Run, world, event, enabled-at}
 use Rattle.register.proofs.Sends.{Reply, info, forward, ack}
-use Rattle.register.proofs.Frames.{startsAt, ClientNext, same, starts, took, client-next, Answers, up-cases, down-cases}
+use Rattle.register.proofs.Frames.{startsAt, ClientNext, same, starts, took, client-next, Answers}
+use Rattle.register.proofs.Frames.{up-cases, down-cases}
 use Rattle.register.proofs.Grows.{grows-on}
 use Rattle.register.proofs.ClientFacts.{none-some, same-reads, outcome-note}
 use Rattle.register.proofs.PutCases.{puts-get}
@@ -73,7 +76,8 @@ pub record Asked (w : World) (d k : ℕ) (t : ReadNumber) (p : Pair) : Type 0 wh
   pub get : Member (GetInfo t) (w .up d k)
   pub pair : p ≡ w .servers k .pair
 
-info-of : (s : Server) (c : ℕ) (m : Message) (d : ℕ) (x : Message) → Reply s c m d x → (t : ReadNumber) (p : Pair)
+info-of : (s : Server) (c : ℕ) (m : Message) (d : ℕ) (x : Message) → Reply s c m d x
+    → (t : ReadNumber) (p : Pair)
     → x ≡ Info t p → (m ≡ GetInfo t) × (p ≡ s .pair) × (c ≡ d)
 info-of s c m d x (info t′ e q) t p h = let z : t′ ≡ t = cc in (rw z at e, (cc), q)
 info-of s c m d x (forward p′ e q) t p h = clash (cc)
@@ -89,7 +93,8 @@ module _ (S : Settings) (F : Formats) (w : World) (e : Event) where
       }
 
   module _ (en : Enabled S F w e) (b b′ : ℕ → ℕ → ℕ) (f : Fresh S w b)
-      (below : (d k : ℕ) → b d k ≤ stamp (w .servers k .pair)) (as-was : (d k : ℕ) → startsAt e d ≡ false → b′ d k ≡ b d k) where
+      (below : (d k : ℕ) → b d k ≤ stamp (w .servers k .pair))
+      (as-was : (d k : ℕ) → startsAt e d ≡ false → b′ d k ≡ b d k) where
     next : (d : ℕ) → ReadsNext (w .clients d) (apply S w e .clients d) (startsAt e d)
     next d = reads-next S F w e d _ (client-next S F w e en d)
 
@@ -97,7 +102,8 @@ module _ (S : Settings) (F : Formats) (w : World) (e : Event) where
     grown d = reads-grow _ _ _ (next d)
 
     -- the number of an INFO that is on a channel after the event, before the event
-    old-number : (d k : ℕ) → isHonest S k ≡ true → (t : ReadNumber) (p : Pair) → Member (Info t p) (apply S w e .down d k)
+    old-number : (d k : ℕ) → isHonest S k ≡ true → (t : ReadNumber) (p : Pair)
+        → Member (Info t p) (apply S w e .down d k)
         → t .0 ≤ w .clients d .reads .0
     old-number d k g t p h =
         by-either (down-cases S F w e en d k g (Info t p) h) (λ a. f .told d k g t p a)
@@ -113,7 +119,8 @@ module _ (S : Settings) (F : Formats) (w : World) (e : Event) where
         let z : t .0 ≡ w .clients d .reads .0 + 1 = ap (λ (n : ReadNumber). n .0) (g .1) in
         omega arith)
 
-    fresh-info : (d k : ℕ) → isHonest S k ≡ true → (t : ReadNumber) (p : Pair) → Member (Info t p) (apply S w e .down d k)
+    fresh-info : (d k : ℕ) → isHonest S k ≡ true → (t : ReadNumber) (p : Pair)
+        → Member (Info t p) (apply S w e .down d k)
         → t ≡ apply S w e .clients d .reads → b′ d k ≤ stamp p
     fresh-info d k g t p h q =
         by-test (startsAt e d)
@@ -125,7 +132,8 @@ module _ (S : Settings) (F : Formats) (w : World) (e : Event) where
         (by-either (down-cases S F w e en d k g (Info t p) h) (λ a. f .info d k g t p a (q ∙ next d .stays s))
         (λ a. rw (asks-for d k t p a .pair) (below d k))))
 
-    fresh-noted : (d k : ℕ) → isHonest S k ≡ true → (u : ℕ) (y : Client) → ClientNext S F w e d y → y .noted k ≡ some u
+    fresh-noted : (d k : ℕ) → isHonest S k ≡ true → (u : ℕ) (y : Client) → ClientNext S F w e d y
+        → y .noted k ≡ some u
         → b′ d k ≤ u
     unfolding started
     fresh-noted d k g u y (same s _) h = rw (as-was d k s) (f .noted d k g u h)
@@ -134,7 +142,8 @@ module _ (S : Settings) (F : Formats) (w : World) (e : Event) where
         rw (as-was d k (rw q refl))
         (by-either (outcome-note S d (w .clients d) j m o v k u h) (λ a. f .noted d k g u a)
         (λ a. rw (a .is)
-        (f .info d k g (w .clients d .reads) (a .pair) (rw (← (a .server), on .channel) (inl (sym (a .message)))) refl)))
+        (f .info d k g (w .clients d .reads) (a .pair)
+        (rw (← (a .server), on .channel) (inl (sym (a .message)))) refl)))
 
     fresh-next : Fresh S (apply S w e) b′
     fresh-next =

@@ -1,7 +1,9 @@
--- Genuine: every pair that an honest server holds or sent, or that stands in a client's set for it, is initial or was sent by a write.
+-- Genuine: every pair that an honest server holds or sent, or that stands in a client's set for it, is
+-- initial or was sent by a write.
 --
--- Why: a server's pair is the initial one or came in a WRITE_INFO; what it sends is its pair or that of a WRITE_INFO; what stands in
--- a set came from the server; and only a write's D puts WRITE_INFO on a channel to it.
+-- Why: a server's pair is the initial one or came in a WRITE_INFO; what it sends is its pair or that of a
+-- WRITE_INFO; what stands in a set came from the server; and only a write's D puts WRITE_INFO on a channel to
+-- it.
 -- Assumes nothing.
 use mathlib.Core.Path.{_≡_, refl}
 use mathlib.Core.Bool.{true}
@@ -24,7 +26,8 @@ use Rattle.register.specs.History.{worldAt}
 use Rattle.register.proofs.Enabled.{Enabled}
 use Rattle.register.proofs.Run.{Run, world, event, enabled-at}
 use Rattle.register.proofs.Sends.{Reply, info, forward, ack}
-use Rattle.register.proofs.Frames.{ClientNext, same, starts, took, client-next, ServerNext, kept, heard, server-next}
+use Rattle.register.proofs.Frames.{ClientNext, same, starts, took, client-next, ServerNext, kept}
+use Rattle.register.proofs.Frames.{heard, server-next}
 use Rattle.register.proofs.Frames.{Puts, up-cases, down-cases}
 use Rattle.register.proofs.ClientFacts.{outcome-pair}
 use Rattle.register.proofs.PutCases.{PutCase, asks, finishes, writes, put-case}
@@ -67,19 +70,22 @@ module _ (Q : Pair → Type 0) where
   after-good s d (Fwd p) a b = a
   after-good s d (WriteAck c) a b = a
 
-  reply-good : (s : Server) (c : ℕ) (m : Message) (d : ℕ) (x : Message) → Q (s .pair) → Good Q m → Reply s c m d x → Good Q x
+  reply-good : (s : Server) (c : ℕ) (m : Message) (d : ℕ) (x : Message) → Q (s .pair) → Good Q m
+      → Reply s c m d x → Good Q x
   reply-good s c m d x a b (info t e q) = a
   reply-good s c m d x a b (forward p e q) = rw e at b
   reply-good s c m d x a b (ack p e q) = tt
 
 module _ (S : Settings) (F : Formats) (w : World) (e : Event) (en : Enabled S F w e) (Q Q′ : Pair → Type 0)
-    (G : Genuine S w Q) (more : (p : Pair) → Q p → Q′ p) (new : (d : ℕ) (m : Message) → Puts S F w e d m → Good Q′ m) where
+    (G : Genuine S w Q) (more : (p : Pair) → Q p → Q′ p)
+    (new : (d : ℕ) (m : Message) → Puts S F w e d m → Good Q′ m) where
   server-good : (k : ℕ) (y : Server) → ServerNext S F w e k y → Q′ (y .pair)
   server-good k y kept = more _ (G .server k)
   server-good k y (heard d m ms _ on) =
       more _ (after-good Q (w .servers k) d m (G .server k) (G .up d k m (rw (on .channel) (inl refl))))
 
-  sets-good : (d k : ℕ) → isHonest S k ≡ true → (y : Client) → ClientNext S F w e d y → (p : Pair) → Member p (y .sets k)
+  sets-good : (d k : ℕ) → isHonest S k ≡ true → (y : Client) → ClientNext S F w e d y → (p : Pair)
+      → Member p (y .sets k)
       → Q′ p
   unfolding started
   sets-good d k g y (same _ _) p h = more p (G .sets d k g p h)
@@ -95,7 +101,8 @@ module _ (S : Settings) (F : Formats) (w : World) (e : Event) (en : Enabled S F 
         up = λ d k m h. by-either (up-cases S F w e en d k m h) (λ a. good-mono Q Q′ more m (G .up d k m a))
             (λ a. new d m a);
         server = λ k. server-good k _ (server-next S F w e en k);
-        down = λ d k g m h. good-mono Q Q′ more m (by-either (down-cases S F w e en d k g m h) (λ a. G .down d k g m a)
+        down = λ d k g m h. good-mono Q Q′ more m
+            (by-either (down-cases S F w e en d k g m h) (λ a. G .down d k g m a)
             (λ a. reply-good Q (w .servers k) (a .sender) (a .message) d m (G .server k)
             (G .up (a .sender) k (a .message) (rw (a .channel) (inl refl))) (a .reply)));
         sets = λ d k g p h. sets-good d k g _ (client-next S F w e en d) p h;

@@ -16,7 +16,8 @@ use Rattle.message.specs.declared.Pair.{Pair}
 use Rattle.message.specs.Pair.{stamp}
 use Rattle.register.specs.Settings.{Settings}
 use Rattle.register.specs.Server.{Server, stored, serverAfter}
-use Rattle.register.specs.World.{World, Event, refuses, begins, serves, takes, stops, lies, nextServers, apply}
+use Rattle.register.specs.World.{World, Event, refuses, begins, serves, takes, stops, lies, nextServers}
+use Rattle.register.specs.World.{apply}
 use Rattle.register.specs.History.{worldAt}
 use Rattle.register.proofs.Run.{Run, world, event}
 
@@ -42,16 +43,19 @@ server-grows s d (Fwd p) = le-refl _
 server-grows s d (WriteAck c) = le-refl _
 
 -- a server that has taken WRITE_INFO is at or above its pair
-pub taken-write : (s : Server) (d : ℕ) (m : Message) (p : Pair) → m ≡ WriteInfo p → stamp p ≤ stamp (serverAfter s d m .pair)
+pub taken-write : (s : Server) (d : ℕ) (m : Message) (p : Pair) → m ≡ WriteInfo p
+    → stamp p ≤ stamp (serverAfter s d m .pair)
 unfolding serverAfter
 taken-write s d m p e = rw e (stored-new (s .pair) p)
 
-pub grows : (S : Settings) (w : World) (e : Event) (k : ℕ) → stamp (w .servers k .pair) ≤ stamp (apply S w e .servers k .pair)
+pub grows : (S : Settings) (w : World) (e : Event) (k : ℕ)
+    → stamp (w .servers k .pair) ≤ stamp (apply S w e .servers k .pair)
 unfolding apply nextServers
 grows S w (refuses r) k = le-refl _
 grows S w (begins d ph) k = le-refl _
 grows S w (serves j d m ms) k =
-    update-at (λ (s : Server). stamp (w .servers k .pair) ≤ stamp (s .pair)) (w .servers) j k (serverAfter (w .servers j) d m)
+    update-at (λ (s : Server). stamp (w .servers k .pair) ≤ stamp (s .pair)) (w .servers) j k
+    (serverAfter (w .servers j) d m)
     (λ e. subst (λ (i : ℕ). stamp (w .servers i .pair) ≤ stamp (serverAfter (w .servers j) d m .pair)) e
     (server-grows (w .servers j) d m))
     (λ e. le-refl _)
@@ -60,7 +64,8 @@ grows S w (stops d) k = le-refl _
 grows S w (lies j d m) k = le-refl _
 
 -- from any step on
-pub grows-on : (r : Run) (i j : ℕ) → i ≤ j → (k : ℕ) → stamp (world r i .servers k .pair) ≤ stamp (world r j .servers k .pair)
+pub grows-on : (r : Run) (i j : ℕ) → i ≤ j → (k : ℕ)
+    → stamp (world r i .servers k .pair) ≤ stamp (world r j .servers k .pair)
 unfolding worldAt
 grows-on r i zero h k = let z : i ≡ 0 = omega arith in rw z (le-refl _)
 grows-on r i (suc j) h k =

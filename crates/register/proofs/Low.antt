@@ -1,7 +1,8 @@
 -- Low: what an honest server has told has at most the timestamp that the server holds.
 --
--- Why: INFO carries the server's own pair, FWD the pair of a WRITE_INFO that the server has just stored or passed by for a higher
--- one, and server timestamps never fall (`Grows`). A pair in a set of that server, and its noted timestamp, came in such a message.
+-- Why: INFO carries the server's own pair, FWD the pair of a WRITE_INFO that the server has just stored or
+-- passed by for a higher one, and server timestamps never fall (`Grows`). A pair in a set of that server, and
+-- its noted timestamp, came in such a message.
 -- Assumes nothing.
 use mathlib.Core.Path.{_≡_, refl}
 use mathlib.Core.Bool.{true}

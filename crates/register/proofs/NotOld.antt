@@ -1,10 +1,12 @@
--- Not old: a client that decides for p decides for nothing older than what was stored when it began (001, lemma 5.3).
+-- Not old: a client that decides for p decides for nothing older than what was stored when it began (001,
+-- lemma 5.3).
 --
--- A timestamp v is stored when at least n − 2f honest servers are at or above it; that stays so (`stored-stays`). A write that ends
--- is stored: of its n − f acknowledgements at most f came from faulty servers, and the others are at or above it
--- (`Acknowledged`). The choice stands at or above 2f + 1 noted timestamps. Together these are more than n, so some honest server is in
--- both (`counted-common`); what was noted of it is at least what it held when the client began (`Fresh`).
--- A choice is genuine: it is in f + 1 sets, so in that of an honest server (`chosen-known`).
+-- A timestamp v is stored when at least n − 2f honest servers are at or above it; that stays so
+-- (`stored-stays`). A write that ends is stored: of its n − f acknowledgements at most f came from faulty
+-- servers, and the others are at or above it (`Acknowledged`). The choice stands at or above 2f + 1 noted
+-- timestamps. Together these are more than n, so some honest server is in both (`counted-common`); what was
+-- noted of it is at least what it held when the client began (`Fresh`). A choice is genuine: it is in f + 1
+-- sets, so in that of an honest server (`chosen-known`).
 -- Assumes nothing.
 use mathlib.Core.Path.{_≡_, refl, sym}
 use mathlib.Core.Bool.{Bool, true, false, _&&_}
@@ -62,13 +64,14 @@ module _ (r : Run) where
       both-of (isHonest (r .S) k) _ (c .0)
       (le-leb v _ (le-trans (leb-true v (stamp (world r i .servers k .pair)) (c .1)) (grows-on r i j h k)))))
 
-  pub not-old : (n d : ℕ) (p : Pair) (v : ℕ) → DecidesAt r n d p → Stored (r .S) (world r (since r n d)) v → v ≤ stamp p
+  pub not-old : (n d : ℕ) (p : Pair) (v : ℕ) → DecidesAt r n d p → Stored (r .S) (world r (since r n d)) v
+      → v ≤ stamp p
   not-old n d p v dec st =
       let c = chosen-some (servers (r .S)) (r .S .f) (dec .grown) d p (dec .chosen) in
       let old = c .counts .notOld in
       let k =
       counted-common (holds (r .S) (world r (since r n d)) v) (λ k. isAtMost (stamp p) (dec .grown .noted k))
-      (servers (r .S)) (omega arith) in
+      (servers (r .S)) (omega (arith, leb-true)) in
       let h = both (isHonest (r .S) (k .server)) _ (k .left) in
       let u = at-most (stamp p) (dec .grown .noted (k .server)) (k .right) in
       let f = fresh r n in
@@ -100,10 +103,11 @@ module _ (r : Run) where
       let split = counted-honest (r .S) (withAck x j .acks) in
       let honest : counted (λ k. withAck x j .acks k && isHonest (r .S) k) (servers (r .S))
       ≤ counted (holds (r .S) (world r n) (c .0 * 16 + d)) (servers (r .S)) =
-      counted-mono (λ k. withAck x j .acks k && isHonest (r .S) k) (holds (r .S) (world r n) (c .0 * 16 + d)) (servers (r .S))
+      counted-mono (λ k. withAck x j .acks k && isHonest (r .S) k) (holds (r .S) (world r n) (c .0 * 16 + d))
+      (servers (r .S))
       (λ k a b e. let q = both (withAck x j .acks k) (isHonest (r .S) k) e in
       both-of (isHonest (r .S) k) _ (q .1) (le-leb _ _ (high k (q .1) (q .0)))) in
-      omega arith
+      omega (arith, leb-true)
 
   pub chosen-known : (n d : ℕ) (p : Pair) → DecidesAt r n d p → Known r n p
   chosen-known n d p dec =
@@ -111,7 +115,8 @@ module _ (r : Run) where
       let valid = c .counts .valid in
       let few = bounded r .faulty in
       let split = counted-honest (r .S) (λ k. has p (dec .grown .sets k)) in
-      let k = counted-found (λ k. has p (dec .grown .sets k) && isHonest (r .S) k) (servers (r .S)) (omega arith) in
+      let k = counted-found (λ k. has p (dec .grown .sets k) && isHonest (r .S) k) (servers (r .S))
+      (omega (arith, leb-true)) in
       let b = both (has p (dec .grown .sets (k .server))) (isHonest (r .S) (k .server)) (k .left) in
       let G = genuine r n in
       by-either

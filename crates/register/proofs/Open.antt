@@ -1,7 +1,8 @@
 -- A client that is not idle has an operation open, and a client answers only what it has open.
 --
--- Why: it leaves Idle only by a start, and from then on its phase tells what it began (`origin`); it is Idle again as soon as it
--- answers READ, WROTE or SPENT. So from the start on it has answered none of them (`is-open`).
+-- Why: it leaves Idle only by a start, and from then on its phase tells what it began (`origin`); it is Idle
+-- again as soon as it answers READ, WROTE or SPENT. So from the start on it has answered none of them
+-- (`is-open`).
 -- Assumes nothing.
 use mathlib.Core.Path.{_≡_, refl, sym, ap, _∙_, subst}
 use mathlib.Core.Logic.{_⊎_, inl, inr}
@@ -67,7 +68,8 @@ module _ (r : Run) where
         silent = one-more r (λ (j : ℕ). EndsAt j d → ⊥) (o .at) n quiet (o .silent);
       }
 
-  open-next : (n d : ℕ) (ph : Phase) → (isIdle (world r n .clients d .phase) ≡ false → Open n d (origin (world r n .clients d .phase)))
+  open-next : (n d : ℕ) (ph : Phase)
+      → (isIdle (world r n .clients d .phase) ≡ false → Open n d (origin (world r n .clients d .phase)))
       → world r (suc n) .clients d .phase ≡ ph → isIdle ph ≡ false
       → Turn (r .S) (r .F) (world r n) (event r n) d (world r (suc n) .clients d) → Open (suc n) d (origin ph)
   unfolding isIdle
@@ -93,7 +95,8 @@ module _ (r : Run) where
   open-next n d ph ih now busy (ended e c _ _ _ _ is _) =
       absurd (true-or-false true refl (ap isIdle (sym is ∙ now) ∙ busy))
 
-  pub is-open : (n d : ℕ) → isIdle (world r n .clients d .phase) ≡ false → Open n d (origin (world r n .clients d .phase))
+  pub is-open : (n d : ℕ) → isIdle (world r n .clients d .phase) ≡ false
+      → Open n d (origin (world r n .clients d .phase))
   unfolding worldAt isIdle
   is-open zero d h = absurd (true-or-false true refl h)
   is-open (suc n) d h = open-next n d (world r (suc n) .clients d .phase) (is-open n d) refl h (turn-at r n d)
@@ -103,7 +106,8 @@ module _ (r : Run) where
   unfolding isIdle
   open-read n d h = subst (λ (x : Phase). Open n d (origin x)) h (is-open n d (ap isIdle h))
 
-  pub open-write : (n d : ℕ) (e : Entry) → world r n .clients d .phase ≡ ReadingForWrite e → Open n d (ReadingForWrite e)
+  pub open-write : (n d : ℕ) (e : Entry) → world r n .clients d .phase ≡ ReadingForWrite e
+      → Open n d (ReadingForWrite e)
   unfolding isIdle
   open-write n d e h = subst (λ (x : Phase). Open n d (origin x)) h (is-open n d (ap isIdle h))
 
@@ -118,7 +122,8 @@ module _ (r : Run) where
   shows-open j d p h = go (h .takes .event) (h .answer) (turn-at r j d)
     where
       go : {k : ℕ} {m : Message} {ms : List Message} → event r j ≡ takes d k m ms → answer r j ≡ Read p
-          → Turn (r .S) (r .F) (world r j) (event r j) d (world r (suc j) .clients d) → world r j .clients d .phase ≡ Reading
+          → Turn (r .S) (r .F) (world r j) (event r j) d (world r (suc j) .clients d)
+          → world r j .clients d .phase ≡ Reading
       go e a (rested _ _ went _) = let s = went _ _ _ e in clash (cc)
       go e a (opened ph q _ _) = clash (cc)
       go e a (showed q _ was _ _) = was
@@ -129,8 +134,10 @@ module _ (r : Run) where
   pub ends-open : (j d : ℕ) → WritesAt r j d → (e : Entry) × Open j d (ReadingForWrite e)
   ends-open j d h = go (h .takes .event) (h .answer) (turn-at r j d)
     where
-      go : {k : ℕ} {m : Message} {ms : List Message} → event r j ≡ takes d k m ms → ((p : Pair) × (answer r j ≡ Wrote p)) ⊎ (answer r j ≡ Spent)
-          → Turn (r .S) (r .F) (world r j) (event r j) d (world r (suc j) .clients d) → (e : Entry) × Open j d (ReadingForWrite e)
+      go : {k : ℕ} {m : Message} {ms : List Message} → event r j ≡ takes d k m ms
+          → ((p : Pair) × (answer r j ≡ Wrote p)) ⊎ (answer r j ≡ Spent)
+          → Turn (r .S) (r .F) (world r j) (event r j) d (world r (suc j) .clients d)
+          → (e : Entry) × Open j d (ReadingForWrite e)
       go e a (rested _ _ went _) =
           let s = went _ _ _ e in by-either a (λ x. let x′ = x .1 in clash (cc)) (λ x. clash (cc))
       go e a (opened ph q _ _) = clash (cc)

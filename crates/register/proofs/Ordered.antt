@@ -1,7 +1,8 @@
 -- Ordered: a write that ended before another began has the lower timestamp (001, lemma 5.4).
 --
--- Why: when the first ended its timestamp was stored, and still is when the second begins; the second chooses nothing older
--- (`NotOld`) and sends the next counter, so its timestamp is higher, whatever the clients' numbers.
+-- Why: when the first ended its timestamp was stored, and still is when the second begins; the second chooses
+-- nothing older (`NotOld`) and sends the next counter, so its timestamp is higher, whatever the clients'
+-- numbers.
 -- Assumes nothing.
 use mathlib.Core.Path.{_≡_, ap, _∙_, subst}
 use Prim.Native.Nat.{ℕ, suc, _+_, _*_, _^_, _≤_, _<_}

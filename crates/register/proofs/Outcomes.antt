@@ -1,17 +1,17 @@
 -- What a client does with a message, as seven cases.
 --
--- `clientTakes` has many branches; every fact about it is proved by cases on `Outcome`, and `outcome` says that these are all:
--- the message is dropped; it is taken and nothing is chosen; a read shows the choice; a write is spent, or sends; it is an
--- acknowledgement that does not yet end the write, or that does.
+-- `clientTakes` has many branches; every fact about it is proved by cases on `Outcome`, and `outcome` says
+-- that these are all: the message is dropped; it is taken and nothing is chosen; a read shows the choice; a
+-- write is spent, or sends; it is an acknowledgement that does not yet end the write, or that does.
 -- Assumes nothing.
 use mathlib.Core.Path.{_≡_, refl, sym, ap, _∙_}
-use mathlib.Core.Bool.{true, false, not, _&&_}
+use mathlib.Core.Bool.{Bool, true, false, cond, not, _&&_}
 use mathlib.Core.Logic.{_≢_}
 use mathlib.Core.List.{[], _∷_}
 use mathlib.Core.Option.{Option, none, some}
-use Prim.Native.Nat.{ℕ, _+_, _-_, _≤_, _<_}
-use lib.Dec.{leb, eqb}
-use borrow.Author.Tests.{leb-true, leb-false, eqb-true, eqb-false, eq-eqb, not-true}
+use Prim.Native.Nat.{ℕ, _+_}
+use lib.Dec.{eqb}
+use borrow.Author.Tests.{eqb-true, eqb-false, eq-eqb, not-true}
 use Rattle.basics.proofs.Cases.{by-test, by-option, both, true-or-false, clash}
 use Rattle.message.specs.declared.Entry.{Entry}
 use Rattle.message.specs.declared.Message.{Message}
@@ -23,10 +23,12 @@ use Rattle.message.specs.Pair.{counter, pairOf}
 use Rattle.register.specs.declared.Answer.the-variants.{Went, Read, Wrote, Spent}
 use Rattle.register.specs.declared.Phase.{Phase}
 use Rattle.register.specs.declared.Phase.the-variants.{Idle, Reading, ReadingForWrite, Storing}
-use Rattle.register.specs.Thresholds.{counted}
+use Rattle.register.specs.Thresholds.{counted, enough}
 use Rattle.register.specs.Settings.{Settings, servers}
-use Rattle.register.specs.Client.{Client, cleared, highest, isReading, isStoring, withPair, withInfo, withAck, entryOf, isNoted}
-use Rattle.register.specs.Client.{Taken, goesOn, chosen, concluded, looked, acknowledged, takesInfo, clientTakes}
+use Rattle.register.specs.Client.{Client, cleared, highest, isReading, isStoring, withPair, withInfo}
+use Rattle.register.specs.Client.{withAck, entryOf, isNoted}
+use Rattle.register.specs.Client.{Taken, goesOn, chosen, concluded, looked, acknowledged, takesInfo}
+use Rattle.register.specs.Client.{clientTakes}
 
 -- the counter that follows a pair's
 abbrev pub nextCounter : Pair → WriteCounter
@@ -66,10 +68,16 @@ module _ (S : Settings) (d : ℕ) (x : Client) (k : ℕ) (m : Message) where
           answer = Went;
         })
     acks : (e : Entry) (c : WriteCounter) → m ≡ WriteAck c → x .phase ≡ Storing e c
-        → counted (withAck x k .acks) (servers S) < servers S - S .f → Outcome (goesOn (withAck x k))
+        → enough (servers S) (S .f) (counted (withAck x k .acks) (servers S)) ≡ false
+        → Outcome (goesOn (withAck x k))
     ends : (e : Entry) (c : WriteCounter) → m ≡ WriteAck c → x .phase ≡ Storing e c
-        → servers S - S .f ≤ counted (withAck x k .acks) (servers S)
+        → enough (servers S) (S .f) (counted (withAck x k .acks) (servers S)) ≡ true
         → Outcome (record { client = cleared Idle (x .reads); sends = []; answer = Wrote (pairOf c d e) })
+
+by-cond : (P : Taken → Type 0) (b : Bool) (o o′ : Taken) → (b ≡ true → P o) → (b ≡ false → P o′)
+    → P (cond b o o′)
+by-cond P true o o′ f g = f refl
+by-cond P false o o′ f g = g refl
 
 module _ (S : Settings) (d : ℕ) (x : Client) (k : ℕ) (m : Message) where
   pub grown-phase : (y : Client) → Grown x k m y → y .phase ≡ x .phase
@@ -88,8 +96,8 @@ module _ (S : Settings) (d : ℕ) (x : Client) (k : ℕ) (m : Message) where
   concludes y p Idle g e r c = absurd (true-or-false false r refl)
   concludes y p Reading g e r c = shows y p g e c
   concludes y p (ReadingForWrite entry) g e r c =
-      by-test (eqb (counter p .0) highest) (λ q. rw q (spends y p entry g e c (eqb-true _ _ q)))
-      (λ q. rw q (sends y p entry g e c (eqb-false _ _ q)))
+      by-cond (Outcome S d x k m) _ _ _ (λ q. spends y p entry g e c (eqb-true _ _ q))
+      (λ q. sends y p entry g e c (eqb-false _ _ q))
   concludes y p (Storing entry w) g e r c = absurd (true-or-false false r refl)
 
   looks : (y : Client) → Grown x k m y → isReading (x .phase) ≡ true
@@ -111,9 +119,8 @@ module _ (S : Settings) (d : ℕ) (x : Client) (k : ℕ) where
       → Outcome S d x k (WriteAck c) (acknowledged (servers S) (S .f) d (withAck x k) c)
   unfolding acknowledged withAck entryOf
   acknowledges c e h =
-      by-test (leb (servers S - S .f) (counted (withAck x k .acks) (servers S)))
-      (λ q. rw (q, ap entryOf h) (ends e c refl h (leb-true _ _ q)))
-      (λ q. rw q (acks e c refl h (leb-false _ _ q)))
+      by-test (enough (servers S) (S .f) (counted (withAck x k .acks) (servers S)))
+      (λ q. rw (q, ap entryOf h) (ends e c refl h q)) (λ q. rw q (acks e c refl h q))
 
   takes-info : (t : ReadNumber) → takesInfo (servers S) (S .f) d x k t ≡ true
       → (isReading (x .phase) ≡ true) × (t ≡ x .reads) × (isNoted (x .noted k) ≡ false)
@@ -129,7 +136,8 @@ module _ (S : Settings) (d : ℕ) (x : Client) (k : ℕ) where
   other m a b c =
       record { noFwd = λ r p q. a p q; noInfo = λ r p q. absurd (b (x .reads) p q); noAck = λ e c′ ph q. c c′ q }
 
-  other-info : (t : ReadNumber) (p : Pair) → takesInfo (servers S) (S .f) d x k t ≡ false → Untaken x k (Info t p)
+  other-info : (t : ReadNumber) (p : Pair) → takesInfo (servers S) (S .f) d x k t ≡ false
+      → Untaken x k (Info t p)
   unfolding takesInfo
   other-info t p e =
       record {

@@ -1,7 +1,7 @@
 -- What a client puts on its channels: GET_INFO where it starts, DONE, or the WRITE_INFO of its write.
 --
--- A WRITE_INFO carries the client's own number and the counter that follows the chosen one, so an event puts at most one, and its
--- pair has the client's number and the timestamp that these two make.
+-- A WRITE_INFO carries the client's own number and the counter that follows the chosen one, so an event puts
+-- at most one, and its pair has the client's number and the timestamp that these two make.
 -- Assumes nothing.
 use mathlib.Core.Path.{_≡_, refl, sym, ap, _∙_}
 use mathlib.Core.Bool.{true}
@@ -82,7 +82,8 @@ module _ (S : Settings) (F : Formats) (w : World) where
     get-of m t finishes q = clash (cc)
     get-of m t (writes p s) q = clash (cc)
 
-    pub puts-get : (t : ReadNumber) → Puts S F w e d (GetInfo t) → (startsAt e d ≡ true) × (t ≡ nextRead (w .clients d))
+    pub puts-get : (t : ReadNumber) → Puts S F w e d (GetInfo t)
+        → (startsAt e d ≡ true) × (t ≡ nextRead (w .clients d))
     puts-get t h = get-of (GetInfo t) t (put-case e d (GetInfo t) h) refl
 
 -- the pair that a write sends is made of its choice

@@ -15,7 +15,7 @@ use mathlib.Core.Option.{Option, some}
 use Prim.Native.Nat.{ℕ, _-_, _≤_}
 use native.Mathlib.Nat.{le-trans}
 use native.Mathlib.Omega.{arith}
-use borrow.Author.Tests.{le-leb}
+use borrow.Author.Tests.{le-leb, leb-false}
 use Rattle.basics.specs.Members.{Member}
 use Rattle.basics.proofs.Cases.{by-either, clash}
 use Rattle.message.specs.declared.Entry.{Entry}
@@ -56,6 +56,10 @@ noted-some o u e = rw e refl
 at-most-some : (t : ℕ) (o : Option ℕ) (u : ℕ) → o ≡ some u → u ≤ t → isAtMost t o ≡ true
 unfolding isAtMost
 at-most-some t o u e h = rw e (le-leb u t h)
+
+not-failing : (b : Bool) → (b ≡ false → ⊥) → b ≡ true
+not-failing true h = refl
+not-failing false h = absurd (h refl)
 
 -- client d works before step n, and nothing is on its way
 module _ (r : Run) (n d : ℕ) (client : isClient (r .S) d ≡ true) (works : world r n .stopped d ≡ false)
@@ -125,9 +129,12 @@ module _ (r : Run) (n d : ℕ) (client : isClient (r .S) d ≡ true) (works : wo
       many (λ j. has p (self .sets j))
       (λ j h. member-has p (self .sets j)
       (subst (λ (q : Pair). Member q (self .sets j)) (one-pair j k h (one .left)) (heard reading j h .held))) in
-      chosen-none (servers (r .S)) (r .S .f) self d (still r n d .undecided reading) spoken p
+      chosen-none (servers (r .S)) (r .S .f) self d (still r n d .undecided reading) (not-failing _ (λ e. omega (arith, leb-false))) p
       (record { server = k; low = one .low; high = one .high; member = heard reading k (one .left) .held })
-      (record { notOld = omega arith; valid = omega arith })
+      (record {
+        notOld = not-failing _ (λ e. omega (arith, leb-false));
+        valid = not-failing _ (λ e. omega (arith, leb-false));
+      })
 
   -- ---- storing
 
@@ -136,7 +143,7 @@ module _ (r : Run) (n d : ℕ) (client : isClient (r .S) d ≡ true) (works : wo
       let few = still r n d .few v c ph in
       let all = many (self .acks) (λ k h. by-either (awaiting r n d k client h works v c ph) (λ a. a)
       (λ a. absurd (by-either a (λ b. rw (up k h) at (b .1)) (λ b. rw (down k h) at b)))) in
-      omega arith
+      omega (arith, leb-false)
 
   -- ---- idle
 

@@ -1,7 +1,8 @@
 -- A read from its beginning on: it is open, or it has ended.
 --
--- While it is open its client is reading, has begun nothing since, and has answered no READ since. It ends at the first step at
--- which the client shows its choice; so the READ that ends a read is its client's next, and shows what was chosen then.
+-- While it is open its client is reading, has begun nothing since, and has answered no READ since. It ends at
+-- the first step at which the client shows its choice; so the READ that ends a read is its client's next, and
+-- shows what was chosen then.
 -- Assumes nothing.
 use mathlib.Core.Path.{_≡_, refl, _∙_, subst}
 use mathlib.Core.Logic.{_⊎_, inl, inr, _≢_}
@@ -33,7 +34,8 @@ idle-is (ReadingForWrite e) h = absurd (true-or-false false h refl)
 idle-is (Storing e c) h = absurd (true-or-false false h refl)
 
 -- a client that begins is idle
-pub begins-idle : (r : Run) (n d : ℕ) (ph : Phase) → event r n ≡ begins d ph → world r n .clients d .phase ≡ Idle
+pub begins-idle : (r : Run) (n d : ℕ) (ph : Phase) → event r n ≡ begins d ph
+    → world r n .clients d .phase ≡ Idle
 begins-idle r n d ph q =
     let en : Enabled (r .S) (r .F) (world r n) (begins d ph) =
     subst (Enabled (r .S) (r .F) (world r n)) q (enabled-at r n) in
@@ -107,7 +109,8 @@ module _ (r : Run) where
   read-step b d n lt o (sent p en dec ph _ _ _) = let h = o .phase in clash (cc)
   read-step b d n lt o (ended en c t i ph _ _ _) = let h = o .phase in clash (cc)
 
-  pub read-status : (b d : ℕ) → event r b ≡ begins d Reading → (i : ℕ) → b < i → OpenRead b d i ⊎ EndedRead b d i
+  pub read-status : (b d : ℕ) → event r b ≡ begins d Reading → (i : ℕ) → b < i
+      → OpenRead b d i ⊎ EndedRead b d i
   read-status b d h zero lt = absurd (not-suc-le-zero lt)
   read-status b d h (suc n) lt =
       by-test (eqb b n)

@@ -1,8 +1,8 @@
 -- Multi-writer regularity of the history: each finished read has a row, and any two rows agree.
 --
--- The row is the sorted one of `Rows`. Its order follows from the keys; the read stands first, or right after the write that it
--- shows, since what it shows is initial or was sent, by exactly one write (`Genuine`, `Unique`). Two rows agree on writes that
--- began before both reads ended, since both have these by timestamp.
+-- The row is the sorted one of `Rows`. Its order follows from the keys; the read stands first, or right after
+-- the write that it shows, since what it shows is initial or was sent, by exactly one write (`Genuine`,
+-- `Unique`). Two rows agree on writes that began before both reads ended, since both have these by timestamp.
 -- Assumes nothing.
 use mathlib.Core.Path.{_≡_, refl, sym, subst}
 use mathlib.Core.Logic.{_⊎_, inl, inr}
@@ -26,9 +26,12 @@ use Rattle.register.proofs.Genuine.{Known}
 use Rattle.register.proofs.NotOld.{chosen-known}
 use Rattle.register.proofs.Unique.{unique, sender}
 use Rattle.register.proofs.SentWrites.{SentBefore}
-use Rattle.register.proofs.Rows.{Showing, key, rowOf, row-rises, from-row, in-row, lower-earlier, earlier-lower}
-use Rattle.register.proofs.Rows.{write-write, write-read, read-write, stands-first, right-after, stamp-of-key, key-of-stamp}
-use Rattle.register.proofs.Translation.{read-begins, write-begins, reads-in, reads-out, writes-in, writes-out, sends-in, sends-out}
+use Rattle.register.proofs.Rows.{Showing, key, rowOf, row-rises, from-row, in-row, lower-earlier}
+use Rattle.register.proofs.Rows.{earlier-lower}
+use Rattle.register.proofs.Rows.{write-write, write-read, read-write, stands-first, right-after}
+use Rattle.register.proofs.Rows.{stamp-of-key, key-of-stamp}
+use Rattle.register.proofs.Translation.{read-begins, write-begins, reads-in, reads-out, writes-in}
+use Rattle.register.proofs.Translation.{writes-out, sends-in, sends-out}
 
 module _ (r : Run) where
   -- the number of steps
@@ -154,7 +157,8 @@ module _ (r : Run) where
             client = k .client;
             at = k .at;
             sends = sends-out r (w .begin) (k .client) (k .at) p (omega arith) (w .sending);
-            only = λ b′ d′ j′ z. unique r b′ d′ j′ (w .begin) (k .client) (k .at) p p (sends-in r b′ d′ j′ p z) (w .sending) refl;
+            only = λ b′ d′ j′ z. unique r b′ d′ j′ (w .begin) (k .client) (k .at) p p (sends-in r b′ d′ j′ p z)
+                (w .sending) refl;
           },
           omega arith,
           f .here,
@@ -179,7 +183,8 @@ module _ (r : Run) where
 
   -- ---- agreement
 
-  one-way : (b₁ d₁ j₁ : ℕ) (p₁ : Pair) (b₂ d₂ j₂ : ℕ) (p₂ : Pair) → ReadEnds (r .S) (r .F) (r .steps) b₁ d₁ j₁ p₁
+  one-way : (b₁ d₁ j₁ : ℕ) (p₁ : Pair) (b₂ d₂ j₂ : ℕ) (p₂ : Pair)
+      → ReadEnds (r .S) (r .F) (r .steps) b₁ d₁ j₁ p₁
       → ReadEnds (r .S) (r .F) (r .steps) b₂ d₂ j₂ p₂ → (a c : ℕ) → HasSent (r .S) (r .F) (r .steps) a
       → HasSent (r .S) (r .F) (r .steps) c → a < j₁ → a < j₂ → c < j₁ → c < j₂ → Earlier (row b₁ j₁ p₁) a c
       → Earlier (row b₂ j₂ p₂) a c
@@ -199,7 +204,8 @@ module _ (r : Run) where
       (in-row r N b₂ d₂ j₂ p₂ s₂ in₂ c (inr wc))
       (key-of-stamp r N b₂ d₂ j₂ p₂ s₂ in₂ a c wa wc a₂ c₂ less)
 
-  pub agree : (b₁ d₁ j₁ : ℕ) (p₁ : Pair) (b₂ d₂ j₂ : ℕ) (p₂ : Pair) → ReadEnds (r .S) (r .F) (r .steps) b₁ d₁ j₁ p₁
+  pub agree : (b₁ d₁ j₁ : ℕ) (p₁ : Pair) (b₂ d₂ j₂ : ℕ) (p₂ : Pair)
+      → ReadEnds (r .S) (r .F) (r .steps) b₁ d₁ j₁ p₁
       → ReadEnds (r .S) (r .F) (r .steps) b₂ d₂ j₂ p₂
       → Agree (r .S) (r .F) (r .steps) j₁ j₂ (row b₁ j₁ p₁) (row b₂ j₂ p₂)
   agree b₁ d₁ j₁ p₁ b₂ d₂ j₂ p₂ x₁ x₂ a c sa sc a₁ a₂ c₁ c₂ = (

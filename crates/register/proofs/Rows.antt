@@ -1,9 +1,10 @@
 -- The row of a read: the read and the writes that sent, sorted by a key.
 --
--- The key of a write is twice its timestamp, raised by twice a number above all timestamps if it did not begin before the read
--- ended; the read's key is twice the timestamp that it shows, plus one. So writes stand by timestamp, the later ones last, and the
--- read right after the write that it shows. That a member that ended before another began has the lower key is `Ordered` for two
--- writes, `NotOld` for a write and the read, and the raise for the read and a write.
+-- The key of a write is twice its timestamp, raised by twice a number above all timestamps if it did not
+-- begin before the read ended; the read's key is twice the timestamp that it shows, plus one. So writes stand
+-- by timestamp, the later ones last, and the read right after the write that it shows. That a member that
+-- ended before another began has the lower key is `Ordered` for two writes, `NotOld` for a write and the
+-- read, and the raise for the read and a write.
 -- Assumes nothing.
 use mathlib.Core.Path.{_≡_, refl, ap, subst}
 use mathlib.Core.Bool.{cond}
@@ -16,7 +17,8 @@ use borrow.Author.Tests.{ltb-true, ltb-false, lt-ltb, le-ltb, eq-eqb, ne-eqb}
 use Rattle.basics.specs.Members.{Member, At}
 use Rattle.basics.proofs.Cases.{by-test, by-either, clash}
 use Rattle.basics.proofs.Members.{every-of}
-use Rattle.basics.proofs.Sorting.{Rises, Apart, sortBy, mem-sort, sort-mem, sort-rises, place, earlier, next-to, first, rises-at}
+use Rattle.basics.proofs.Sorting.{Rises, Apart, sortBy, mem-sort, sort-mem, sort-rises, place, earlier}
+use Rattle.basics.proofs.Sorting.{next-to, first, rises-at}
 use Rattle.message.specs.declared.Pair.{Pair}
 use Rattle.message.specs.declared.Entry.{Entry}
 use Rattle.message.specs.Pair.{stamp, initial}
@@ -35,7 +37,8 @@ use Rattle.register.proofs.SentWrites.{Distinct, sentWrites, stampOf, t
 use Rattle.register.proofs.SentWrites.{member-sent, sent-member, stamp-at, top-above, below-top, apart}
 
 -- keys that tell the members of a list without repetition apart
-apart-of : (key : ℕ → ℕ) (l : List ℕ) → ((a b : ℕ) → Member a l → Member b l → key a ≡ key b → a ≡ b) → Distinct l
+apart-of : (key : ℕ → ℕ) (l : List ℕ) → ((a b : ℕ) → Member a l → Member b l → key a ≡ key b → a ≡ b)
+    → Distinct l
     → Apart key l
 apart-of key [] inj h = tt
 apart-of key (x ∷ xs) inj h = (
@@ -58,7 +61,8 @@ module _ (r : Run) where
   unfoldable pub rowOf : (N b j t : ℕ) → List ℕ
   rowOf N b j t = sortBy (key N b j t) (b ∷ sentWrites r N)
 
-  not-read : (b d a : ℕ) (entry : Entry) (c : ℕ) → event r b ≡ begins d Reading → event r a ≡ begins c (ReadingForWrite entry)
+  not-read : (b d a : ℕ) (entry : Entry) (c : ℕ) → event r b ≡ begins d Reading
+      → event r a ≡ begins c (ReadingForWrite entry)
       → a ≡ b → ⊥
   not-read b d a entry c x y e =
       let y′ : event r b ≡ begins c (ReadingForWrite entry) =
@@ -145,7 +149,8 @@ module _ (r : Run) where
     unfolding rowOf
     in-row a h =
         sort-mem keyOf a (b ∷ sentWrites r N)
-        (by-either h (λ e. inl e) (λ w. inr (sent-member r N a (w .client) (w .at) (w .pair) (w .sending) (w .before))))
+        (by-either h (λ e. inl e) (λ w. inr
+        (sent-member r N a (w .client) (w .at) (w .pair) (w .sending) (w .before))))
 
     pub lower-earlier : (a c : ℕ) → Member a row → Member c row
         → keyOf a < keyOf c → Earlier row a c
@@ -172,7 +177,8 @@ module _ (r : Run) where
         → keyOf a < keyOf c
     write-write a c i wa wc lt wr next ic =
         let less : stamp (wa .pair) < stamp (wc .pair) =
-        ordered r a (wa .client) (wa .at) i c (wc .client) (wc .at) (wa .pair) (wc .pair) (wa .sending) (wc .sending) lt wr next ic in
+        ordered r a (wa .client) (wa .at) i c (wc .client) (wc .at) (wa .pair) (wc .pair) (wa .sending)
+        (wc .sending) lt wr next ic in
         let la = stamp-top a wa in
         by-time c wc (λ y kc. let ka = key-early a wa (omega arith) in omega arith)
         (λ y kc. by-time a wa (λ x ka. omega arith) (λ x ka. omega arith))
@@ -183,7 +189,8 @@ module _ (r : Run) where
     write-read a i wa lt wr next ib =
         let st = stored-when-ended r a (wa .client) (wa .at) i (wa .pair) (wa .sending) lt wr next in
         let low : stamp (wa .pair) ≤ stamp p =
-        not-old r j d p (stamp (wa .pair)) (s .decides) (rw (s .begun) (stored-stays r i b (stamp (wa .pair)) (omega arith) st)) in
+        not-old r j d p (stamp (wa .pair)) (s .decides)
+        (rw (s .begun) (stored-stays r i b (stamp (wa .pair)) (omega arith) st)) in
         let bj = s .after in
         let ka = key-early a wa (omega arith) in
         let kr = key-read in

@@ -1,7 +1,7 @@
 -- A run: an accepted setup and a list of steps, with what the proof asks of the formats.
 --
--- All invariants are proved of the world before step i, for every i, by induction over i; past the end of the list every step is
--- refused, so nothing changes there.
+-- All invariants are proved of the world before step i, for every i, by induction over i; past the end of the
+-- list every step is refused, so nothing changes there.
 -- Assumes nothing.
 use mathlib.Core.List.{List}
 use Prim.Native.Nat.{ℕ}

@@ -1,14 +1,14 @@
 -- Runs computed from the definitions, so that the theorems are about something: what each answers is what 01's rules
 -- give.
 --
--- In order: the answers of a list of steps, one by one; how the runs judge entries and bytes. The runs are in the
--- files of Runs/.
+-- In order: the answers of a list of steps, one by one; the entry that they write. The runs are in the files of Runs/.
 -- Assumes nothing.
 use mathlib.Core.List.{List, [], _∷_}
 use Prim.Native.Nat.{ℕ, zero, suc, _*_, _+_, _^_}
-use lib.Dec.{eqb}
 use lib.ListN.{length}
 use Rattle.basics.specs.Bytes.{spelt}
+use Rattle.calendar.specs.Calendar.{isDate, monthLength, leap}
+use Rattle.licence.specs.Entry.{isLicence, isLicensed}
 use Rattle.basics.specs.Counting.{count}
 use Rattle.basics.specs.Tests.{allBelow}
 use Rattle.basics.specs.Update.{update}
@@ -46,19 +46,17 @@ unfolding worldAt answerOf eventOf refusalOf ladder accepted apply nextServers n
     nextDown leavesUp leavesDown putsUp putsDown isEmpty oldest hasRoom roomUp roomDown isReply allBelow count update
     isServer isClient isHonest stored serverAfter serverSends forwards sentTo insert add has isIdle isReading isStoring
     nextRead started withPair withInfo withAck entryOf isNoted isAtMost higher highestOf allPairs notOld valid counts
-    chosen concluded looked acknowledged takesInfo clientTakes counter stamp pairOf spelt messageOf unpackOf
+    chosen concluded looked acknowledged takesInfo clientTakes counter stamp pairOf spelt messageOf unpackOf isLicence
+    isLicensed isDate monthLength leap
 answers S F steps = answersFrom S F steps 0 (length steps)
 
 abbrev pub went : ℕ → List Answer
 went zero = []
 went (suc n) = Went ∷ went n
 
--- the entry of 01's examples, 29 February 2024, 40 copies, open, is the runs' only licence entry
+-- the entry of 01's examples: 29 February 2024, 40 copies, open
 abbrev pub theEntry : Entry
 theEntry = record { 0 = 0x7E82E80141 }
-
-abbrev pub formats : Formats
-formats = record { isLicence = λ e. eqb (e .0) 0x7E82E80141; unpack = unpackOf }
 
 -- the pair of a counter, a client and that entry, in 64 bits
 abbrev pub pairBy : ℕ → ℕ → Pair

@@ -1,8 +1,8 @@
 -- What a server sends to one client.
 --
--- `serverSends` lists all messages with their receivers. Of these, client d gets `direct`: INFO or WRITE_ACK if it is the sender,
--- before that FWD if it is a reader (`sent-direct`, for the clients 1 to 6 that there can be). Proofs that only ask what a message
--- was an answer to go by cases on `Reply` (`replies`).
+-- `serverSends` lists all messages with their receivers. Of these, client d gets `direct`: INFO or WRITE_ACK
+-- if it is the sender, before that FWD if it is a reader (`sent-direct`, for the clients 1 to 6 that there
+-- can be). Proofs that only ask what a message was an answer to go by cases on `Reply` (`replies`).
 -- Assumes nothing.
 use mathlib.Core.Path.{_≡_, refl, sym, ap, _∙_, subst}
 use mathlib.Core.Bool.{Bool, true, false, cond}
@@ -77,12 +77,14 @@ module _ (readers : ℕ → Bool) (p : Pair) where
           sent-append (suc n) (forwards readers p n) _
           ∙ rw (forwards-none n (suc n) (omega arith)) (sent-own (suc n) (readers (suc n)) (Fwd p))
 
-pub sent-direct : (s : Server) (c : ℕ) (m : Message) (d : ℕ) → 1 ≤ d → d ≤ 6 → sentTo d (serverSends s c m) ≡ direct s c m d
+pub sent-direct : (s : Server) (c : ℕ) (m : Message) (d : ℕ) → 1 ≤ d → d ≤ 6
+    → sentTo d (serverSends s c m) ≡ direct s c m d
 unfolding serverSends sentTo direct
 sent-direct s c (GetInfo t) d low high = refl
 sent-direct s c Done d low high = refl
 sent-direct s c (WriteInfo p) d low high =
-    sent-append d (forwards (s .readers) p mostClients) _ ∙ rw (forwards-to (s .readers) p mostClients d low high) refl
+    sent-append d (forwards (s .readers) p mostClients) _ ∙ rw
+    (forwards-to (s .readers) p mostClients d low high) refl
 sent-direct s c (Info t p) d low high = refl
 sent-direct s c (Fwd p) d low high = refl
 sent-direct s c (WriteAck a) d low high = refl
@@ -103,7 +105,8 @@ sent-member d x (y ∷ l) h =
     (λ q. inr (sent-member d x l q)))
     (λ e. inr (sent-member d x l (rw e at h)))
 
-forwards-member : (readers : ℕ → Bool) (p : Pair) (n d : ℕ) (x : Message) → Member (sent d x) (forwards readers p n)
+forwards-member : (readers : ℕ → Bool) (p : Pair) (n d : ℕ) (x : Message)
+    → Member (sent d x) (forwards readers p n)
     → (x ≡ Fwd p) × (readers d ≡ true)
 unfolding forwards
 forwards-member readers p (suc n) d x h =

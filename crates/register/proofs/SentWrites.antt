@@ -1,8 +1,8 @@
 -- The writes that sent before step n, as a list, with their timestamps.
 --
--- Each step puts at most one WRITE_INFO, and whether it does can be decided (`put`). Going through the steps gives the list of the
--- writes that sent, each once since a write sends once (`apart`); the timestamp of each (`stamp-at`); and a number above all these
--- timestamps (`below-top`), which the keys of a row use.
+-- Each step puts at most one WRITE_INFO, and whether it does can be decided (`put`). Going through the steps
+-- gives the list of the writes that sent, each once since a write sends once (`apart`); the timestamp of each
+-- (`stamp-at`); and a number above all these timestamps (`below-top`), which the keys of a row use.
 -- Assumes nothing.
 use mathlib.Core.Path.{_≡_, refl, sym, ap, subst}
 use mathlib.Core.Bool.{cond}
@@ -55,7 +55,8 @@ put S F w (refuses r) = nothing (λ d p h. h)
 put S F w (begins c ph) = nothing (λ d p h. clash (cc))
 put S F w (serves k c m ms) = nothing (λ d p h. h)
 put S F w (takes c k m ms) =
-    by-either (find (takenBy S w c k m .sends)) (λ f. puts c (f .0) (refl, f .1)) (λ never. nothing (λ d p h. never p (h .1)))
+    by-either (find (takenBy S w c k m .sends)) (λ f. puts c (f .0) (refl, f .1))
+    (λ never. nothing (λ d p h. never p (h .1)))
 put S F w (stops c) = nothing (λ d p h. h)
 put S F w (lies k c m) = nothing (λ d p h. h)
 
@@ -123,7 +124,8 @@ module _ (r : Run) where
       subst (λ (b : ℕ). Sending r b d n p) (sym (sent-facts r (s .begin) d n p (s .sending) .begun)) (s .sending)
 
   -- and to no other
-  one-sender : (n b d : ℕ) (p : Pair) (d′ : ℕ) (p′ : Pair) → PutsAt r n d′ p′ → Sending r b d n p → since r n d′ ≡ b
+  one-sender : (n b d : ℕ) (p : Pair) (d′ : ℕ) (p′ : Pair) → PutsAt r n d′ p′ → Sending r b d n p
+      → since r n d′ ≡ b
   one-sender n b d p d′ p′ h s =
       let q = puts-write (r .S) (r .F) (world r n) (event r n) d p (s .puts) .event in
       let q′ = puts-write (r .S) (r .F) (world r n) (event r n) d′ p′ h .event in
@@ -146,7 +148,8 @@ module _ (r : Run) where
   member-sent zero b h = absurd h
   member-sent (suc n) b h = go (λ q. later n b (member-sent n b q)) (put-at n) h
     where
-      go : (Member b (sentWrites n) → SentBefore (suc n) b) → (t : PutAt n) → Member b (pushed n t (sentWrites n))
+      go : (Member b (sentWrites n) → SentBefore (suc n) b) → (t : PutAt n)
+          → Member b (pushed n t (sentWrites n))
           → SentBefore (suc n) b
       go ih (nothing _) h = ih h
       go ih (puts d p q) h =
@@ -168,7 +171,8 @@ module _ (r : Run) where
       go : (j < n → Member b (sentWrites n)) → (t : PutAt n) → Member b (pushed n t (sentWrites n))
       go ih (nothing never) = at-step j n lt (λ e. absurd (never d p (put-now n b d j p s e))) ih
       go ih (puts d′ p′ h) =
-          at-step j n lt (λ e. inl (sym (one-sender n b d p d′ p′ h (send-now n b d j p s e)))) (λ less. inr (ih less))
+          at-step j n lt (λ e. inl (sym (one-sender n b d p d′ p′ h (send-now n b d j p s e))))
+          (λ less. inr (ih less))
 
   pub stamp-at : (n b d j : ℕ) (p : Pair) → Sending r b d j p → j < n → stampOf n b ≡ stamp p
   unfolding stampOf stamped

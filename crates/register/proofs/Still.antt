@@ -7,16 +7,17 @@ use mathlib.Core.Path.{_≡_, refl, sym, _∙_}
 use mathlib.Core.Bool.{true, false}
 use mathlib.Core.Logic.{inr}
 use mathlib.Core.Option.{none}
-use Prim.Native.Nat.{ℕ, zero, suc, _-_, _<_}
+use Prim.Native.Nat.{ℕ, zero, suc}
 use native.Mathlib.Omega.{arith}
-use borrow.Author.Tests.{lt-leb}
+use borrow.Author.Tests.{leb-true}
+use Rattle.basics.proofs.Cases.{by-test}
 use Rattle.message.specs.declared.Entry.{Entry}
 use Rattle.message.specs.declared.Message.{Message}
 use Rattle.message.specs.declared.ReadNumber.{ReadNumber}
 use Rattle.message.specs.declared.WriteCounter.{WriteCounter}
 use Rattle.register.specs.declared.Phase.{Phase}
 use Rattle.register.specs.declared.Phase.the-variants.{Idle, Storing}
-use Rattle.register.specs.Thresholds.{counted}
+use Rattle.register.specs.Thresholds.{counted, enough}
 use Rattle.register.specs.Settings.{Settings, servers}
 use Rattle.register.specs.Client.{Client, cleared, isReading, isNoted, started, withAck, Taken, chosen}
 use Rattle.register.specs.World.{World, Event}
@@ -31,7 +32,13 @@ use Rattle.register.proofs.Live.{not-reading}
 
 pub record Still (S : Settings) (d : ℕ) (x : Client) : Type 0 where
   pub undecided : isReading (x .phase) ≡ true → choice S d x ≡ none
-  pub few : (e : Entry) (c : WriteCounter) → x .phase ≡ Storing e c → counted (x .acks) (servers S) < servers S - S .f
+  pub few : (e : Entry) (c : WriteCounter) → x .phase ≡ Storing e c
+      → enough (servers S) (S .f) (counted (x .acks) (servers S)) ≡ false
+
+-- no server is not enough
+none-enough : (S : Settings) (spoken : ℕ) → spoken ≡ 0 → enough (servers S) (S .f) spoken ≡ false
+none-enough S spoken z =
+    by-test (enough (servers S) (S .f) spoken) (λ e. absurd (omega (arith, leb-true))) (λ e. e)
 
 -- a client with nothing of any server
 still-cleared : (S : Settings) (d : ℕ) (ph : Phase) (t : ReadNumber) → Still S d (cleared ph t)
@@ -40,8 +47,8 @@ still-cleared S d ph t =
     let none-noted = counted-none (λ k. isNoted none) (servers S) (λ k. refl) in
     let none-acks = counted-none (λ k. false) (servers S) (λ k. refl) in
     record {
-      undecided = λ r. rw (lt-leb (servers S - S .f) (counted (λ k. false) (servers S)) (omega arith)) refl;
-      few = λ e c q. omega arith;
+      undecided = λ r. rw (none-enough S (counted (λ k. false) (servers S)) none-noted) refl;
+      few = λ e c q. none-enough S (counted (λ k. false) (servers S)) none-acks;
     }
 
 module _ (S : Settings) (d : ℕ) (x : Client) (k : ℕ) (m : Message) (still : Still S d x) where

@@ -1,7 +1,8 @@
 -- Demand 3 holds: for every accepted setup and every list of steps, with any lawful formats.
 --
--- Rows and their agreement are `Regular`. A quiet client is idle at the end of the list (`Quiet`), and an operation that has not
--- ended leaves its client in a phase that is not idle (`ReadStatus`, `WriteStatus`); so it has nothing open.
+-- Rows and their agreement are `Regular`. A quiet client is idle at the end of the list (`Quiet`), and an
+-- operation that has not ended leaves its client in a phase that is not idle (`ReadStatus`, `WriteStatus`);
+-- so it has nothing open.
 -- Assumes nothing.
 use Prim.Native.Nat.{ℕ}
 use lib.ListN.{length}
@@ -13,7 +14,8 @@ use Rattle.register.proofs.Lawful.{Lawful}
 use Rattle.register.proofs.Run.{Run}
 use Rattle.register.proofs.ReadStatus.{read-status}
 use Rattle.register.proofs.WriteStatus.{in-phase, write-status}
-use Rattle.register.proofs.Translation.{read-begins, write-begins, reads-in, reads-out, writes-in, writes-out}
+use Rattle.register.proofs.Translation.{read-begins, write-begins, reads-in, reads-out, writes-in}
+use Rattle.register.proofs.Translation.{writes-out}
 use Rattle.register.proofs.Regular.{row, is-row, agree}
 use Rattle.register.proofs.Quiet.{idle}
 
@@ -34,7 +36,8 @@ module _ (r : Run) where
                 next = λ i lo hi p y. o .first i lo hi p (reads-in r i d p y);
               },
             ));
-        writes = λ b x. by-either (write-status r b d (x .entry) (write-begins r b d x) (length (r .steps)) (x .inList))
+        writes = λ b x. by-either (write-status r b d (x .entry) (write-begins r b d x) (length (r .steps))
+            (x .inList))
             (λ o. in-phase r b d (x .entry) (length (r .steps)) o (λ h. clash (cc)) (λ c h. clash (cc)))
             (λ o. (
               o .at,

@@ -1,8 +1,8 @@
 -- From the words of the history to the events of the run, and back.
 --
--- The history speaks of steps and answers, the proof of events. An answer that is no refusal is an accepted step's, so an accepted R
--- or W is a beginning and an answered D takes a message; and each event tells which step it came from (`Source`).
--- In order: one step; beginnings, answers and sends of a run.
+-- The history speaks of steps and answers, the proof of events. An answer that is no refusal is an accepted
+-- step's, so an accepted R or W is a beginning and an answered D takes a message; and each event tells which
+-- step it came from (`Source`). In order: one step; beginnings, answers and sends of a run.
 -- Assumes nothing.
 use mathlib.Core.Path.{_≡_, refl, ap}
 use mathlib.Core.List.{List, [], _∷_}
@@ -95,7 +95,8 @@ module _ (S : Settings) (F : Formats) (w : World) where
   unfolding answerOf
   write-event s e (refused {x = x}) d entry q n = absurd (n x refl)
   write-event s e read d entry q n = clash (cc)
-  write-event s e (write {d = c} {e = y}) d entry q n = let z : c ≡ d = cc in let z′ : y ≡ entry = cc in rw (z, z′) refl
+  write-event s e (write {d = c} {e = y}) d entry q n = let z : c ≡ d = cc in let z′ : y ≡ entry = cc in rw
+      (z, z′) refl
   write-event s e serve d entry q n = clash (cc)
   write-event s e take d entry q n = clash (cc)
   write-event s e stop d entry q n = clash (cc)
@@ -113,7 +114,8 @@ module _ (S : Settings) (F : Formats) (w : World) where
   take-event s e stop d k q n = clash (cc)
   take-event s e lie d k q n = clash (cc)
 
-  pub take-step : (s : Step) (e : Event) → Source s e → (d k : ℕ) (m : Message) (ms : List Message) → e ≡ takes d k m ms
+  pub take-step : (s : Step) (e : Event) → Source s e → (d k : ℕ) (m : Message) (ms : List Message)
+      → e ≡ takes d k m ms
       → s ≡ D d k
   take-step s e refused d k m ms q = clash (cc)
   take-step s e read d k m ms q = clash (cc)
@@ -132,7 +134,8 @@ module _ (S : Settings) (F : Formats) (w : World) where
   read-step s e stop d q = clash (cc)
   read-step s e lie d q = clash (cc)
 
-  pub write-step : (s : Step) (e : Event) → Source s e → (d : ℕ) (entry : Entry) → e ≡ begins d (ReadingForWrite entry)
+  pub write-step : (s : Step) (e : Event) → Source s e → (d : ℕ) (entry : Entry)
+      → e ≡ begins d (ReadingForWrite entry)
       → s ≡ W d entry
   write-step s e refused d entry q = clash (cc)
   write-step s e read d entry q = clash (cc)
@@ -157,7 +160,8 @@ module _ (r : Run) where
       → event r b ≡ begins d (ReadingForWrite (h .entry))
   write-begins b d h =
       let a = h .answer in
-      write-event (r .S) (r .F) (world r b) (step r b) (event r b) (source-at b) d (h .entry) (h .step) (λ x e. clash (cc))
+      write-event (r .S) (r .F) (world r b) (step r b) (event r b) (source-at b) d (h .entry) (h .step)
+      (λ x e. clash (cc))
 
   pub read-began : (b d : ℕ) → b < length (r .steps) → event r b ≡ begins d Reading
       → ReadBegins (r .S) (r .F) (r .steps) b d
@@ -168,7 +172,8 @@ module _ (r : Run) where
         answer = begins-went (r .S) (r .F) (world r b) (event r b) d Reading h;
       }
 
-  pub write-began : (b d : ℕ) (entry : Entry) → b < length (r .steps) → event r b ≡ begins d (ReadingForWrite entry)
+  pub write-began : (b d : ℕ) (entry : Entry) → b < length (r .steps)
+      → event r b ≡ begins d (ReadingForWrite entry)
       → WriteBegins (r .S) (r .F) (r .steps) b d
   write-began b d entry lt h =
       record {
@@ -185,14 +190,16 @@ module _ (r : Run) where
 
   step-of : (j d : ℕ) (t : TakesAt r j d) → step r j ≡ D d (t .server)
   step-of j d t =
-      take-step (r .S) (r .F) (world r j) (step r j) (event r j) (source-at j) d (t .server) (t .message) (t .rest) (t .event)
+      take-step (r .S) (r .F) (world r j) (step r j) (event r j) (source-at j) d (t .server) (t .message)
+      (t .rest) (t .event)
 
   pub reads-in : (j d : ℕ) (p : Pair) → AnswersRead (r .S) (r .F) (r .steps) j d p → ReadsAt r j d p
   reads-in j d p h =
       let a = h .answer in
       record { takes = takes-at j d (h .server) (h .step) (λ x e. clash (cc)); answer = h .answer }
 
-  pub reads-out : (j d : ℕ) (p : Pair) → j < length (r .steps) → ReadsAt r j d p → AnswersRead (r .S) (r .F) (r .steps) j d p
+  pub reads-out : (j d : ℕ) (p : Pair) → j < length (r .steps) → ReadsAt r j d p
+      → AnswersRead (r .S) (r .F) (r .steps) j d p
   reads-out j d p lt h =
       record { inList = lt; server = h .takes .server; step = step-of j d (h .takes); answer = h .answer }
 
@@ -204,7 +211,8 @@ module _ (r : Run) where
         answer = h .answer;
       }
 
-  pub writes-out : (j d : ℕ) → j < length (r .steps) → WritesAt r j d → AnswersWrite (r .S) (r .F) (r .steps) j d
+  pub writes-out : (j d : ℕ) → j < length (r .steps) → WritesAt r j d
+      → AnswersWrite (r .S) (r .F) (r .steps) j d
   writes-out j d lt h =
       record { inList = lt; server = h .takes .server; step = step-of j d (h .takes); answer = h .answer }
 
@@ -218,7 +226,8 @@ module _ (r : Run) where
         unended = λ i a c wr. let x = h .inList in h .unended i a c (writes-out i d (omega arith) wr);
       }
 
-  pub sends-out : (b d j : ℕ) (p : Pair) → j < length (r .steps) → Sending r b d j p → Sends (r .S) (r .F) (r .steps) b d j p
+  pub sends-out : (b d j : ℕ) (p : Pair) → j < length (r .steps) → Sending r b d j p
+      → Sends (r .S) (r .F) (r .steps) b d j p
   sends-out b d j p lt h =
       let q = puts-write (r .S) (r .F) (world r j) (event r j) d p (h .puts) in
       record {

@@ -1,15 +1,15 @@
 -- How an event turns a client's phase.
 --
--- Six cases: the phase stays, and the client answers and sends nothing; it opens a read or a write; it shows its choice; its write
--- is spent; its write sends; its write ends. Each says what the step answers, so that operations can be followed from their
--- beginning to their end (`Operations`).
+-- Six cases: the phase stays, and the client answers and sends nothing; it opens a read or a write; it shows
+-- its choice; its write is spent; its write sends; its write ends. Each says what the step answers, so that
+-- operations can be followed from their beginning to their end (`Operations`).
 -- Assumes nothing.
 use mathlib.Core.Path.{_≡_, refl, sym, ap, subst}
-use mathlib.Core.Bool.{false}
+use mathlib.Core.Bool.{true, false}
 use mathlib.Core.Logic.{inl, inr}
 use mathlib.Core.Option.{some}
 use mathlib.Core.List.{List, []}
-use Prim.Native.Nat.{ℕ, _-_, _≤_}
+use Prim.Native.Nat.{ℕ}
 use lib.Dec.{eqb}
 use borrow.Author.Tests.{eqb-false, eq-eqb}
 use Rattle.basics.specs.Members.{Member}
@@ -23,10 +23,11 @@ use Rattle.message.specs.Pair.{pairOf}
 use Rattle.register.specs.declared.Answer.the-variants.{Went, Read, Wrote, Spent}
 use Rattle.register.specs.declared.Phase.{Phase}
 use Rattle.register.specs.declared.Phase.the-variants.{Idle, Reading, ReadingForWrite, Storing}
-use Rattle.register.specs.Thresholds.{counted}
+use Rattle.register.specs.Thresholds.{counted, enough}
 use Rattle.register.specs.Settings.{Settings, servers}
 use Rattle.register.specs.Client.{Client, started, withAck, Taken}
-use Rattle.register.specs.World.{World, Event, refuses, begins, serves, takes, stops, lies, takenBy, answerOf, apply}
+use Rattle.register.specs.World.{World, Event, refuses, begins, serves, takes, stops, lies, takenBy}
+use Rattle.register.specs.World.{answerOf, apply}
 use Rattle.register.specs.Steps.{Formats}
 use Rattle.register.proofs.Enabled.{Enabled}
 use Rattle.register.proofs.Outcomes.{choice, nextCounter, Grown, grown-phase}
@@ -54,15 +55,17 @@ module _ (S : Settings) (F : Formats) (w : World) (e : Event) (d : ℕ) where
         → ((k : ℕ) (m : Message) (ms : List Message) → e ≡ takes d k m ms → answerOf S w e ≡ Went)
         → ((m : Message) → Puts S F w e d m → ⊥) → Turn y
     opened : (ph : Phase) → e ≡ begins d ph → Enabled S F w (begins d ph) → y .phase ≡ ph → Turn y
-    showed : (p : Pair) → Decides p → w .clients d .phase ≡ Reading → y .phase ≡ Idle → answerOf S w e ≡ Read p → Turn y
-    spent : (p : Pair) (entry : Entry) → Decides p → w .clients d .phase ≡ ReadingForWrite entry → y .phase ≡ Idle
+    showed : (p : Pair) → Decides p → w .clients d .phase ≡ Reading → y .phase ≡ Idle → answerOf S w e ≡ Read p
+        → Turn y
+    spent : (p : Pair) (entry : Entry) → Decides p → w .clients d .phase ≡ ReadingForWrite entry
+        → y .phase ≡ Idle
         → answerOf S w e ≡ Spent → Turn y
     sent : (p : Pair) (entry : Entry) → Decides p → w .clients d .phase ≡ ReadingForWrite entry
         → y .phase ≡ Storing entry (nextCounter p) → answerOf S w e ≡ Went
         → Puts S F w e d (WriteInfo (pairOf (nextCounter p) d entry)) → Turn y
     ended : (entry : Entry) (c : WriteCounter) (t : Takes) → t .message ≡ WriteAck c
         → w .clients d .phase ≡ Storing entry c
-        → servers S - S .f ≤ counted (withAck (w .clients d) (t .server) .acks) (servers S)
+        → enough (servers S) (S .f) (counted (withAck (w .clients d) (t .server) .acks) (servers S)) ≡ true
         → y .phase ≡ Idle → answerOf S w e ≡ Wrote (pairOf c d entry) → Turn y
 
   answer-is : (k : ℕ) (m : Message) (ms : List Message) (o : Taken) → e ≡ takes d k m ms → o ≡ takenBy S w d k m
@@ -75,7 +78,8 @@ module _ (S : Settings) (F : Formats) (w : World) (e : Event) (d : ℕ) where
   puts-is k m ms o x q h mem = rw q (refl, subst (λ (t : Taken). Member x (t .sends)) h mem)
 
   -- an event that is no turn of d's: it answers and puts nothing for d
-  not-taken : takesAt e d ≡ false → (k : ℕ) (m : Message) (ms : List Message) → e ≡ takes d k m ms → answerOf S w e ≡ Went
+  not-taken : takesAt e d ≡ false → (k : ℕ) (m : Message) (ms : List Message) → e ≡ takes d k m ms
+      → answerOf S w e ≡ Went
   not-taken h k m ms q = absurd (true-or-false (eqb d d) (eq-eqb d d refl) (rw q at h))
 
   no-puts : (e : Event) → startsAt e d ≡ false → takesAt e d ≡ false → (m : Message) → Puts S F w e d m → ⊥
@@ -86,7 +90,8 @@ module _ (S : Settings) (F : Formats) (w : World) (e : Event) (d : ℕ) where
   no-puts (stops c) a b m h = h
   no-puts (lies k c x) a b m h = h
 
-  no-sends : (t : Takes) (o : Taken) → o ≡ takenBy S w d (t .server) (t .message) → o .sends ≡ [] → (m : Message)
+  no-sends : (t : Takes) (o : Taken) → o ≡ takenBy S w d (t .server) (t .message) → o .sends ≡ []
+      → (m : Message)
       → Puts S F w e d m → ⊥
   no-sends t o h n m p =
       let p′ : Puts S F w (takes d (t .server) (t .message) (t .rest)) d m =

@@ -1,8 +1,8 @@
 -- Unique: a write sends once, and no two writes have one timestamp.
 --
--- Why: two writes of one client do not overlap, so the later has the higher timestamp (`Ordered`); two clients have different
--- numbers, which are part of the timestamp. And every WRITE_INFO that is put belongs to the write that its client has open
--- (`Open`, `sender`).
+-- Why: two writes of one client do not overlap, so the later has the higher timestamp (`Ordered`); two
+-- clients have different numbers, which are part of the timestamp. And every WRITE_INFO that is put belongs
+-- to the write that its client has open (`Open`, `sender`).
 -- Assumes nothing.
 use mathlib.Core.Path.{_≡_, sym, ap, _∙_, subst}
 use mathlib.Core.Logic.{inr, _≢_}
@@ -41,14 +41,17 @@ module _ (r : Run) where
       in-phase r b₁ d (s₁ .entry) b₂ o (λ h. clash (cc)) (λ c h. clash (cc)))
       (λ o. ordered r b₁ d j₁ (o .at) b₂ d j₂ p₁ p₂ s₁ s₂ (o .after) (o .writes) (o .first) (o .before))
 
-  pub unique : (b₁ d₁ j₁ b₂ d₂ j₂ : ℕ) (p₁ p₂ : Pair) → Sending r b₁ d₁ j₁ p₁ → Sending r b₂ d₂ j₂ p₂ → stamp p₁ ≡ stamp p₂
+  pub unique : (b₁ d₁ j₁ b₂ d₂ j₂ : ℕ) (p₁ p₂ : Pair) → Sending r b₁ d₁ j₁ p₁ → Sending r b₂ d₂ j₂ p₂
+      → stamp p₁ ≡ stamp p₂
       → b₁ ≡ b₂
   unique b₁ d₁ j₁ b₂ d₂ j₂ p₁ p₂ s₁ s₂ e =
       let own₁ = sent-facts r b₁ d₁ j₁ p₁ s₁ .client in
       let own₂ = sent-facts r b₂ d₂ j₂ p₂ s₂ .client in
-      let same : d₂ ≡ d₁ = sym own₂ ∙ client-of-stamp p₂ ∙ ap (λ (n : ℕ). n % 16) (sym e) ∙ sym (client-of-stamp p₁) ∙ own₁ in
+      let same : d₂ ≡ d₁ = sym own₂ ∙ client-of-stamp p₂ ∙ ap (λ (n : ℕ). n % 16) (sym e) ∙ sym
+      (client-of-stamp p₁) ∙ own₁ in
       let s₂′ : Sending r b₂ d₁ j₂ p₂ = subst (λ (d : ℕ). Sending r b₂ d j₂ p₂) same s₂ in
-      by-test (ltb b₁ b₂) (λ t. absurd (let x = own-order b₁ b₂ d₁ j₁ j₂ p₁ p₂ s₁ s₂′ (ltb-true b₁ b₂ t) in omega arith))
+      by-test (ltb b₁ b₂) (λ t. absurd
+      (let x = own-order b₁ b₂ d₁ j₁ j₂ p₁ p₂ s₁ s₂′ (ltb-true b₁ b₂ t) in omega arith))
       (λ t. by-test (ltb b₂ b₁)
       (λ u. absurd (let x = own-order b₂ b₁ d₁ j₂ j₁ p₂ p₁ s₂′ s₁ (ltb-true b₂ b₁ u) in omega arith))
       (λ u. let x = ltb-false b₁ b₂ t in let y = ltb-false b₂ b₁ u in omega arith))
@@ -68,7 +71,8 @@ module _ (r : Run) where
     pub step : j ≡ j′
     pub pair : p ≡ p′
 
-  pub sends-once : (b d j d′ j′ : ℕ) (p p′ : Pair) → Sending r b d j p → Sending r b d′ j′ p′ → Same d j p d′ j′ p′
+  pub sends-once : (b d j d′ j′ : ℕ) (p p′ : Pair) → Sending r b d j p → Sending r b d′ j′ p′
+      → Same d j p d′ j′ p′
   sends-once b d j d′ j′ p p′ s s′ =
       let x = s .begins in
       let y = s′ .begins in
@@ -90,9 +94,11 @@ module _ (r : Run) where
   phase-after : (n d : ℕ) (p : Pair) (q : SendsWrite (r .S) (r .F) (world r n) (event r n) d p)
       → (c : WriteCounter) × (world r (suc n) .clients d .phase ≡ Storing (q .put .entry) c)
   unfolding worldAt
-  phase-after n d p q =
-      (_, ap (λ (x : Client). x .phase)
-      (client-after (r .S) (world r n) (event r n) d (q .server) (q .message) (q .rest) (q .event) ∙ q .put .after))
+  phase-after n d p q = (
+    _,
+    ap (λ (x : Client). x .phase)
+        (client-after (r .S) (world r n) (event r n) d (q .server) (q .message) (q .rest) (q .event) ∙ q .put .after),
+  )
 
   -- a step that sends ends nothing
   sends-open : (n d : ℕ) (p : Pair) → PutsAt r n d p → WritesAt r n d → ⊥

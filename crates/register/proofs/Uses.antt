@@ -1,8 +1,10 @@
--- What demand 3 gives to one who has only its statement: each part of it is used here, so none can be weakened unnoticed.
+-- What demand 3 gives to one who has only its statement: each part of it is used here, so none can be
+-- weakened unnoticed.
 --
--- `not-overwritten` (Lamport's regularity): a read never shows a write after which another write began and ended before the read
--- began. `no-return`: if one read shows a write b although a write a had ended before that read, then a read that begins after b
--- has ended does not show a again; here two rows must agree. `read-finishes`, `write-finishes`: a quiet client's operations have ended.
+-- `not-overwritten` (Lamport's regularity): a read never shows a write after which another write began and
+-- ended before the read began. `no-return`: if one read shows a write b although a write a had ended before
+-- that read, then a read that begins after b has ended does not show a again; here two rows must agree.
+-- `read-finishes`, `write-finishes`: a quiet client's operations have ended.
 -- Assumes nothing.
 use mathlib.Core.Path.{_≡_, refl, sym, _∙_, subst, ap}
 use mathlib.Core.Logic.{_⊎_, inl, inr, _≢_}
@@ -17,7 +19,8 @@ use Rattle.basics.proofs.Cases.{by-test, by-either}
 use Rattle.message.specs.declared.Pair.{Pair}
 use Rattle.register.specs.Settings.{Settings}
 use Rattle.register.specs.Steps.{Step, Formats}
-use Rattle.register.specs.History.{ReadBegins, WriteBegins, ReadEnds, WriteEnds, Ends, HasSent, PairOf, Quiet}
+use Rattle.register.specs.History.{ReadBegins, WriteBegins, ReadEnds, WriteEnds, Ends, HasSent, PairOf}
+use Rattle.register.specs.History.{Quiet}
 use Rattle.register.specs.DemandThree.{Earlier, Row, Holds}
 
 module _ (S : Settings) (F : Formats) (steps : List Step) (H : Holds S F steps) where
@@ -86,7 +89,8 @@ module _ (S : Settings) (F : Formats) (steps : List Step) (H : Holds S F steps) 
         omega arith
 
     -- Lamport's regularity: w, which ended before a began, is not shown if a ended before the read began
-    pub not-overwritten : (w a k i : ℕ) → PairOf S F steps p w → HasSent S F steps a → Ends S F steps w k → k < a
+    pub not-overwritten : (w a k i : ℕ) → PairOf S F steps p w → HasSent S F steps a → Ends S F steps w k
+        → k < a
         → Ends S F steps a i → i < b → ⊥
     not-overwritten w a k i q s ew wa ea ab =
         let first = R .order w a k (written w (has-sent p w q)) (written a s) ew wa in
@@ -117,8 +121,10 @@ module _ (S : Settings) (F : Formats) (steps : List Step) (H : Holds S F steps) 
       (H .agree b₁ d₁ j₁ p₁ b₂ d₂ j₂ p₂ x₁ x₂ a c sa sc (omega arith) a₂ c₁ (omega arith) .0 first) second))
 
   -- the closing clause
-  pub read-finishes : (d b : ℕ) → Quiet S F steps d → ReadBegins S F steps b d → (j : ℕ) × (p : Pair) × ReadEnds S F steps b d j p
+  pub read-finishes : (d b : ℕ) → Quiet S F steps d → ReadBegins S F steps b d
+      → (j : ℕ) × (p : Pair) × ReadEnds S F steps b d j p
   read-finishes d b q x = H .quiet d q .reads b x
 
-  pub write-finishes : (d b : ℕ) → Quiet S F steps d → WriteBegins S F steps b d → (j : ℕ) × WriteEnds S F steps b d j
+  pub write-finishes : (d b : ℕ) → Quiet S F steps d → WriteBegins S F steps b d
+      → (j : ℕ) × WriteEnds S F steps b d j
   write-finishes d b q x = H .quiet d q .writes b x

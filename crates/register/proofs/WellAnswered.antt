@@ -1,8 +1,10 @@
--- Every READ ends exactly one read, and every WROTE or SPENT exactly one write (001, section 3: well-formed histories).
+-- Every READ ends exactly one read, and every WROTE or SPENT exactly one write (001, section 3: well-formed
+-- histories).
 --
--- Why: what a client answers it has open (`Open`), so the answer is the next of its kind after a beginning. It ends no other
--- operation: a second beginning of the same client before the answer would have found the client busy, or the first one ended.
--- This shuts out a read that is shown twice, which demand 3 by its words does not see.
+-- Why: what a client answers it has open (`Open`), so the answer is the next of its kind after a beginning.
+-- It ends no other operation: a second beginning of the same client before the answer would have found the
+-- client busy, or the first one ended. This shuts out a read that is shown twice, which demand 3 by its words
+-- does not see.
 -- Assumes nothing.
 use mathlib.Core.Path.{_≡_}
 use mathlib.Core.Logic.{inl, inr}
@@ -53,7 +55,8 @@ module _ (r : Run) where
       (λ o. let before = o .before in
       x .next (o .at) (o .after) (omega arith) (o .pair) (reads-out r (o .at) d (o .pair) (omega arith) (o .reads)))
 
-  one-write : (j d a b : ℕ) → WriteEnds (r .S) (r .F) (r .steps) a d j → WriteEnds (r .S) (r .F) (r .steps) b d j → a < b → ⊥
+  one-write : (j d a b : ℕ) → WriteEnds (r .S) (r .F) (r .steps) a d j
+      → WriteEnds (r .S) (r .F) (r .steps) b d j → a < b → ⊥
   one-write j d a b x y lt =
       let idle = begins-idle r b d _ (write-begins r b d (y .begins)) in
       let later = y .later in

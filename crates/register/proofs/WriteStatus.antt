@@ -1,12 +1,14 @@
 -- A write from its beginning on: it is open, and has sent nothing or has sent once; or it has ended.
 --
--- While it is open its client has begun nothing since and has answered neither WROTE nor SPENT. Until it sends, the client is
--- reading for the write; it sends when it chooses, with the next counter, and then stores. It ends at the first WROTE or SPENT:
--- spent without having sent, or stored with n − f acknowledgements of its counter.
+-- While it is open its client has begun nothing since and has answered neither WROTE nor SPENT. Until it
+-- sends, the client is reading for the write; it sends when it chooses, with the next counter, and then
+-- stores. It ends at the first WROTE or SPENT: spent without having sent, or stored with n − f
+-- acknowledgements of its counter.
 -- Assumes nothing.
 use mathlib.Core.Path.{_≡_, refl, _∙_}
+use mathlib.Core.Bool.{true}
 use mathlib.Core.Logic.{_⊎_, inl, inr, _≢_}
-use Prim.Native.Nat.{ℕ, zero, suc, _-_, _≤_, _<_}
+use Prim.Native.Nat.{ℕ, zero, suc, _<_}
 use native.Mathlib.Nat.{not-suc-le-zero}
 use native.Mathlib.Omega.{arith}
 use lib.Dec.{eqb}
@@ -19,7 +21,7 @@ use Rattle.message.specs.declared.WriteCounter.{WriteCounter}
 use Rattle.message.specs.Pair.{pairOf}
 use Rattle.register.specs.declared.Answer.the-variants.{Went}
 use Rattle.register.specs.declared.Phase.the-variants.{ReadingForWrite, Storing}
-use Rattle.register.specs.Thresholds.{counted}
+use Rattle.register.specs.Thresholds.{counted, enough}
 use Rattle.register.specs.Settings.{servers}
 use Rattle.register.specs.Client.{withAck}
 use Rattle.register.specs.World.{begins}
@@ -60,7 +62,9 @@ module _ (r : Run) where
     pub takes : Takes (r .S) (r .F) (world r n) (event r n) d
     pub message : takes .message ≡ WriteAck c
     pub phase : world r n .clients d .phase ≡ Storing entry c
-    pub many : servers (r .S) - r .S .f ≤ counted (withAck (world r n .clients d) (takes .server) .acks) (servers (r .S))
+    pub many :
+        enough (servers (r .S)) (r .S .f)
+        (counted (withAck (world r n .clients d) (takes .server) .acks) (servers (r .S))) ≡ true
 
   pub record EndedWrite (b d : ℕ) (entry : Entry) (i : ℕ) : Type 0 where
     pub at : ℕ
@@ -74,7 +78,8 @@ module _ (r : Run) where
   TurnAt n d = Turn (r .S) (r .F) (world r n) (event r n) d (world r (suc n) .clients d)
 
   -- what holds before n, and at n, holds before n + 1
-  pub one-more : (P : ℕ → Type 0) (b n : ℕ) → P n → ((j : ℕ) → b < j → j < n → P j) → (j : ℕ) → b < j → j < suc n → P j
+  pub one-more : (P : ℕ → Type 0) (b n : ℕ) → P n → ((j : ℕ) → b < j → j < n → P j) → (j : ℕ) → b < j
+      → j < suc n → P j
   one-more P b n last older j a c =
       by-test (eqb j n) (λ q. rw (eqb-true j n q) last)
       (λ q. let ne : j ≢ n = eqb-false j n q in older j a (omega arith))
@@ -91,7 +96,8 @@ module _ (r : Run) where
       → ((c : WriteCounter) → world r n .clients d .phase ≡ Storing entry c → C) → C
   in-phase b d entry n o f g = by-either (o .state) (λ u. f (u .phase)) (λ u. g _ (u .phase))
 
-  still-unsent : (b d : ℕ) (entry : Entry) (n : ℕ) → world r (suc n) .clients d .phase ≡ world r n .clients d .phase
+  still-unsent : (b d : ℕ) (entry : Entry) (n : ℕ)
+      → world r (suc n) .clients d .phase ≡ world r n .clients d .phase
       → ((p : Pair) → PutsAt n d p → ⊥) → Unsent b d entry n → Unsent b d entry (suc n)
   still-unsent b d entry n same quiet u =
       record {
@@ -99,7 +105,8 @@ module _ (r : Run) where
         none = one-more (λ (j : ℕ). (p : Pair) → PutsAt j d p → ⊥) b n quiet (u .none);
       }
 
-  still-sent : (b d : ℕ) (entry : Entry) (n : ℕ) → world r (suc n) .clients d .phase ≡ world r n .clients d .phase
+  still-sent : (b d : ℕ) (entry : Entry) (n : ℕ)
+      → world r (suc n) .clients d .phase ≡ world r n .clients d .phase
       → ((p : Pair) → PutsAt n d p → ⊥) → SentOnce b d entry n → SentOnce b d entry (suc n)
   still-sent b d entry n same quiet u =
       record {

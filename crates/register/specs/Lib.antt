@@ -7,3 +7,4 @@ pub mod World
 pub mod Steps
 pub mod History
 pub mod DemandThree
+pub mod Formats

@@ -2,10 +2,10 @@
 --
 -- A sound server stored again is itself (`Views`); the rest is adding or removing one client of the set (`Sets`).
 -- Assumes nothing.
-use mathlib.Core.Path.{_≡_, refl, sym, ap, _∙_}
+use mathlib.Core.Path.{_≡_, refl}
 use mathlib.Core.Bool.{true, false}
 use mathlib.Core.List.{[], _∷_}
-use Prim.Native.Nat.{ℕ, _-_, _≤_, _<_}
+use Prim.Native.Nat.{ℕ, _-_, _≤_}
 use lib.Bits.{bitAnd, bitOr}
 use types.Run.{OneOf, miss}
 use denote.Enum.Declared.{tagOf}
@@ -30,14 +30,16 @@ module _ (s : Server) (d : ℕ) (h : sound s ≡ true) (low : 1 ≤ d) (top : d 
       → _≡_ {A = Served}
       (record {
         server = record { pair = s .pair; readers = bitOr (s .readers) (bit d) };
-        sends = sends.Info n (s .pair) }) (servedOf s d (GetInfo n))
+        sends = sends.Info n (s .pair);
+      }) (servedOf s d (GetInfo n))
   unfolding serverAfter store view sendsOf
   get-info n = rw (adds (s .readers) d (few s h) low top)
 
   pub done : _≡_ {A = Served}
       (record {
         server = record { pair = s .pair; readers = bitAnd (s .readers) (63 - bit d) };
-        sends = sends.Nothing }) (servedOf s d Done)
+        sends = sends.Nothing;
+      }) (servedOf s d Done)
   unfolding serverAfter store view sendsOf
   done = rw (removes (s .readers) d (few s h) low top)
 

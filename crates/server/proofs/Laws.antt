@@ -4,10 +4,10 @@
 -- come from whomever, a sound server stays sound (`sound-kept`) and its timestamp never falls (`stamp-kept`): a refusal leaves it
 -- as it was, and WRITE_INFO replaces the pair only by one of a higher timestamp.
 -- Assumes nothing.
-use mathlib.Core.Path.{_≡_, refl, sym, ap, _∙_}
-use mathlib.Core.Bool.{true, false}
+use mathlib.Core.Path.{_≡_, refl, ap, _∙_}
+use mathlib.Core.Bool.{true}
 use mathlib.Core.List.{List}
-use Prim.Native.Nat.{ℕ, _≤_, _<_}
+use Prim.Native.Nat.{ℕ, _≤_}
 use native.Mathlib.Nat.{le-refl}
 use native.Mathlib.Omega.{arith}
 use lib.Dec.{leb, ltb}
@@ -62,7 +62,7 @@ after-stamp s d (WriteAck c) = le-refl (stamp (s .pair))
 
 -- what holds of the server before and after each message holds after any bytes
 module _ (P : Server → Type 0) (s : Server) (d : ℕ) (bytes : List ℕ) (same : P s)
-  (next : (m : Message) → sound s ≡ true → 1 ≤ d → d ≤ 6 → P (servedOf s d m .server)) where
+    (next : (m : Message) → sound s ≡ true → 1 ≤ d → d ≤ 6 → P (servedOf s d m .server)) where
   by-message : sound s ≡ true → 1 ≤ d → d ≤ 6 → (u : Unpacked) → unpackOf bytes ≡ u → P (takenOf s d bytes .server)
   unfolding isRequest
   by-message h low top Bad e = rw (malformed s d bytes h low top (ap isRequest e)) same

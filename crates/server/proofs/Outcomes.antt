@@ -1,10 +1,9 @@
 -- What taking bytes comes to, case by case in the order of the ladder: unsound, nobody there, malformed, taken.
 -- Assumes nothing.
-use mathlib.Core.Path.{_≡_, refl, sym, ap, _∙_}
-use mathlib.Core.Bool.{Bool, true, false, not, _&&_}
+use mathlib.Core.Path.{_≡_, refl}
+use mathlib.Core.Bool.{true, false}
 use mathlib.Core.List.{List}
 use Prim.Native.Nat.{ℕ, _≤_, _<_}
-use lib.Dec.{leb}
 use borrow.Author.Tests.{le-leb, lt-leb}
 use Rattle.refusal.specs.declared.Refusal.the-variants.{Unsound, NoSuchProcess, Malformed}
 use Rattle.refusal.specs.Ladder.{rising}
@@ -38,6 +37,7 @@ module _ (s : Server) (d : ℕ) (bytes : List ℕ) where
       unfolding takenOf
       malformed bad = rw (h, le-leb 1 d low, le-leb d 6 top, bad)
 
-      pub taken : (m : Message) → unpackOf bytes ≡ Good m → isRequest (Good m) ≡ true → takenOf s d bytes ≡ served (servedOf s d m)
+      pub taken : (m : Message) → unpackOf bytes ≡ Good m → isRequest (Good m) ≡ true
+          → takenOf s d bytes ≡ served (servedOf s d m)
       unfolding takenOf
       taken m e good = rw (h, le-leb 1 d low, le-leb d 6 top, e, good)

@@ -1,14 +1,16 @@
 -- Sets of clients as bits: reading them back, adding one, removing one.
 --
--- A set below 2 ^ k is the sum of its bits (`set-back`), since its remainder by 2 ^ (k + 1) is its bit k above its remainder by 2 ^ k.
--- That the code's `|` and `&` add and remove a client is tested at all 64 sets and 6 clients by one computation (`adds`, `removes`).
+-- A set below 2 ^ k is the sum of its bits (`set-back`): its remainder by 2 ^ (k + 1) is its bit k above its remainder by 2 ^ k.
+-- That the code's `|` and `&` add and remove a client is tested at all 64 sets and 6 clients by one computation (`adds`,
+-- `removes`).
 -- A bit of the set of a test is the test's answer (`set-of`).
 -- Assumes nothing.
-use mathlib.Core.Path.{_≡_, refl, sym, ap, _∙_}
+use mathlib.Core.Path.{_≡_, refl, ap, _∙_}
 use mathlib.Core.Bool.{Bool, true, false}
 use mathlib.Core.List.{List, [], _∷_}
 use Prim.Native.Nat.{ℕ, zero, suc, _+_, _-_, _*_, _/_, _%_, _^_, _≤_, _<_}
-use native.Mathlib.Nat.{mod-lt, mod-eq-of-lt, mul-assoc, not-suc-le-zero, div-eq-of-lt, pow-succ', mul-add-div-right, mul-add-mod-self-right}
+use native.Mathlib.Nat.{mod-lt, mod-eq-of-lt, mul-assoc, not-suc-le-zero, div-eq-of-lt, pow-succ'}
+use native.Mathlib.Nat.{mul-add-div-right, mul-add-mod-self-right}
 use native.Mathlib.Omega.{arith}
 use lib.Bits.{bitAnd, bitOr}
 use lib.Dec.{eqb, ltb}
@@ -64,7 +66,8 @@ record Right (n d : ℕ) : Type 0 where
 each-right : (n i : ℕ) → n < 64 → i < 6 → Right n (suc i)
 unfolding tests
 each-right n i small inside =
-    let t = each (tests n i) (below (λ j. all (tests n j)) 6 (below (λ m. allBelow (λ j. all (tests m j)) 6) 64 all-right n small) i inside) in
+    let set = below (λ m. allBelow (λ j. all (tests m j)) 6) 64 all-right n small in
+    let t = each (tests n i) (below (λ j. all (tests n j)) 6 set i inside) in
     record { added = eqb-true _ _ (t .0); removed = eqb-true _ _ (t .1 .0); low = ltb-true _ _ (t .1 .1 .0) }
 
 module _ (n d : ℕ) (small : n < 64) (low : 1 ≤ d) (top : d ≤ 6) where

@@ -4,12 +4,11 @@
 -- What is stored is sound (`store-sound`), what is viewed is formed (`view-formed`), and taking a message keeps a server formed
 -- (`after-formed`).
 -- Assumes nothing.
-use mathlib.Core.Path.{_≡_, refl, sym, ap, _∙_}
+use mathlib.Core.Path.{_≡_, refl, sym, _∙_}
 use mathlib.Core.Bool.{Bool, true, false}
-use mathlib.Core.Logic.{_⊎_, inl, inr}
 use Prim.Native.Nat.{ℕ, zero, suc, _≤_, _<_}
 use native.Mathlib.Omega.{arith}
-use lib.Dec.{leb, ltb}
+use lib.Dec.{ltb}
 use borrow.Author.Tests.{lt-ltb, ltb-true, ltb-false}
 use Rattle.basics.specs.Update.{update}
 use Rattle.basics.proofs.Cases.{by-test}
@@ -64,7 +63,7 @@ update-formed x d b f low top =
     record {
       none = update-at (λ r. r ≡ false) (x .readers) d 0 b (λ e. absurd (let z : ⊥ = omega arith in z)) (λ e. f .none);
       above = λ i more.
-        update-at (λ r. r ≡ false) (x .readers) d (suc i) b (λ e. absurd (let z : ⊥ = omega arith in z)) (λ e. f .above i more);
+          update-at (λ r. r ≡ false) (x .readers) d (suc i) b (λ e. absurd (let z : ⊥ = omega arith in z)) (λ e. f .above i more);
     }
 
 pub after-formed : (x : model.Server) (d : ℕ) (m : Message) → Formed x → 1 ≤ d → d ≤ 6 → Formed (serverAfter x d m)

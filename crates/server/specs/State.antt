@@ -4,7 +4,7 @@
 -- The model's server, and what it does with a message, are in the register's definitions.
 -- Assumes nothing.
 use Prim.Native.Nat.{ℕ, zero, suc, _+_, _*_, _/_, _%_, _^_}
-use mathlib.Core.Bool.{Bool, true, false}
+use mathlib.Core.Bool.{Bool, false}
 use lib.Dec.{eqb, ltb}
 use mir.Val.{boolByte}
 use Rattle.register.specs.Server as model

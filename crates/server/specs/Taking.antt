@@ -18,7 +18,6 @@ use Rattle.message.specs.Layout.{unpackOf}
 use Rattle.message.specs.Pair.{counter}
 use Rattle.register.specs.Server.{Sent, sent, forwards, serverAfter}
 use Rattle.register.specs.Settings.{mostClients}
-use Rattle.server.specs.declared.Outcome.{Outcome}
 use Rattle.server.specs.declared.Outcome.the-variants as outcome
 use Rattle.server.specs.declared.Sends.{Sends}
 use Rattle.server.specs.declared.Sends.the-variants as sends

@@ -52,10 +52,7 @@ impl fmt::Display for Violation {
             Violation::NotWritten => write!(out, "a read shows a pair that nobody wrote"),
             Violation::Rows { others_exist: false } => write!(out, "there are no rows"),
             Violation::Rows { others_exist: true } => {
-                write!(
-                    out,
-                    "timestamps do not follow the order of the writes; the rows of 001 will not do, others would"
-                )
+                write!(out, "the rows of document 001 will not do, though others would")
             }
             Violation::NeverEnds(client) => write!(out, "client {client} is quiet and has something open"),
         }
@@ -128,7 +125,7 @@ impl Checker {
             self.tally.unread += 1;
             return Ok(Reply::Unread);
         };
-        let put_before = self.put_by(command);
+        let waiting = self.waiting(command);
         let reply = self.session.command(command);
         match (command, reply) {
             (_, Reply::Unread) => self.tally.unread += 1,
@@ -141,7 +138,7 @@ impl Checker {
             }
             (Command::Step(step), Reply::Answered(answer)) => {
                 self.tally.steps += 1;
-                self.record(step, answer, put_before, moment)?;
+                self.record(step, answer, waiting, moment)?;
                 self.closing_clause()?;
             }
             (Command::Step(_), Reply::Set) => unreachable!("only S answers SET"),
@@ -164,8 +161,9 @@ impl Checker {
         self.floor = vec![None; clients];
     }
 
-    /// How many messages are on the channel of D's client to the first honest server. More afterwards: D has put them.
-    fn put_by(&self, command: Command) -> usize {
+    /// Before a D: how many messages of its client wait for the first honest server. What is behind them afterwards was
+    /// put there by the D.
+    fn waiting(&self, command: Command) -> usize {
         match (command, &self.session.system) {
             (Command::Step(Step::ClientTakes { client, .. }), Some(system)) => {
                 let index = (client as usize).wrapping_sub(1);
@@ -176,14 +174,14 @@ impl Checker {
     }
 
     /// Enters an accepted step into the history.
-    fn record(&mut self, step: Step, answer: Answer, put_before: usize, moment: u64) -> Result<(), Violation> {
+    fn record(&mut self, step: Step, answer: Answer, waiting: usize, moment: u64) -> Result<(), Violation> {
         match step {
             Step::Read { client } => self.began(client as usize - 1, Kind::Read(None), moment),
             Step::Write { client, .. } => self.began(client as usize - 1, Kind::Write(None), moment),
             Step::ClientTakes { client, .. } => {
                 let client = client as usize - 1;
                 let system = self.session.system.as_ref().expect("a step was accepted");
-                let put: Vec<Message> = first_channel(system, client).range(put_before..).copied().collect();
+                let put: Vec<Message> = first_channel(system, client).range(waiting..).copied().collect();
                 for message in put {
                     if let Message::WriteInfo(pair) = message {
                         self.write_sent(client, pair)?;

@@ -67,52 +67,48 @@ impl Liar {
     /// A message to a client that fits what it is doing, mostly.
     pub fn lie(&self, random: &mut Random, system: &System, client: usize) -> Message {
         let client = &system.clients[client];
-        let pair = self.pair(random, system);
+        let pair = self.pair(self.habit, random, system);
+        let lot = random.below(100);
         match client.phase {
-            Phase::Storing { pair: stored } if random.chance(900) => {
-                let right = stored.timestamp.counter;
-                let wrong = [right.saturating_sub(1), (right + 1).min(HIGHEST), 0, HIGHEST];
-                let counter = if random.chance(850) { right } else { random.pick(&wrong) };
-                Message::WriteAck { counter }
+            Phase::Storing { pair: stored } if lot < 90 => {
+                Message::WriteAck { counter: near(random, stored.timestamp.counter) }
             }
-            Phase::Reading | Phase::ReadingForWrite { .. } if random.chance(50) => {
+            Phase::Reading | Phase::ReadingForWrite { .. } if lot < 5 => {
                 Message::WriteAck { counter: pair.timestamp.counter }
             }
-            _ if random.chance(200) => Message::Fwd(pair),
-            phase => {
-                let right = client.read_number;
-                let next = (right + 1).min(HIGHEST);
-                let wrong = [right.saturating_sub(1), next, 0, HIGHEST];
-                let ahead = phase == Phase::Idle && random.chance(500);
-                let tag = match random.chance(900) {
-                    true if ahead => next, // it will fit the next read
-                    true => right,
-                    false => random.pick(&wrong),
-                };
-                Message::Info { tag, pair }
-            }
+            _ if lot.is_multiple_of(5) => Message::Fwd(pair),
+            // It will fit the next read.
+            Phase::Idle if lot.is_multiple_of(2) => Message::Info { tag: near(random, client.read_number + 1), pair },
+            _ => Message::Info { tag: near(random, client.read_number), pair },
         }
     }
 
-    fn pair(&self, random: &mut Random, system: &System) -> Pair {
+    fn pair(&self, habit: Habit, random: &mut Random, system: &System) -> Pair {
         let held = || system.honest().map(|server| system.servers[server].pair);
         let highest = held().max().expect("some server is honest");
         let lowest = held().min().expect("some server is honest");
-        let other = self.forged.1;
-        match self.habit {
-            Habit::Silent | Habit::Mixed => {
-                let habit = random.pick(&[Habit::Old, Habit::Inflated, Habit::Twisted, Habit::Plausible]);
-                Liar { habit, ..self.clone() }.pair(random, system)
-            }
+        let (above, entry) = self.forged;
+        match habit {
             Habit::Old if random.chance(600) => lowest,
             Habit::Old => random.pick(&self.heard),
             Habit::Inflated => {
                 let Timestamp { counter, client } = highest.timestamp;
-                let counter = counter.saturating_add(self.forged.0).min(HIGHEST);
-                Pair { timestamp: Timestamp { counter, client: client.max(1) }, entry: other }
+                let counter = (counter + above).min(HIGHEST);
+                Pair { timestamp: Timestamp { counter, client: client.max(1) }, entry }
             }
-            Habit::Twisted => Pair { entry: other, ..random.pick(&[highest, lowest]) },
+            Habit::Twisted => Pair { entry, ..random.pick(&[highest, lowest]) },
             Habit::Plausible => random.pick(&[highest, highest, lowest]),
+            Habit::Silent | Habit::Mixed => {
+                let habit = random.pick(&[Habit::Old, Habit::Inflated, Habit::Twisted, Habit::Plausible]);
+                self.pair(habit, random, system)
+            }
         }
     }
+}
+
+/// The right tag or counter, mostly.
+fn near(random: &mut Random, right: u32) -> u32 {
+    let wrong = [right.saturating_sub(1), right + 1, 0, HIGHEST];
+    let number = if random.chance(880) { right } else { random.pick(&wrong) };
+    number.min(HIGHEST)
 }

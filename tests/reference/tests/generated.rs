@@ -72,14 +72,14 @@ fn the_quick_test_and_the_slow_one() {
 #[test]
 fn every_fault_is_found_by_chance() {
     for (fault, seed) in [
-        (Fault::OneVariable, 3),
-        (Fault::LateAcknowledgements, 1),
+        (Fault::OneVariable, 8),
+        (Fault::LateAcknowledgements, 9),
         (Fault::ForwardNoted, 1),
         (Fault::InfoAfterShown, 1),
         (Fault::NewestDropped, 1),
         (Fault::TwoFNoted, 1),
         (Fault::FSets, 1),
-        (Fault::FewAcknowledgements, 4),
+        (Fault::FewAcknowledgements, 1),
     ] {
         let find = hunt(Some(fault), seed, 1_000_000).unwrap_or_else(|| panic!("{} is not found", fault.name()));
         let script = shrink(Some(fault), find);

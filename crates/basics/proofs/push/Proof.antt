@@ -1,13 +1,17 @@
 -- `push`: the number moved eight bits up has zeros where the byte goes.
+use Prim.Native.Nat.{ℕ}
+use mathlib.Core.Path.{ap, _∙_}
 use borrow.Author.Needs.{needs}
 use lib.Dec.{lit≤}
 use lib.Pow.{shl-exact}
-use lib.Bits.{or-shifted}
+use lib.Bits.{bitOr, or-shifted}
 use Rattle.basics.proofs.push.Statement.{statement}
 use Rattle.basics.proofs.push.Tie as tie
 
 returns : tie.Need-returns
-returns c = rw (shl-exact 56 8 64 (c .pre) (lit≤ tt), or-shifted (c .args .x) 8 (c .args .b) (search needs))
+returns c =
+    ap (λ (n : ℕ). bitOr n (c .args .b)) (shl-exact 56 8 64 (c .pre) (lit≤ tt))
+    ∙ or-shifted (c .args .x) 8 (c .args .b) (search needs)
 
 pub push-spec : {M : Type 1} → statement M
 push-spec = tie.close (tie.spec returns)

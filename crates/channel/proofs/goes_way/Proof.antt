@@ -1,56 +1,50 @@
+-- `channel::goes_way` meets its contract, arm by arm. Assumes nothing.
 use borrow.Author.Needs.{needs}
+use Rattle.channel.specs.Sound.{goes}
 use Rattle.channel.proofs.goes_way.Statement.{statement}
 use Rattle.channel.proofs.goes_way.Tie as tie
-use Rattle.channel.proofs.goes_way.Reads as reads
-use Rattle.channel.proofs.goes_way.Lts as lts
 
--- src/lib.rt:174:26
 enum-known-m : tie.Need-enum-known-m
 enum-known-m c = search needs
 
--- src/lib.rt:175:23
 enum-known-m-2 : tie.Need-enum-known-m-2
 enum-known-m-2 c = search needs
 
--- src/lib.rt:176:26
 enum-told : tie.Need-enum-told
 enum-told c = search needs
 
--- src/lib.rt:177:28
 enum-known-m-3 : tie.Need-enum-known-m-3
 enum-known-m-3 c = search needs
 
--- src/lib.rt:178:22
 enum-known-m-4 : tie.Need-enum-known-m-4
 enum-known-m-4 c = search needs
 
--- src/lib.rt:179:27
 enum-known-m-5 : tie.Need-enum-known-m-5
 enum-known-m-5 c = search needs
 
--- src/lib.rt:170:1
 returns : tie.Need-returns
-returns c = ?
+unfolding goes
+returns c = simp (c .before .m .given .1)
 
--- src/lib.rt:170:1
 returns-2 : tie.Need-returns-2
-returns-2 c = ?
+unfolding goes
+returns-2 c = simp (c .before .m2 .given .1)
 
--- src/lib.rt:170:1
 returns-3 : tie.Need-returns-3
-returns-3 c = ?
+unfolding goes
+returns-3 c = simp (c .enum-told .given .1)
 
--- src/lib.rt:170:1
 returns-4 : tie.Need-returns-4
-returns-4 c = ?
+unfolding goes
+returns-4 c = simp (c .before .m3 .given .1)
 
--- src/lib.rt:170:1
 returns-5 : tie.Need-returns-5
-returns-5 c = ?
+unfolding goes
+returns-5 c = simp (c .before .m4 .given .1)
 
--- src/lib.rt:170:1
 returns-6 : tie.Need-returns-6
-returns-6 c = ?
+unfolding goes
+returns-6 c = simp (c .before .m5 .given .1)
 
 pub goes-way-spec : {M : Type 1} → statement M
 goes-way-spec =

@@ -55,7 +55,7 @@ loop-again c =
 returns : tie.Need-returns Inv-loop μ-loop
 returns c =
     let e : c .before .loop .j ≡ c .before .before .args .n = omega arith in
-    rw (← e) (c .before .loop .inv .2, c .before .loop .inv .1, c .before .loop .inv .3)
+    rw (← e) (c .before .loop .inv .2, (c .before .loop .inv .1, c .before .loop .inv .3))
 
 pub number-spec : {M : Type 1} → statement M
 number-spec =

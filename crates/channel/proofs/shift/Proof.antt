@@ -47,9 +47,10 @@ unfolding filled
 loop-again c =
     let j = c .before .before .loop .j in
     let at = c .before .before .before .args .at in
-    let b₀ = c .before .before .before .args .b .now in (
+    let b₀ = c .before .before .before .args .b .now in
+    let above = filled-after b₀ at (λ i. getD b₀ (at + 11 + i) 0) j (at + 11 + j) (omega arith) in (
       omega arith,
-      rw (c .before .before .loop .inv .1, add-one, filled-after b₀ at (λ i. getD b₀ (at + 11 + i) 0) j (at + 11 + j) (omega arith)),
+      rw (c .before .before .loop .inv .1, add-one, above),
     )
 
 returns : tie.Need-returns Inv-loop μ-loop

@@ -1,39 +1,44 @@
+-- `channel::slot_goes` meets its contract: the words of the slot are the message of its bytes. Assumes nothing.
+use mathlib.Core.Path.{sym, ap, _∙_}
 use borrow.Author.Needs.{needs}
+use Rattle.message.specs.Layout.{messageOf, wordsNumber}
+use Rattle.message.specs.declared.Words.{Words}
+use Rattle.channel.specs.Sound.{goes}
+use Rattle.channel.proofs.Passing.{words-message}
 use Rattle.channel.proofs.slot_goes.Statement.{statement}
 use Rattle.channel.proofs.slot_goes.Tie as tie
-use Rattle.channel.proofs.slot_goes.Reads as reads
-use Rattle.channel.proofs.slot_goes.Lts as lts
-use Rattle.channel.proofs.goes_way.Reads as goes-way-reads
-use Rattle.channel.proofs.load.Reads as load-reads
-use Rattle.message.proofs.of_words.Reads as of-words-reads
 
--- src/lib.rt:188:47
 load-requires : tie.Need-load-requires
 load-requires c κs = search needs
 
--- src/lib.rt:188:29
 of-words-requires : tie.Need-of-words-requires
 of-words-requires c κs = search needs
 
--- src/lib.rt:188:24
 enum-known-m : tie.Need-enum-known-m
 enum-known-m c = search needs
 
--- src/lib.rt:189:9
 enum-told : tie.Need-enum-told
 enum-told c = search needs
 
--- src/lib.rt:189:9
 returns : tie.Need-returns
-returns c = ?
+unfolding goes
+returns c =
+    let a = c .before .before .before .before .args in
+    let l = c .before .before .before .load .ensures in
+    let is = c .before .before .of-words .ensures ∙ ap (λ (w : Words). messageOf (wordsNumber w)) (l .0)
+    ∙ words-message (a .b .now) (a .at) (l .1) in
+    simp (sym is ∙ c .enum-told .given .1)
 
--- src/lib.rt:191:5
 goes-way-requires : tie.Need-goes-way-requires
 goes-way-requires c κs = search needs
 
--- src/lib.rt:184:1
 returns-2 : tie.Need-returns-2
-returns-2 c = ?
+returns-2 c =
+    let a = c .before .before .before .before .before .before .args in
+    let l = c .before .before .before .before .before .load .ensures in
+    let is = c .before .before .before .before .of-words .ensures ∙ ap (λ (w : Words). messageOf (wordsNumber w)) (l .0)
+    ∙ words-message (a .b .now) (a .at) (l .1) in
+    c .goes-way .ensures ∙ ap (goes (a .down)) (sym (c .before .before .m .given .1) ∙ is)
 
 pub slot-goes-spec : {M : Type 1} → statement M
 slot-goes-spec =

@@ -1,50 +1,68 @@
+-- `channel::slots_go` meets its contract. The loop's invariant: the slots passed go that way. Assumes nothing.
+use Prim.Native.Nat.{ℕ, _+_, _*_, _≤_, _-_}
+use mathlib.Core.Path.{_≡_, refl, sym, _∙_}
+use mathlib.Core.Bool.{Bool, true}
+use mathlib.Core.List.{List}
+use native.Mathlib.Omega.{arith}
+use borrow.Author.Needs.{needs}
+use borrow.Author.Tests.{not-true, not-false}
+use Rattle.basics.specs.Tests.{allBelow}
+use Rattle.basics.proofs.Tests.{below-fails}
+use Rattle.message.specs.Layout.{unpackOf}
+use Rattle.channel.specs.Memory.{bytesAt}
+use Rattle.channel.specs.Sound.{goes}
+use Rattle.channel.proofs.Passing.{more-pass}
 use Rattle.channel.proofs.slots_go.Statement.{statement}
 use Rattle.channel.proofs.slots_go.Tie as tie
-use Rattle.channel.proofs.slots_go.Reads as reads
-use Rattle.channel.proofs.slots_go.Lts as lts
-use Rattle.channel.proofs.slot_goes.Reads as slot-goes-reads
+
+abbrev go : List ℕ → ℕ → Bool → ℕ → Bool
+go b at down s = goes down (unpackOf (bytesAt b (at + s * 11) 11))
 
 abbrev Inv-loop : tie.InvT-loop
-Inv-loop b at n down s₀ s = ?
+Inv-loop b at n down s₀ s = (s ≤ n) × (allBelow (go b at down) s ≡ true)
 
 abbrev μ-loop : tie.MeasureT-loop
-μ-loop b at n down s₀ s = ?
+μ-loop b at n down s₀ s = n - s
 
--- src/lib.rt:200:5
 loop-holds : tie.Need-loop-holds Inv-loop μ-loop
-loop-holds c = ?
+unfolding allBelow
+loop-holds c = (search needs, refl)
 
--- src/lib.rt:201:31
 mul-slot-goes : tie.Need-mul-slot-goes Inv-loop μ-loop
-mul-slot-goes c = ?
+mul-slot-goes c = omega arith
 
--- src/lib.rt:201:26
 add-slot-goes : tie.Need-add-slot-goes Inv-loop μ-loop
-add-slot-goes c = ?
+add-slot-goes c = omega arith
 
--- src/lib.rt:201:13
 slot-goes-requires : tie.Need-slot-goes-requires Inv-loop μ-loop
-slot-goes-requires c κs = ?
+slot-goes-requires c κs = omega arith
 
--- src/lib.rt:202:13
 returns : tie.Need-returns Inv-loop μ-loop
-returns c = ?
+returns c =
+    let a = c .before .before .before .before .args in
+    let s = c .before .before .before .loop .s in
+    sym (below-fails (go (a .b .now) (a .at) (a .down)) (a .n) s (c .before .before .loop-test .taken)
+    (sym (c .before .slot-goes .ensures) ∙ not-true _ (c .if1 .taken)))
 
--- src/lib.rt:204:9
 add-s : tie.Need-add-s Inv-loop μ-loop
-add-s c = ?
+add-s c = omega arith
 
--- src/lib.rt:200:5
 loop-less : tie.Need-loop-less Inv-loop μ-loop
-loop-less c = ?
+loop-less c = omega arith
 
--- src/lib.rt:200:5
 loop-again : tie.Need-loop-again Inv-loop μ-loop
-loop-again c = ?
+loop-again c =
+    let a = c .before .before .before .before .args in
+    let l = c .before .before .before .loop in
+    let passed = sym (c .before .slot-goes .ensures) ∙ not-false _ (c .if1 .left) in (
+      omega arith,
+      more-pass (go (a .b .now) (a .at) (a .down)) (l .s) (l .inv .1) passed,
+    )
 
--- src/lib.rt:195:1
 returns-2 : tie.Need-returns-2 Inv-loop μ-loop
-returns-2 c = ?
+returns-2 c =
+    let e : c .before .loop .s ≡ c .before .before .args .n = omega arith in
+    sym (rw (← e) (c .before .loop .inv .1))
 
 pub slots-go-spec : {M : Type 1} → statement M
 slots-go-spec =

@@ -1,6 +1,6 @@
 -- `channel::spell` meets its contract. The loop's invariant: the first j bytes are stored, and k bits stand behind them.
 -- Assumes nothing.
-use Prim.Native.Nat.{suc, _+_, _*_, _/_, _≤_, _-_}
+use Prim.Native.Nat.{_+_, _*_, _/_, _-_}
 use mathlib.Core.Path.{_≡_, refl, sym, _∙_}
 use lib.ListN.{getD}
 use native.Mathlib.Numerals.{add-one}

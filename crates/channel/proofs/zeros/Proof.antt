@@ -1,41 +1,48 @@
+-- `channel::zeros` meets its contract. The loop's invariant: x is zero where the bytes passed are. Assumes nothing.
+use Prim.Native.Nat.{_≤_, _-_}
+use mathlib.Core.Path.{_≡_, refl, _∙_}
+use native.Mathlib.Numerals.{add-one}
+use native.Mathlib.Omega.{arith}
+use lib.Dec.{eqb}
+use borrow.Author.Needs.{needs}
+use Rattle.basics.specs.Tests.{allBelow}
+use Rattle.channel.specs.Sound.{zeroFrom}
+use Rattle.channel.proofs.Passing.{or-zero}
 use Rattle.channel.proofs.zeros.Statement.{statement}
 use Rattle.channel.proofs.zeros.Tie as tie
-use Rattle.channel.proofs.zeros.Reads as reads
-use Rattle.channel.proofs.zeros.Lts as lts
 
 abbrev Inv-loop : tie.InvT-loop
-Inv-loop b at n j₀ x₀ j x = ?
+Inv-loop b at n j₀ x₀ j x = (j ≤ n) × (eqb x 0 ≡ zeroFrom b at j)
 
 abbrev μ-loop : tie.MeasureT-loop
-μ-loop b at n j₀ x₀ j x = ?
+μ-loop b at n j₀ x₀ j x = n - j
 
--- src/lib.rt:162:5
 loop-holds : tie.Need-loop-holds Inv-loop μ-loop
-loop-holds c = ?
+unfolding allBelow
+loop-holds c = (search needs, refl)
 
--- src/lib.rt:163:19
 add-x : tie.Need-add-x Inv-loop μ-loop
-add-x c = ?
+add-x c = search needs
 
--- src/lib.rt:163:17
 element-copy-out-x : tie.Need-element-copy-out-x Inv-loop μ-loop
-element-copy-out-x c = ?
+element-copy-out-x c = search needs
 
--- src/lib.rt:164:9
 add-j : tie.Need-add-j Inv-loop μ-loop
-add-j c = ?
+add-j c = search needs
 
--- src/lib.rt:162:5
 loop-less : tie.Need-loop-less Inv-loop μ-loop
-loop-less c = ?
+loop-less c = search needs
 
--- src/lib.rt:162:5
 loop-again : tie.Need-loop-again Inv-loop μ-loop
-loop-again c = ?
+unfolding allBelow
+loop-again c =
+    let l = c .before .before .loop in
+    (omega arith, rw add-one (or-zero (l .x) _ ∙ rw (l .inv .1)))
 
--- src/lib.rt:156:1
 returns : tie.Need-returns Inv-loop μ-loop
-returns c = ?
+returns c =
+    let e : c .before .loop .j ≡ c .before .before .args .n = omega arith in
+    rw (← e) (c .before .loop .inv .1)
 
 pub zeros-spec : {M : Type 1} → statement M
 zeros-spec =

@@ -7,6 +7,10 @@ use borrow.Author.Needs.{needs}
 use Rattle.message.proofs.client_of.Statement.{statement}
 use Rattle.message.proofs.client_of.Tie as tie
 
+returns : tie.Need-returns
+unfolding client
+returns c = and-mask (c .before .args .p .0 / 2 ^ 40) 4
+
 cast-result : tie.Need-cast-result
 cast-result c = search needs
 
@@ -15,10 +19,6 @@ shr-result c = search needs
 
 cast-result-2 : tie.Need-cast-result-2
 cast-result-2 c = omega (arith, mask-lt (c .before .args .p .0 / 2 ^ 40) 4)
-
-returns : tie.Need-returns
-unfolding client
-returns c = and-mask (c .before .args .p .0 / 2 ^ 40) 4
 
 pub client-of-spec : {M : Type 1} → statement M
 client-of-spec = tie.close (tie.spec cast-result shr-result cast-result-2 returns)

@@ -42,7 +42,9 @@ if-zero-requires-5 c κs = search needs
 
 returns : tie.Need-returns
 unfolding byWords
-returns c = c .if-zero .ensures ∙ sym (found (c .before .before .before .before .args .w) (omega arith) 1 (c .before .match .keys1))
+returns c =
+    c .if-zero .ensures
+    ∙ sym (found (c .before .before .before .before .args .w) (omega arith) 1 (c .before .match .keys1))
 
 returns-2 : tie.Need-returns-2
 unfolding byWords
@@ -50,15 +52,21 @@ returns-2 c = sym (found (c .before .before .before .args .w) (omega arith) 2 (c
 
 returns-3 : tie.Need-returns-3
 unfolding byWords
-returns-3 c = c .if-zero2 .ensures ∙ sym (found (c .before .before .before .before .args .w) (omega arith) 3 (c .before .match .keys3))
+returns-3 c =
+    c .if-zero2 .ensures
+    ∙ sym (found (c .before .before .before .before .args .w) (omega arith) 3 (c .before .match .keys3))
 
 returns-4 : tie.Need-returns-4
 unfolding byWords
-returns-4 c = c .if-zero3 .ensures ∙ sym (found (c .before .before .before .before .args .w) (omega arith) 4 (c .before .match .keys4))
+returns-4 c =
+    c .if-zero3 .ensures
+    ∙ sym (found (c .before .before .before .before .args .w) (omega arith) 4 (c .before .match .keys4))
 
 returns-5 : tie.Need-returns-5
 unfolding byWords
-returns-5 c = c .if-zero4 .ensures ∙ sym (found (c .before .before .before .before .args .w) (omega arith) 5 (c .before .match .keys5))
+returns-5 c =
+    c .if-zero4 .ensures
+    ∙ sym (found (c .before .before .before .before .args .w) (omega arith) 5 (c .before .match .keys5))
 
 returns-6 : tie.Need-returns-6
 unfolding byWords

@@ -2,6 +2,7 @@
 use mathlib.Core.Path.{_≡_, sym, ap, _∙_}
 use mathlib.Core.Bool.{true}
 use Prim.Native.Nat.{ℕ}
+use native.Mathlib.Omega.{arith}
 use lib.Seq.{sets}
 use borrow.Author.Tests.{not-true, not-false}
 use Rattle.basics.specs.Bytes.{bigEndian}
@@ -23,7 +24,8 @@ returns c =
 returns-2 : tie.Need-returns-2
 returns-2 c =
     let a = c .before .before .before .before .args in
-    short (a .m) (a .out .now) (sym (c .before .before .is-well-formed .ensures) ∙ not-false _ (c .before .if1 .left)) (c .if2 .taken)
+    let w = sym (c .before .before .is-well-formed .ensures) ∙ not-false _ (c .before .if1 .left) in
+    short (a .m) (a .out .now) w (omega arith)
 
 words-of-requires : tie.Need-words-of-requires
 words-of-requires c κs = search needs
@@ -40,7 +42,7 @@ returns-3 c =
     let made = c .before .before .before .before in
     let w : wellFormed (a .m) ≡ true =
     sym (made .before .before .before .is-well-formed .ensures) ∙ not-false _ (made .before .before .if1 .left) in
-    let p = packed (a .m) (a .out .now) w (made .before .if2 .left) in
+    let p = packed (a .m) (a .out .now) w (omega arith) in
     let number : wordsNumber (made .words-of .result) ≡ numberOf (a .m) =
     ap wordsNumber (made .words-of .ensures) ∙ words-number (a .m) in
     (p .0, c .before .before .store .ensures ∙ ap (λ (n : ℕ). sets (a .out .now) 0 (bigEndian 11 n)) number ∙ p .1)

@@ -14,7 +14,7 @@ use Rattle.message.proofs.unpack.Tie as tie
 
 returns : tie.Need-returns
 unfolding unpackOf
-returns c = simp (ne-eqb _ _ (c .if1 .taken))
+returns c = simp (ne-eqb (length (c .before .before .args .s .now)) 11 (λ e. omega arith))
 
 load-requires : tie.Need-load-requires
 load-requires c κs = search needs
@@ -25,7 +25,7 @@ of-words-requires c κs = search needs
 returns-2 : tie.Need-returns-2
 returns-2 c =
     let s = c .before .before .before .before .args .s .now in
-    let eleven : length s ≡ 11 = c .before .before .if1 .left in
+    let eleven : length s ≡ 11 = omega arith in
     let all : take 11 s ≡ s = take-all 11 s (omega arith) in
     let bytes = are-bytes s (λ i. omega (arith, c .before .before .before .shared-slice-known .given i)) in
     c .of-words .ensures ∙ ap (λ (w : Words). messageOf (wordsNumber w)) (c .before .load .ensures)

@@ -60,16 +60,22 @@ returns : tie.Need-returns
 returns c = words-are _ _ _ (c .head .ensures) refl ∙ ap wordsOf (sym (c .before .before .m .given .1))
 
 returns-2 : tie.Need-returns-2
-returns-2 c = words-are _ _ _ (c .head2 .ensures) (sym (mod-eq-of-lt (omega arith))) ∙ ap wordsOf (sym (c .before .before .m2 .given .1))
+returns-2 c =
+    words-are _ _ _ (c .head2 .ensures) (sym (mod-eq-of-lt (omega arith)))
+    ∙ ap wordsOf (sym (c .before .before .m2 .given .1))
 
 returns-3 : tie.Need-returns-3
 returns-3 c = words-are _ _ _ (c .head3 .ensures) refl ∙ ap wordsOf (sym (c .before .enum-told .given .1))
 
 returns-4 : tie.Need-returns-4
-returns-4 c = words-are _ _ _ (c .head4 .ensures) (sym (mod-eq-of-lt (omega arith))) ∙ ap wordsOf (sym (c .before .before .m3 .given .1))
+returns-4 c =
+    words-are _ _ _ (c .head4 .ensures) (sym (mod-eq-of-lt (omega arith)))
+    ∙ ap wordsOf (sym (c .before .before .m3 .given .1))
 
 returns-5 : tie.Need-returns-5
-returns-5 c = words-are _ _ _ (c .head5 .ensures) (sym (mod-eq-of-lt (omega arith))) ∙ ap wordsOf (sym (c .before .before .m4 .given .1))
+returns-5 c =
+    words-are _ _ _ (c .head5 .ensures) (sym (mod-eq-of-lt (omega arith)))
+    ∙ ap wordsOf (sym (c .before .before .m4 .given .1))
 
 returns-6 : tie.Need-returns-6
 returns-6 c =

@@ -18,7 +18,8 @@ use Rattle.basics.specs.Tests.{allBelow}
 use Rattle.register.specs.declared.Answer.the-variants.{Read, Wrote}
 use Rattle.register.specs.Settings.{Settings, Accepted, inRange, setupRefusal}
 use Rattle.register.specs.Steps.{Step, R, W, K, D, L}
-use Rattle.register.proofs.Runs.{answers, went, theEntry, formats, pairBy}
+use Rattle.register.specs.Formats.{formats}
+use Rattle.register.proofs.Runs.{answers, went, theEntry, pairBy}
 
 -- S 1 3 0001
 abbrev pub four : Settings

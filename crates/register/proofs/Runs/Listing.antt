@@ -9,7 +9,8 @@ use Rattle.basics.specs.Tests.{allBelow}
 use Rattle.register.specs.declared.Answer.the-variants.{Went, Read, Wrote}
 use Rattle.register.specs.Settings.{Settings, Accepted, inRange, setupRefusal}
 use Rattle.register.specs.Steps.{Step, R, W, K, D}
-use Rattle.register.proofs.Runs.{answers, theEntry, formats, pairBy}
+use Rattle.register.specs.Formats.{formats}
+use Rattle.register.proofs.Runs.{answers, theEntry, pairBy}
 
 -- S 0 1 0
 abbrev alone : Settings

@@ -16,7 +16,8 @@ use Rattle.refusal.specs.declared.Refusal.the-variants as no
 use Rattle.register.specs.declared.Answer.the-variants.{Went, Read, Wrote, Refused}
 use Rattle.register.specs.Settings.{Settings, Accepted, inRange, setupRefusal}
 use Rattle.register.specs.Steps.{Step, R, W, K, D, C, L}
-use Rattle.register.proofs.Runs.{answers, went, theEntry, formats, pairBy}
+use Rattle.register.specs.Formats.{formats}
+use Rattle.register.proofs.Runs.{answers, went, theEntry, pairBy}
 
 -- S 1 2 0001
 abbrev four : Settings

@@ -25,7 +25,8 @@ use Rattle.register.specs.Steps.{Step}
 use Rattle.register.specs.History.{answerAt, WriteBegins, AnswersRead, AnswersWrite, ReadEnds, WriteEnds}
 use Rattle.register.specs.History.{Sends}
 use Rattle.register.specs.DemandThree.{Earlier, Row}
-use Rattle.register.proofs.Runs.{answers, theEntry, formats, pairBy}
+use Rattle.register.specs.Formats.{formats}
+use Rattle.register.proofs.Runs.{answers, theEntry, pairBy}
 use Rattle.register.proofs.Runs.Disagree.{four, first, early, second, late}
 
 abbrev steps : List Step

@@ -54,7 +54,8 @@ returns-3 c =
 returns-4 : tie.Need-returns-4
 returns-4 c =
     let st = c .before .before in
-    other (st .args .s) (st .args .d) (st .pre .0) (st .pre .1) (st .pre .2) (st .args .m) (others (st .args .m) (c .match .keys4))
+    other (st .args .s) (st .args .d) (st .pre .0) (st .pre .1) (st .pre .2) (st .args .m)
+    (others (st .args .m) (c .match .keys4))
 
 pub after-spec : {M : Type 1} → statement M
 after-spec =

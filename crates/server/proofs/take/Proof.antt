@@ -2,7 +2,6 @@
 use mathlib.Core.Path.{_≡_, sym, ap, _∙_}
 use mathlib.Core.Bool.{true}
 use mathlib.Core.Logic.{⊎-elim}
-use native.Mathlib.Omega.{arith}
 use borrow.Author.Needs.{needs}
 use borrow.Author.Tests.{lt-ltb, le-ltb, ltb-true, ltb-false, not-true, not-false}
 use Rattle.server.specs.State.{sound}
@@ -10,12 +9,6 @@ use Rattle.server.specs.Taking.{isRequest, served}
 use Rattle.server.proofs.Outcomes.{unsound, nobody-low, nobody-high, malformed, taken}
 use Rattle.server.proofs.take.Statement.{statement}
 use Rattle.server.proofs.take.Tie as tie
-use Rattle.server.proofs.take.Reads as reads
-use Rattle.server.proofs.take.Lts as lts
-use Rattle.message.proofs.unpack.Reads as unpack-reads
-use Rattle.server.proofs.after.Reads as after-reads
-use Rattle.server.proofs.is_taken.Reads as is-taken-reads
-use Rattle.server.proofs.refused.Reads as refused-reads
 
 refused-requires : tie.Need-refused-requires
 refused-requires c κs = search needs
@@ -33,10 +26,11 @@ returns-2 : tie.Need-returns-2
 unfolding sound
 returns-2 c =
     let a = c .before .before .before .before .before .args in
-    let few : sound (a .s) ≡ true = lt-ltb _ _ (c .before .before .if1 .left) in
+    let h : sound (a .s) ≡ true = lt-ltb _ _ (c .before .before .if1 .left) in
     c .refused2 .ensures
-    ∙ sym (⊎-elim (λ w. nobody-low (a .s) (a .d) (a .bytes .now) few (w .taken))
-    (λ w. nobody-high (a .s) (a .d) (a .bytes .now) few (w .0 .left) (ltb-true 6 (a .d) (w .1 .taken))) (c .before .if2 .came))
+    ∙ sym (⊎-elim (λ w. nobody-low (a .s) (a .d) (a .bytes .now) h (w .taken))
+    (λ w. nobody-high (a .s) (a .d) (a .bytes .now) h (w .0 .left) (ltb-true 6 (a .d) (w .1 .taken)))
+    (c .before .if2 .came))
 
 unpack-requires : tie.Need-unpack-requires
 unpack-requires c κs = search needs
@@ -50,15 +44,17 @@ enum-told c = search needs
 refused-requires-3 : tie.Need-refused-requires-3
 refused-requires-3 c κs = search needs
 
+-- in these, e is the place behind the test of the sender
 returns-3 : tie.Need-returns-3
 unfolding sound isRequest
 returns-3 c =
-    let a = c .before .before .before .before .before .before .before .before .before .args in
-    let few : sound (a .s) ≡ true = lt-ltb _ _ (c .before .before .before .before .before .before .if1 .left) in
+    let e = c .before .before .before .before in
+    let a = e .before .before .before .before .before .args in
+    let h : sound (a .s) ≡ true = lt-ltb _ _ (e .before .before .if1 .left) in
     let bad = sym (c .before .before .before .unpack .ensures) ∙ c .before .enum-told .given .1 in
     c .refused3 .ensures
-    ∙ sym (malformed (a .s) (a .d) (a .bytes .now) few (c .before .before .before .before .before .if2 .left)
-    (ltb-false 6 (a .d) (c .before .before .before .before .if3 .left)) (ap isRequest bad))
+    ∙ sym (malformed (a .s) (a .d) (a .bytes .now) h (e .before .if2 .left) (ltb-false 6 (a .d) (e .if3 .left))
+    (ap isRequest bad))
 
 is-taken-requires : tie.Need-is-taken-requires
 is-taken-requires c κs = search needs
@@ -69,13 +65,14 @@ refused-requires-4 c κs = search needs
 returns-4 : tie.Need-returns-4
 unfolding sound
 returns-4 c =
-    let a = c .before .before .before .before .before .before .before .before .before .before .before .before .args in
-    let few : sound (a .s) ≡ true = lt-ltb _ _ (c .before .before .before .before .before .before .before .before .before .if1 .left) in
+    let e = c .before .before .before .before .before .before .before in
+    let a = e .before .before .before .before .before .args in
+    let h : sound (a .s) ≡ true = lt-ltb _ _ (e .before .before .if1 .left) in
     let good = sym (c .before .before .before .before .before .before .unpack .ensures) ∙ c .before .before .before .before .m .given .1 in
     let other = sym (c .before .before .is-taken .ensures) ∙ not-true _ (c .before .if4 .taken) in
     c .refused4 .ensures
-    ∙ sym (malformed (a .s) (a .d) (a .bytes .now) few (c .before .before .before .before .before .before .before .before .if2 .left)
-    (ltb-false 6 (a .d) (c .before .before .before .before .before .before .before .if3 .left)) (ap isRequest good ∙ other))
+    ∙ sym (malformed (a .s) (a .d) (a .bytes .now) h (e .before .if2 .left) (ltb-false 6 (a .d) (e .if3 .left))
+    (ap isRequest good ∙ other))
 
 cast-after : tie.Need-cast-after
 cast-after c = search needs
@@ -83,20 +80,21 @@ cast-after c = search needs
 after-requires : tie.Need-after-requires
 unfolding sound
 after-requires c κs =
-    (lt-ltb _ _ (c .before .before .before .before .before .before .before .before .if1 .left), c .before .before .before .before .before .before .before .if2 .left,
-    ltb-false 6 _ (c .before .before .before .before .before .before .if3 .left))
+    let e = c .before .before .before .before .before .before in
+    (lt-ltb _ _ (e .before .before .if1 .left), e .before .if2 .left, ltb-false 6 _ (e .if3 .left))
 
 returns-5 : tie.Need-returns-5
 unfolding sound
 returns-5 c =
-    let a = c .before .before .before .before .before .before .before .before .before .before .before .before .before .args in
-    let few : sound (a .s) ≡ true = lt-ltb _ _ (c .before .before .before .before .before .before .before .before .before .before .if1 .left) in
-    let m = c .before .before .before .before .before .m .given .0 .0 in
-    let good = sym (c .before .before .before .before .before .before .before .unpack .ensures) ∙ c .before .before .before .before .before .m .given .1 in
+    let e = c .before .before .before .before .before .before .before .before in
+    let a = e .before .before .before .before .before .args in
+    let h : sound (a .s) ≡ true = lt-ltb _ _ (e .before .before .if1 .left) in
+    let m = c .before .before .before .before .before .m .given in
+    let good = sym (c .before .before .before .before .before .before .before .unpack .ensures) ∙ m .1 in
     let one = sym (c .before .before .before .is-taken .ensures) ∙ not-false _ (c .before .before .if4 .left) in
     ap served (c .before .after .ensures)
-    ∙ sym (taken (a .s) (a .d) (a .bytes .now) few (c .before .before .before .before .before .before .before .before .before .if2 .left)
-    (ltb-false 6 (a .d) (c .before .before .before .before .before .before .before .before .if3 .left)) m good one)
+    ∙ sym (taken (a .s) (a .d) (a .bytes .now) h (e .before .if2 .left) (ltb-false 6 (a .d) (e .if3 .left))
+    (m .0 .0) good one)
 
 pub take-spec : {M : Type 1} → statement M
 take-spec =

@@ -1,0 +1,40 @@
+-- Demand 3, with this repository's formats: for every accepted setting and every list of steps.
+--
+-- Why: the theorem asks two laws of the formats. A licence entry has 40 bits, and what unpacks is well formed, so its fields are
+-- in their widths.
+-- Assumes nothing.
+use mathlib.Core.Path.{_≡_}
+use mathlib.Core.Bool.{true}
+use mathlib.Core.List.{List}
+use Prim.Native.Nat.{_^_}
+use lib.Dec.{ltb}
+use borrow.Author.Tests.{ltb-true}
+use Rattle.basics.proofs.Cases.{both}
+use Rattle.licence.proofs.Entries.{is-licence-small}
+use Rattle.message.specs.declared.Message.{Message}
+use Rattle.message.specs.declared.Message.the-variants.{GetInfo, Info, Done, WriteInfo, Fwd, WriteAck}
+use Rattle.message.specs.Layout.{wellFormed}
+use Rattle.message.proofs.RoundTrip.{pack-unpack}
+use Rattle.register.specs.Settings.{Settings, Accepted}
+use Rattle.register.specs.Steps.{Step}
+use Rattle.register.specs.Formats.{formats, DemandThree}
+use Rattle.register.proofs.Lawful.{FieldsFit, Lawful}
+use Rattle.register.proofs.Theorem.{demand-three}
+
+fields-fit : (m : Message) → wellFormed m ≡ true → FieldsFit m
+unfolding wellFormed
+fields-fit (GetInfo t) h = ltb-true (t .0) (2 ^ 20) h
+fields-fit (Info t p) h =
+    let b = both (ltb (t .0) (2 ^ 20)) (ltb (p .0) (2 ^ 64)) h in
+    (ltb-true (t .0) (2 ^ 20) (b .0), ltb-true (p .0) (2 ^ 64) (b .1))
+fields-fit Done h = tt
+fields-fit (WriteInfo p) h = ltb-true (p .0) (2 ^ 64) h
+fields-fit (Fwd p) h = ltb-true (p .0) (2 ^ 64) h
+fields-fit (WriteAck c) h = ltb-true (c .0) (2 ^ 20) h
+
+pub lawful : Lawful formats
+lawful =
+    record { small = λ e h. is-licence-small (e .0) h; fits = λ bytes m e. fields-fit m (pack-unpack bytes m e .within) }
+
+pub holds-always : (S : Settings) → Accepted S → (steps : List Step) → DemandThree S steps
+holds-always S accepted steps = demand-three formats lawful S accepted steps

@@ -1,0 +1,57 @@
+-- The marked proof sheets of 01 as one table, `Sheets`, whose proof is computed from the definitions (proofs/Sheets.antt).
+--
+-- In order: entries; days; messages; all of them. The sheets of clients and servers will be records beside these.
+-- Assumes nothing.
+use mathlib.Core.Path.{_≡_}
+use Prim.Native.Nat.{ℕ}
+use mathlib.Core.List.{[], _∷_}
+use lib.IntN.{negsuc}
+use Rattle.calendar.specs.Calendar.{dayNumber}
+use Rattle.calendar.specs.declared.DayNumber.the-variants.{Day}
+use Rattle.licence.specs.declared.Fields.{Fields}
+use Rattle.licence.specs.declared.Joined.{Joined}
+use Rattle.licence.specs.declared.Kind.the-variants.{Nothing}
+use Rattle.licence.specs.declared.Renewal.{Renewal}
+use Rattle.licence.specs.declared.DaysLeft.{DaysLeft}
+use Rattle.licence.specs.declared.Verdict.the-variants.{Pulp}
+use Rattle.licence.specs.Entry.{joined, joinedOf, kindOf, opened}
+use Rattle.licence.specs.Renewal.{renewedOf}
+use Rattle.licence.specs.Verdict.{daysLeft, verdictOf}
+use Rattle.message.specs.declared.Message.the-variants.{WriteInfo}
+use Rattle.message.specs.Pair.{pairOf}
+use Rattle.message.specs.Layout.{bytesOf}
+
+-- an open licence of 40 copies that ends on a date
+abbrev pub ending : ℕ → ℕ → ℕ → Fields
+ending y m d = record { year = y; month = m; day = d; copies = 40; state = opened }
+
+-- entries and renewals
+pub record Entries : Type 0 where
+  -- 29 February 2024, 40 copies, open is 7E82E80141
+  pub packed : joinedOf (ending 2024 2 29) ≡ Joined.Entry 0x7E82E80141
+  -- 7E92E80141 (2025) is no entry
+  pub other-year : kindOf 0x7E92E80141 ≡ Nothing
+  -- it renewed by 1 ends 28 February 2025; by 4, 29 February 2028
+  pub renewed-by-1 : renewedOf 0x7E82E80141 1 ≡ Renewal.Entry (joined (ending 2025 2 28))
+  pub renewed-by-4 : renewedOf 0x7E82E80141 4 ≡ Renewal.Entry (joined (ending 2028 2 29))
+
+-- day numbers, days left, verdicts
+pub record Days : Type 0 where
+  -- 29 February 2024 is day 45,350; 31 December 2199 is day 109,573
+  pub leap-day : dayNumber 2024 2 29 ≡ Day 45350
+  pub last-day : dayNumber 2199 12 31 ≡ Day 109573
+  -- ending 29 February 2024, on 1 March 2024 days left are −1: pulp
+  pub left-after : daysLeft 0x7E82E80141 2024 3 1 ≡ DaysLeft.Days (negsuc 0)
+  pub verdict-after : verdictOf 0x7E82E80141 2024 3 1 ≡ Pulp
+
+-- messages
+pub record Messages : Type 0 where
+  -- WRITE_INFO of 7E82E80141, counter 1, client 1, is 4000000000117E82E80141
+  pub write-info : bytesOf (WriteInfo (pairOf (record { 0 = 1 }) 1 (record { 0 = 0x7E82E80141 })))
+      ≡ 0x40 ∷ 0x00 ∷ 0x00 ∷ 0x00 ∷ 0x00 ∷ 0x11 ∷ 0x7E ∷ 0x82 ∷ 0xE8 ∷ 0x01 ∷ 0x41 ∷ []
+
+-- the table
+pub record Sheets : Type 0 where
+  pub entries : Entries
+  pub days : Days
+  pub messages : Messages
