@@ -129,7 +129,8 @@ module _ (r : Run) (n d : ℕ) (client : isClient (r .S) d ≡ true) (works : wo
       many (λ j. has p (self .sets j))
       (λ j h. member-has p (self .sets j)
       (subst (λ (q : Pair). Member q (self .sets j)) (one-pair j k h (one .left)) (heard reading j h .held))) in
-      chosen-none (servers (r .S)) (r .S .f) self d (still r n d .undecided reading) (not-failing _ (λ e. omega (arith, leb-false))) p
+      chosen-none (servers (r .S)) (r .S .f) self d (still r n d .undecided reading)
+      (not-failing _ (λ e. omega (arith, leb-false))) p
       (record { server = k; low = one .low; high = one .high; member = heard reading k (one .left) .held })
       (record {
         notOld = not-failing _ (λ e. omega (arith, leb-false));

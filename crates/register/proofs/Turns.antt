@@ -2,7 +2,7 @@
 --
 -- Six cases: the phase stays, and the client answers and sends nothing; it opens a read or a write; it shows
 -- its choice; its write is spent; its write sends; its write ends. Each says what the step answers, so that
--- operations can be followed from their beginning to their end (`Operations`).
+-- operations can be followed from their beginning to their end (`ReadStatus`, `WriteStatus`, `Open`).
 -- Assumes nothing.
 use mathlib.Core.Path.{_≡_, refl, sym, ap, subst}
 use mathlib.Core.Bool.{true, false}

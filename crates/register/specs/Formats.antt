@@ -3,7 +3,7 @@
 use mathlib.Core.List.{List}
 use Rattle.licence.specs.Entry.{isLicence}
 use Rattle.message.specs.Layout.{unpackOf}
-use Rattle.register.specs.Settings.{Settings, Accepted}
+use Rattle.register.specs.Settings.{Settings}
 use Rattle.register.specs.Steps.{Step, Formats}
 use Rattle.register.specs.DemandThree.{Holds}
 

@@ -78,6 +78,7 @@ pub fn after(s: Server, d: u8, m: Message) -> Served
     let pair = s.pair;
     let readers = s.readers;
     let bit: u8 = 1 << (d - 1);
+    let others = 63 - bit;
     match m {
         Message::GetInfo(n) => Served {
             server: Server {
@@ -89,17 +90,20 @@ pub fn after(s: Server, d: u8, m: Message) -> Served
         Message::Done => Served {
             server: Server {
                 pair: pair,
-                readers: readers & (63 - bit),
+                readers: readers & others,
             },
             sends: Sends::Nothing,
         },
-        Message::WriteInfo(p) => Served {
-            server: Server {
-                pair: higher(pair, p),
-                readers: readers,
-            },
-            sends: Sends::Forward(readers, p),
-        },
+        Message::WriteInfo(p) => {
+            let kept = higher(pair, p);
+            Served {
+                server: Server {
+                    pair: kept,
+                    readers: readers,
+                },
+                sends: Sends::Forward(readers, p),
+            }
+        }
         _ => Served {
             server: s,
             sends: Sends::Nothing,
@@ -120,11 +124,11 @@ fn is_taken(m: Message) -> bool
 }
 
 // A refusal leaves the server as it was.
-fn refused(s: Server, r: Refusal) -> Taken
-    ensures { λ t. ⌜ t ≡ unchanged s r ⌝ }
+fn refused(old: Server, r: Refusal) -> Taken
+    ensures { λ t. ⌜ t ≡ unchanged old r ⌝ }
 {
     Taken {
-        server: s,
+        server: old,
         outcome: Outcome::Refused(r),
     }
 }

@@ -6,9 +6,12 @@ use Rattle.licence.specs.Entry.{isLicensed, isLicence, kindOf, joinedOf}
 use Rattle.licence.specs.Renewal.{span, keptDay, later, isRenewable, renewedOf}
 use Rattle.licence.specs.Verdict.{daysLeft, verdictBy, verdictOf}
 use Rattle.basics.specs.Bytes.{bigEndian}
-use Rattle.message.specs.Pair.{counter, client, entry, pairOf}
+use Rattle.basics.specs.Counting.{count}
+use Rattle.message.specs.Pair.{counter, client, entry, stamp, pairOf}
 use Rattle.message.specs.Layout.{numberOf}
-use Rattle.sheets.specs.Sheets.{Entries, Days, Messages, Sheets}
+use Rattle.register.specs.PairSet.{insert, add, has}
+use Rattle.register.specs.Client.{isAtMost, notOld, valid, counts}
+use Rattle.sheets.specs.Sheets.{Entries, Days, Messages, Counting, Sheets}
 
 entries : Entries
 unfolding leap monthLength isDate isLicensed isLicence kindOf joinedOf span keptDay later isRenewable renewedOf
@@ -22,5 +25,9 @@ messages : Messages
 unfolding bigEndian counter client entry pairOf numberOf
 messages = record { write-info = refl }
 
+counting : Counting
+unfolding count stamp pairOf insert add has isAtMost notOld valid counts
+counting = record { two-sets = refl; newer-noted = refl; one-set = refl; adding-4 = refl; adding-2 = refl }
+
 pub sheets : Sheets
-sheets = record { entries = entries; days = days; messages = messages }
+sheets = record { entries = entries; days = days; messages = messages; counting = counting }

@@ -1,11 +1,15 @@
 -- The marked proof sheets of 01 as one table, `Sheets`, whose proof is computed from the definitions (proofs/Sheets.antt).
 --
--- In order: entries; days; messages; all of them. The sheets of clients and servers will be records beside these.
+-- In order: entries; days; messages; what counts, and what a set keeps; all of them.
 -- Assumes nothing.
 use mathlib.Core.Path.{_≡_}
 use Prim.Native.Nat.{ℕ}
-use mathlib.Core.List.{[], _∷_}
+use mathlib.Core.Bool.{true, false, cond}
+use mathlib.Core.List.{List, [], _∷_, map}
+use mathlib.Core.Option.{none, some}
+use lib.Dec.{leb}
 use lib.IntN.{negsuc}
+use lib.ListN.{getD}
 use Rattle.calendar.specs.Calendar.{dayNumber}
 use Rattle.calendar.specs.declared.DayNumber.the-variants.{Day}
 use Rattle.licence.specs.declared.Fields.{Fields}
@@ -18,8 +22,13 @@ use Rattle.licence.specs.Entry.{joined, joinedOf, kindOf, opened}
 use Rattle.licence.specs.Renewal.{renewedOf}
 use Rattle.licence.specs.Verdict.{daysLeft, verdictOf}
 use Rattle.message.specs.declared.Message.the-variants.{WriteInfo}
-use Rattle.message.specs.Pair.{pairOf}
+use Rattle.message.specs.declared.Pair.{Pair}
+use Rattle.message.specs.Pair.{pairOf, stamp}
 use Rattle.message.specs.Layout.{bytesOf}
+use Rattle.register.specs.declared.Phase.the-variants.{Reading}
+use Rattle.register.specs.Thresholds.{size}
+use Rattle.register.specs.PairSet.{add}
+use Rattle.register.specs.Client.{Client, counts, setLimit}
 
 -- an open licence of 40 copies that ends on a date
 abbrev pub ending : ℕ → ℕ → ℕ → Fields
@@ -50,8 +59,40 @@ pub record Messages : Type 0 where
   pub write-info : bytesOf (WriteInfo (pairOf (record { 0 = 1 }) 1 (record { 0 = 0x7E82E80141 })))
       ≡ 0x40 ∷ 0x00 ∷ 0x00 ∷ 0x00 ∷ 0x00 ∷ 0x11 ∷ 0x7E ∷ 0x82 ∷ 0xE8 ∷ 0x01 ∷ 0x41 ∷ []
 
+-- the pair of a counter, a client and the entry of these sheets; pairs of client 1
+abbrev pub pairBy : ℕ → ℕ → Pair
+pairBy c d = pairOf (record { 0 = c }) d (record { 0 = 0x7E82E80141 })
+
+abbrev pub pairs : List ℕ → List Pair
+pairs l = map (λ c. pairBy c 1) l
+
+-- a client that reads, with the timestamps of these pairs noted of the servers 1, 2 and 3, and the pair (1, 1) in the sets of the
+-- servers 1 to m
+abbrev pub heard : Pair → Pair → Pair → ℕ → Client
+heard p q r m =
+    record {
+      phase = Reading;
+      reads = record { 0 = 1 };
+      noted = λ k. getD (none ∷ some (stamp p) ∷ some (stamp q) ∷ some (stamp r) ∷ []) k none;
+      sets = λ k. cond (leb k m) (pairs (1 ∷ [])) [];
+      acks = λ k. false;
+    }
+
+-- what counts at f = 1, and what a set keeps
+pub record Counting : Type 0 where
+  -- noted (1,1), (1,1), (0,0), pair (1,1) in two sets: counts
+  pub two-sets : counts (size 1) 1 1 (heard (pairBy 1 1) (pairBy 1 1) (pairBy 0 0) 2) (pairBy 1 1) ≡ true
+  -- noted (2,2), (1,1), (0,0): it does not
+  pub newer-noted : counts (size 1) 1 1 (heard (pairBy 2 2) (pairBy 1 1) (pairBy 0 0) 2) (pairBy 1 1) ≡ false
+  -- in one set only: it does not
+  pub one-set : counts (size 1) 1 1 (heard (pairBy 1 1) (pairBy 1 1) (pairBy 0 0) 1) (pairBy 1 1) ≡ false
+  -- set with counters 3, 5, 6, 9 of client 1: adding 4 drops 3; adding 2 changes nothing
+  pub adding-4 : add setLimit (pairBy 4 1) (pairs (3 ∷ 5 ∷ 6 ∷ 9 ∷ [])) ≡ pairs (4 ∷ 5 ∷ 6 ∷ 9 ∷ [])
+  pub adding-2 : add setLimit (pairBy 2 1) (pairs (3 ∷ 5 ∷ 6 ∷ 9 ∷ [])) ≡ pairs (3 ∷ 5 ∷ 6 ∷ 9 ∷ [])
+
 -- the table
 pub record Sheets : Type 0 where
   pub entries : Entries
   pub days : Days
   pub messages : Messages
+  pub counting : Counting

@@ -1,9 +1,11 @@
 -- `channel::channel_sound` meets its contract: each return is one of the channel's tests, in their order. Assumes nothing.
-use Prim.Native.Nat.{_+_, _*_}
-use mathlib.Core.Path.{sym, _∙_}
+use Prim.Native.Nat.{_+_, _-_, _*_}
+use mathlib.Core.Path.{_≡_, sym, _∙_}
+use mathlib.Core.Bool.{true, false}
 use borrow.Author.Needs.{needs}
 use borrow.Author.Tests.{le-leb, lt-leb, not-true, not-false}
-use Rattle.channel.specs.Memory.{countAt}
+use Rattle.basics.specs.Tests.{allBelow}
+use Rattle.channel.specs.Memory.{countAt, bytesAt}
 use Rattle.channel.specs.Sound.{channelTests, slotTest, zeroFrom}
 use Rattle.channel.proofs.Passing.{empty-sound, and-true}
 use Rattle.channel.proofs.channel_sound.Statement.{statement}
@@ -42,10 +44,11 @@ returns-3 : tie.Need-returns-3
 unfolding channelTests
 returns-3 c =
     let a = c .before .before .before .before .before .before .args in
-    rw (
-      le-leb (countAt (a .b .now) (a .i)) 8 (c .before .before .if2 .left),
-      sym (c .before .slots-go .ensures) ∙ not-true _ (c .if3 .taken),
-    )
+    let k = countAt (a .b .now) (a .i) in
+    let few = le-leb k 8 (c .before .before .if2 .left) in
+    let bad : allBelow (λ s. slotTest (a .i) (bytesAt (a .b .now) (a .i * 89 + 1 + s * 11) 11)) k ≡ false =
+    sym (c .before .slots-go .ensures) ∙ not-true _ (c .if3 .taken) in
+    rw (few, bad)
 
 add-zeros : tie.Need-add-zeros
 add-zeros c = search needs
@@ -71,9 +74,10 @@ returns-4 c =
     let a = c .before .before .before .before .before .before .before .args in
     let k = countAt (a .b .now) (a .i) in
     let few = le-leb k 8 (c .before .before .before .if2 .left) in
-    let used = sym (c .before .before .slots-go .ensures) ∙ not-false _ (c .before .if3 .left) in
+    let used : allBelow (λ s. slotTest (a .i) (bytesAt (a .b .now) (a .i * 89 + 1 + s * 11) 11)) k ≡ true =
+    sym (c .before .before .slots-go .ensures) ∙ not-false _ (c .before .if3 .left) in
     rw (few, used)
-    (c .zeros2 .ensures ∙ sym (and-true (zeroFrom (a .b .now) (a .i * 89 + 1 + k * 11) _)))
+    (c .zeros2 .ensures ∙ sym (and-true (zeroFrom (a .b .now) (a .i * 89 + 1 + k * 11) (88 - k * 11))))
 
 pub channel-sound-spec : {M : Type 1} → statement M
 channel-sound-spec =

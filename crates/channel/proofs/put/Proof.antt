@@ -1,9 +1,15 @@
 -- `channel::put` meets its contract: the two words stored one behind the other are the message's eleven bytes (`words-stored`).
 -- Assumes nothing.
+use mathlib.Core.Path.{_≡_, ap, _∙_}
+use mathlib.Core.Bool.{true}
+use mathlib.Core.List.{List}
+use lib.Dec.{ltb}
+use lib.ListN.{getD}
 use borrow.Author.Needs.{needs}
 use borrow.Author.Tests.{lt-ltb, le-ltb}
-use Prim.Native.Nat.{_+_, _*_}
-use Rattle.channel.specs.Memory.{putOn, countAt}
+use Prim.Native.Nat.{ℕ, _+_, _*_}
+use Rattle.basics.specs.Bytes.{bigEndian}
+use Rattle.channel.specs.Memory.{putOn, countAt, filled}
 use Rattle.channel.proofs.Words.{words-stored}
 use Rattle.channel.proofs.put.Statement.{statement}
 use Rattle.channel.proofs.put.Tie as tie
@@ -48,10 +54,14 @@ returns : tie.Need-returns
 unfolding putOn
 returns c =
     let a = c .before .before .before .before .before .before .before .args in
-    let at = a .i * 89 + 1 + countAt (a .b .now) (a .i) * 11 in
-    let words = words-stored (a .b .now) at (a .w .0) (a .w .1) (search needs) in
-    let room = lt-ltb _ _ (c .before .before .before .before .before .if1 .taken) in
-    rw (room, c .spell2 .ensures, c .before .before .spell .ensures, words)
+    let k = countAt (a .b .now) (a .i) in
+    let at = a .i * 89 + 1 + k * 11 in
+    let room : ltb k 8 ≡ true = lt-ltb k 8 (c .before .before .before .before .before .if1 .taken) in
+    let stored =
+    c .spell2 .ensures
+    ∙ ap (λ (x : List ℕ). filled x (at + 3) (λ j. getD (bigEndian 8 (a .w .1)) j 0) 8) (c .before .before .spell .ensures)
+    ∙ words-stored (a .b .now) at (a .w .0) (a .w .1) (search needs) in
+    rw (room, stored)
 
 returns-2 : tie.Need-returns-2
 unfolding putOn

@@ -15,16 +15,16 @@ sub-bit c = search needs
 shl-bit : tie.Need-shl-bit
 shl-bit c = search needs
 
+sub-others : tie.Need-sub-others
+sub-others c =
+    let st = c .before in
+    omega (arith, bit-lt (st .args .s .readers) (st .args .d) (few (st .args .s) (st .pre .0)) (st .pre .1) (st .pre .2))
+
 enum-known-m : tie.Need-enum-known-m
 enum-known-m c = search needs
 
 enum-told : tie.Need-enum-told
 enum-told c = search needs
-
-sub-t14 : tie.Need-sub-t14
-sub-t14 c =
-    let st = c .before .before .before in
-    omega (arith, bit-lt (st .args .s .readers) (st .args .d) (few (st .args .s) (st .pre .0)) (st .pre .1) (st .pre .2))
 
 enum-known-m-2 : tie.Need-enum-known-m-2
 enum-known-m-2 c = search needs
@@ -63,9 +63,9 @@ after-spec =
     (tie.spec
     sub-bit
     shl-bit
+    sub-others
     enum-known-m
     enum-told
-    sub-t14
     enum-known-m-2
     higher-requires
     returns

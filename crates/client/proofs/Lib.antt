@@ -1,0 +1,11 @@
+pub mod Facts
+pub mod Shown
+pub mod Outcomes
+pub mod Others
+pub mod Taking
+pub mod Starting
+pub mod Fitting
+pub mod Keeping
+pub mod Ladders
+pub mod Laws
+pub mod Steadiness

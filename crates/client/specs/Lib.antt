@@ -1,0 +1,5 @@
+pub mod State
+pub mod Sound
+pub mod Sends
+pub mod Entry
+pub mod Kinds

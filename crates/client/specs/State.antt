@@ -1,0 +1,19 @@
+-- The client end's state (01: desk): the client by value and the memory that it is lent, and the model's client
+-- that the two show.
+--
+-- In order: what a state shows; the state of what a model's client holds. That a sound state is the state of what
+-- it shows, and that the model's client is shown again by its state, is proved in proofs/Views.
+-- Assumes nothing.
+use Prim.Native.Nat.{ℕ}
+use mathlib.Core.List.{List}
+use Rattle.register.specs.Client as model
+use Rattle.replies.specs.Replies.{held}
+use Rattle.client.specs.declared.Client.{Client}
+
+-- what the client and its memory show
+abbrev pub view : Client → List ℕ → model.Client
+view c r = held (c .phase) (c .reads) r
+
+-- the client, with a number and for f, of what the model's client holds; its memory is `storeReplies` of the same
+abbrev pub storeClient : ℕ → ℕ → model.Client → Client
+storeClient d f x = record { number = d; f = f; phase = x .phase; reads = x .reads }

@@ -1,0 +1,11 @@
+pub mod Places
+pub mod Steps
+pub mod Insertion
+pub mod Placing
+pub mod Choosing
+pub mod Rising
+pub mod Stores
+pub mod Views
+pub mod Soundness
+pub mod Storing
+pub mod Unused

@@ -1,0 +1,92 @@
+-- One turn of each loop over a set, on the rest of the set from place j on, and the end of each.
+-- Assumes nothing.
+use mathlib.Core.Path.{_≡_, refl, ap, _∙_}
+use mathlib.Core.Bool.{Bool, true, false, cond}
+use mathlib.Core.List.{List, [], _∷_, _++_}
+use mathlib.Core.Option.{Option}
+use Prim.Native.Nat.{ℕ, zero, suc, _+_, _≤_, _<_}
+use native.Mathlib.Numerals.{add-one}
+use native.Mathlib.Omega.{arith}
+use lib.ListN.{length, drop}
+use lib.Seq.{drop-length}
+use mir.Val.{boolByte}
+use Rattle.basics.specs.Counting.{count}
+use Rattle.message.specs.declared.Pair.{Pair}
+use Rattle.message.specs.Pair.{below, same}
+use Rattle.register.specs.PairSet.{has}
+use Rattle.register.specs.Client.{higher, highestOf, allPairs}
+use Rattle.replies.specs.Loops.{bestOf, rankOf}
+
+-- ---- counting
+
+pub bool-le : (b : Bool) → boolByte b ≤ 1
+bool-le true = omega arith
+bool-le false = omega arith
+
+pub count-step : (p : ℕ → Bool) (i c : ℕ) (b : Bool) → b ≡ p i → c ≡ count p i → c + boolByte b ≡ count p (i + 1)
+unfolding count
+count-step p i c b q e = rw (add-one i, q, e)
+
+pub count-end : (p : ℕ → Bool) (i n c : ℕ) → i ≤ n → n ≤ i → c ≡ count p i → c ≡ count p n
+count-end p i n c a b e = let s : i ≡ n = omega arith in e ∙ ap (count p) s
+
+-- tests that agree below n count the same
+pub count-same : (p q : ℕ → Bool) (n : ℕ) → ((i : ℕ) → i < n → p i ≡ q i) → count p n ≡ count q n
+unfolding count
+count-same p q zero h = refl
+count-same p q (suc n) h = rw (count-same p q n (λ i less. h i (omega arith)), h n (omega arith))
+
+-- ---- the rest of a set that begins with x at place j
+
+module _ (S : List Pair) (j : ℕ) (x : Pair) (e : drop j S ≡ x ∷ drop (suc j) S) (p : Pair) where
+  pub has-next : same p x ≡ false → has p (drop j S) ≡ has p (drop (j + 1) S)
+  unfolding has
+  has-next q = rw (add-one j, e, q)
+
+  pub has-here : same p x ≡ true → has p (drop j S) ≡ true
+  unfolding has
+  has-here q = rw (e, q)
+
+  pub rank-next : below x p ≡ true → rankOf p (drop j S) ≡ suc (rankOf p (drop (j + 1) S))
+  unfolding rankOf
+  rank-next q = rw (add-one j, e, q)
+
+  pub rank-here : below x p ≡ false → rankOf p (drop j S) ≡ 0
+  unfolding rankOf
+  rank-here q = rw (e, q)
+
+module _ (test : Pair → Bool) (S : List Pair) (o : Option Pair) (j : ℕ) (x : Pair)
+    (e : drop j S ≡ x ∷ drop (suc j) S) where
+  pub best-next : bestOf test (drop j S) o
+      ≡ cond (test x) (higher x (bestOf test (drop (j + 1) S) o)) (bestOf test (drop (j + 1) S) o)
+  unfolding bestOf
+  best-next = rw (add-one j, e)
+
+-- ---- the end of a set
+
+pub rest-none : (S : List Pair) (j : ℕ) → j ≡ length S → drop j S ≡ []
+rest-none S j h = rw h (drop-length S)
+
+pub has-none : (p : Pair) (S : List Pair) (j : ℕ) → j ≡ length S → has p (drop j S) ≡ false
+unfolding has
+has-none p S j h = rw (rest-none S j h)
+
+pub rank-none : (p : Pair) (S : List Pair) (j : ℕ) → j ≡ length S → rankOf p (drop j S) ≡ 0
+unfolding rankOf
+rank-none p S j h = rw (rest-none S j h)
+
+pub best-none : (test : Pair → Bool) (S : List Pair) (o : Option Pair) (j : ℕ) → j ≡ length S
+    → bestOf test (drop j S) o ≡ o
+unfolding bestOf
+best-none test S o j h = rw (rest-none S j h)
+
+-- the choice among all sets, one set more at a time
+pub best-append : (test : Pair → Bool) (S T : List Pair) → highestOf test (S ++ T) ≡ bestOf test S (highestOf test T)
+unfolding highestOf bestOf
+best-append test [] T = refl
+best-append test (x ∷ S) T = rw (best-append test S T)
+
+pub best-more : (test : Pair → Bool) (sets : ℕ → List Pair) (n : ℕ)
+    → highestOf test (allPairs sets (suc n)) ≡ bestOf test (sets (suc n)) (highestOf test (allPairs sets n))
+unfolding allPairs
+best-more test sets n = best-append test (sets (suc n)) (allPairs sets n)

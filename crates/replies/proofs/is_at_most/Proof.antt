@@ -1,0 +1,25 @@
+-- `is_at_most`: zero is no timestamp, and of another number one less is compared.
+-- Assumes nothing.
+use mathlib.Core.Path.{sym}
+use borrow.Author.Needs.{needs}
+use Rattle.register.specs.Client.{isAtMost}
+use Rattle.replies.specs.Replies.{noteOf}
+use Rattle.replies.proofs.Places.{at-most-used}
+use Rattle.replies.proofs.is_at_most.Statement.{statement}
+use Rattle.replies.proofs.is_at_most.Tie as tie
+
+returns : tie.Need-returns
+unfolding isAtMost noteOf
+returns c = rw (c .if1 .taken)
+
+cast-result : tie.Need-cast-result
+cast-result c = search needs
+
+add-result : tie.Need-add-result
+add-result c = search needs
+
+returns-2 : tie.Need-returns-2
+returns-2 c = sym (at-most-used (c .before .before .args .w) (c .before .before .args .t .0) (c .before .if1 .left))
+
+pub is-at-most-spec : {M : Type 1} → statement M
+is-at-most-spec = tie.close (tie.spec returns cast-result add-result returns-2)

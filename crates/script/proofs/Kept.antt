@@ -1,0 +1,126 @@
+-- The part of a block that is kept: moved to the front byte by byte, and cut after 65 bytes.
+--
+-- In order: a part of a part, by its length; the block after i bytes have moved (each is read where none was stored yet);
+-- the whole part moved; a line that was cut after 65 bytes is unreadable, as it is whole.
+-- Assumes nothing.
+use mathlib.Core.Path.{_≡_, refl, ap, sym, _∙_}
+use mathlib.Core.Bool.{Bool, true, false, _&&_}
+use mathlib.Core.List.{List, _∷_, _++_}
+use Prim.Native.Nat.{ℕ, suc, _+_, _-_, _≤_, _<_, min}
+use native.Mathlib.Nat.{add-comm, min-eq-left, min-eq-right}
+use native.Mathlib.Numerals.{add-one}
+use native.Mathlib.Omega.{arith}
+use lib.Dec.{leb}
+use lib.ListN.{length, take, drop, set, getD, length-append, length-take, length-drop}
+use lib.Seq.{length-take-le, take-take, take-all, take-length, take-suc}
+use lib.Seq.{drop-cons, set-at, append-snoc, getD-append-add, getD-drop}
+use borrow.Author.Tests.{leb-true, leb-false, lt-leb}
+use Rattle.basics.proofs.Cases.{by-test}
+use Rattle.script.specs.declared.parse.Line.the-variants.{Unread}
+use Rattle.script.specs.Grammar.{lineOf}
+use Rattle.script.specs.Lines.{kept}
+use Rattle.script.specs.Writing.{Written}
+
+-- ---- parts by their lengths
+
+take-both : (a b : ℕ) (l : List ℕ) → take a (take b l) ≡ take (min a b) l
+take-both a b l =
+    by-test (leb a b)
+    (λ t. let h = leb-true a b t in rw (min-eq-left h) (take-take a b l h))
+    (λ t. let h : b ≤ a = omega (arith, leb-false a b t) in
+    rw (min-eq-right h) (take-all a (take b l) (rw (length-take b l) (omega arith))))
+
+take-within : (n : ℕ) (l : List ℕ) → take n l ≡ take (min n (length l)) l
+take-within n l =
+    by-test (leb n (length l))
+    (λ t. rw (min-eq-left (leb-true n (length l) t)) refl)
+    (λ t. let h : length l ≤ n = omega (arith, leb-false n (length l) t) in
+    rw (min-eq-right h) (take-all n l h ∙ sym (take-length l)))
+
+sub-least : (a b c : ℕ) → min a b - c ≡ min (a - c) (b - c)
+sub-least a b c = omega arith
+
+least-swap : (a b c : ℕ) → min (min a b) c ≡ min (min c a) b
+least-swap a b c = omega arith
+
+-- the bytes kept: n of them
+kept-take : (s : List ℕ) (at end n : ℕ) → n ≡ min (min end (length s) - at) 65 → take n (drop at s) ≡ kept s at end
+kept-take s at end n e =
+    let l : List ℕ = drop at s in
+    let wide : length l ≡ length s - at = length-drop at s in
+    let m : n ≡ min (min 65 (end - at)) (length l) =
+    e ∙ ap (λ (k : ℕ). min k 65) (sub-least end (length s) at) ∙ least-swap (end - at) (length s - at) 65
+    ∙ ap (λ (k : ℕ). min (min 65 (end - at)) k) (sym wide) in
+    ap (λ (k : ℕ). take k l) m ∙ sym (take-both 65 (end - at) l ∙ take-within (min 65 (end - at)) l)
+
+-- ---- byte by byte
+
+-- the block after i bytes have moved to the front
+abbrev pub moved : List ℕ → ℕ → ℕ → List ℕ
+moved s at i = take i (drop at s) ++ drop i s
+
+module _ (s : List ℕ) (at i : ℕ) (h : at + i ≤ length s) where
+  front : length (take i (drop at s)) ≡ i
+  front = length-take-le i (drop at s) (rw (length-drop at s) (omega arith))
+
+  pub length-moved : length (moved s at i) ≡ length s
+  length-moved = length-append (take i (drop at s)) (drop i s) ∙ rw (front, length-drop i s) (omega arith)
+
+  -- behind what was stored the block is as it was
+  pub moved-read : getD (moved s at i) (at + i) 0 ≡ getD s (at + i) 0
+  moved-read =
+      ap (λ (n : ℕ). getD (moved s at i) n 0) (add-comm at i ∙ ap (λ (n : ℕ). n + at) (sym front))
+      ∙ getD-append-add (take i (drop at s)) (drop i s) at 0 ∙ getD-drop i s at 0
+      ∙ ap (λ (n : ℕ). getD s n 0) (add-comm i at)
+
+pub moved-more : (s : List ℕ) (at i : ℕ) → at + i < length s → set (moved s at i) i (getD s (at + i) 0) ≡ moved s at (i + 1)
+moved-more s at i h =
+    let x : List ℕ = take i (drop at s) in
+    let b : ℕ = getD (drop at s) i 0 in
+    let inside : i < length (drop at s) = rw (length-drop at s) (omega arith) in
+    ap (λ (l : List ℕ). set (x ++ l) i (getD s (at + i) 0)) (drop-cons s i 0 (omega arith))
+    ∙ set-at x (getD s i 0) (drop (suc i) s) (getD s (at + i) 0) i (front s at i (omega arith))
+    ∙ ap (λ (n : ℕ). x ++ n ∷ drop (suc i) s) (sym (getD-drop at s i 0))
+    ∙ sym (append-snoc x b (drop (suc i) s))
+    ∙ ap (λ (l : List ℕ). l ++ drop (suc i) s) (sym (take-suc (drop at s) i 0 inside))
+    ∙ ap (λ (n : ℕ). moved s at n) (sym (add-one i))
+
+-- ---- the whole part
+
+module _ (s : List ℕ) (at end n : ℕ) (e : n ≡ min (min end (length s) - at) 65) where
+  pub within : at ≤ length s → at + n ≤ length s
+  within h = omega arith
+
+  long : length (kept s at end) ≡ n
+  long =
+      ap length (sym (kept-take s at end n e))
+      ∙ length-take n (drop at s) ∙ rw (length-drop at s) (omega arith)
+
+  pub kept-written : Written (kept s at end) s 0 n (moved s at n)
+  kept-written =
+      let ends : n ≡ 0 + length (kept s at end) = rw long (omega arith) in
+      record {
+        fits = rw long (omega arith);
+        ends = ends;
+        holds =
+            ap (λ (l : List ℕ). l ++ drop n s) (kept-take s at end n e) ∙ ap (λ (k : ℕ). kept s at end ++ drop k s) ends;
+      }
+
+-- ---- a line that was cut
+
+too-long : (s : List ℕ) → 64 < length s → lineOf s ≡ Unread
+unfolding lineOf
+too-long s h = rw (lt-leb (length s) 64 h, and-right (leb 3 (length s))) refl
+  where
+    and-right : (b : Bool) → b && false ≡ false
+    and-right true = refl
+    and-right false = refl
+
+-- the start l of a line, cut, and what is read behind it
+pub cut-line : (l t : List ℕ) → lineOf (take 65 l ++ t) ≡ lineOf (l ++ t)
+cut-line l t =
+    by-test (leb (length l) 65)
+    (λ e. rw (take-all 65 l (leb-true (length l) 65 e)) refl)
+    (λ e. let h = leb-false (length l) 65 e in
+    too-long (take 65 l ++ t) (rw (length-append (take 65 l) t, length-take-le 65 l (omega arith)) (omega arith))
+    ∙ sym (too-long (l ++ t) (rw (length-append l t) (omega arith))))

@@ -1,0 +1,12 @@
+pub mod Places
+pub mod Texts
+pub mod Marks
+pub mod Readers
+pub mod Halves
+pub mod Writing
+pub mod Digits
+pub mod Lengths
+pub mod RoundTrip
+pub mod Kept
+pub mod Split
+pub mod Spelling

@@ -1,0 +1,107 @@
+-- `keep`: the loop keeps how many bytes have moved.
+use mathlib.Core.Path.{_≡_, refl, ap, _∙_}
+use mathlib.Core.List.{List}
+use Prim.Native.Nat.{ℕ, _+_, _-_, _≤_, min}
+use native.Mathlib.Omega.{arith}
+use borrow.Author.Needs.{needs}
+use lib.ListN.{length, getD, set}
+use Rattle.script.proofs.Kept.{moved, length-moved, moved-read, moved-more, kept-written, within}
+use Rattle.script.proofs.lines.keep.Statement.{statement}
+use Rattle.script.proofs.lines.keep.Tie as tie
+
+abbrev Inv-loop : tie.InvT-loop
+Inv-loop s₀ at end stop n i₀ s i = (i ≤ n) × (s ≡ moved s₀ at i)
+
+abbrev μ-loop : tie.MeasureT-loop
+μ-loop s₀ at end stop n i₀ s i = n - i
+
+least-requires : tie.Need-least-requires Inv-loop μ-loop
+least-requires c κs = search needs
+
+returns : tie.Need-returns Inv-loop μ-loop
+returns c =
+    let a = c .before .before .before .args in
+    kept-written (a .s .now) (a .at) (a .end) 0 (omega arith)
+
+least-requires-2 : tie.Need-least-requires-2 Inv-loop μ-loop
+least-requires-2 c κs = search needs
+
+loop-holds : tie.Need-loop-holds Inv-loop μ-loop
+loop-holds c = (search needs, refl)
+
+module _ (c : tie.At-loop Inv-loop μ-loop) where
+  abbrev start : tie.Start Inv-loop μ-loop
+  start = c .before .before .before .before .before
+
+  abbrev block : List ℕ
+  block = start .args .s .now
+
+  -- how many bytes are kept
+  count : c .before .least2 .result ≡ min (min (start .args .end) (length block) - start .args .at) 65
+  count =
+      c .before .least2 .ensures
+      ∙ ap (λ (k : ℕ). min (k - start .args .at) 65) (c .before .before .before .least .ensures)
+
+  fits : start .args .at + c .before .least2 .result ≤ length block
+  fits =
+      let least = c .before .before .before .least in
+      let first : least .result ≡ min (start .args .end) (length block) = least .ensures in
+      within block (start .args .at) (start .args .end) (c .before .least2 .result) count (omega arith)
+
+  wide : length (c .loop .s) ≡ length block
+  wide = ap length (c .loop .inv .1) ∙ length-moved block (start .args .at) (c .loop .i) (omega (arith, fits))
+
+add-b : tie.Need-add-b Inv-loop μ-loop
+add-b c = omega (arith, fits (c .before))
+
+slice-read-b : tie.Need-slice-read-b Inv-loop μ-loop
+slice-read-b c = rw (wide (c .before .before)) (omega (arith, fits (c .before .before)))
+
+slice-write-s : tie.Need-slice-write-s Inv-loop μ-loop
+slice-write-s c = rw (wide (c .before .before)) (omega (arith, fits (c .before .before)))
+
+add-i : tie.Need-add-i Inv-loop μ-loop
+add-i c = search needs
+
+loop-less : tie.Need-loop-less Inv-loop μ-loop
+loop-less c = search needs
+
+loop-again : tie.Need-loop-again Inv-loop μ-loop
+loop-again c =
+    let here = c .before .before in
+    let a = start here .args in
+    let i = here .loop .i in (
+      omega arith,
+      ap (λ (l : List ℕ). set l i (getD l (a .at + i) 0)) (here .loop .inv .1)
+          ∙ ap (λ (b : ℕ). set (moved (block here) (a .at) i) i b) (moved-read (block here) (a .at) i (omega (arith, fits here)))
+          ∙ moved-more (block here) (a .at) i (omega (arith, fits here)),
+    )
+
+same-length : tie.Need-same-length Inv-loop μ-loop
+same-length c = wide (c .before)
+
+returns-2 : tie.Need-returns-2 Inv-loop μ-loop
+returns-2 c =
+    let here = c .before in
+    let a = start here .args in
+    let all : here .loop .i ≡ here .before .least2 .result = omega arith in
+    rw (here .loop .inv .1) (kept-written (block here) (a .at) (a .end) (here .loop .i) (all ∙ count here))
+
+pub keep-spec : {M : Type 1} → statement M
+keep-spec =
+    tie.close
+    (tie.spec
+    Inv-loop
+    μ-loop
+    least-requires
+    returns
+    least-requires-2
+    loop-holds
+    add-b
+    slice-read-b
+    slice-write-s
+    add-i
+    loop-less
+    loop-again
+    same-length
+    returns-2)

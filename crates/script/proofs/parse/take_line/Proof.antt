@@ -1,0 +1,61 @@
+-- `take_line`: a number, a blank, and what follows from the rest.
+use mathlib.Core.Path.{_∙_, ap}
+use mathlib.Core.List.{List}
+use Prim.Native.Nat.{ℕ, _≤_}
+use borrow.Author.Needs.{needs}
+use lib.ListN.{length}
+use Rattle.script.specs.Grammar.{serverAfter}
+use Rattle.script.proofs.Readers.{rest-is, with-first, without-first, starts-within}
+use Rattle.script.proofs.parse.take_line.Statement.{statement}
+use Rattle.script.proofs.parse.take_line.Tie as tie
+
+first-number-requires : tie.Need-first-number-requires
+first-number-requires c κs = search needs
+
+enum-known-d : tie.Need-enum-known-d
+enum-known-d c = search needs
+
+enum-told : tie.Need-enum-told
+enum-told c = search needs
+
+returns : tie.Need-returns
+returns c = without-first _ _ (c .before .before .first-number .ensures) _ (c .enum-told .given .1)
+
+-- the rest begins within the text
+within : (c : tie.After-known-told)
+    → c .before .d .given .0 .1 .0 ≤ length (c .before .before .before .before .before .args .s .now)
+within c = starts-within _ _ (c .before .before .before .first-number .ensures) _ _ (c .before .d .given .1)
+
+sub-server-after : tie.Need-sub-server-after
+sub-server-after c = within c
+
+part-server-after-start : tie.Need-part-server-after-start
+part-server-after-start c = within c
+
+part-server-after-end : tie.Need-part-server-after-end
+part-server-after-end c = search needs
+
+server-after-requires : tie.Need-server-after-requires
+server-after-requires c κs = search needs
+
+returns-2 : tie.Need-returns-2
+returns-2 c =
+    let found = c .before .before .before in
+    let s = found .before .before .before .before .args .s .now in
+    c .server-after .ensures
+    ∙ ap (λ (l : List ℕ). serverAfter (found .d .given .0 .0) l) (rest-is s (found .d .given .0 .1 .0))
+    ∙ with-first _ _ (found .before .before .first-number .ensures) serverAfter _ _ (found .d .given .1)
+
+pub take-line-spec : {M : Type 1} → statement M
+take-line-spec =
+    tie.close
+    (tie.spec
+    first-number-requires
+    enum-known-d
+    enum-told
+    returns
+    sub-server-after
+    part-server-after-start
+    part-server-after-end
+    server-after-requires
+    returns-2)

@@ -1,0 +1,36 @@
+-- A script cut into lines, and a line into words.
+--
+-- In order: what stands before and behind a byte; the lines of a script; the start of a line that is kept while the rest is read.
+-- Assumes nothing.
+use Prim.Native.Nat.{ℕ, _-_}
+use mathlib.Core.Bool.{cond}
+use mathlib.Core.List.{List, [], _∷_}
+use mathlib.Core.Option.{Option, none, some}
+use lib.Dec.{eqb}
+use lib.ListN.{take, drop}
+
+-- the bytes before the first byte m, and those behind it, if there is one
+unfoldable pub upTo : ℕ → List ℕ → List ℕ
+upTo m [] = []
+upTo m (b ∷ bs) = cond (eqb b m) [] (b ∷ upTo m bs)
+
+unfoldable pub behind : ℕ → List ℕ → Option (List ℕ)
+behind m [] = none
+behind m (b ∷ bs) = cond (eqb b m) (some bs) (behind m bs)
+
+-- a byte at the front of the first line
+abbrev pub inFront : ℕ → List (List ℕ) → List (List ℕ)
+inFront b [] = (b ∷ []) ∷ []
+inFront b (l ∷ ls) = (b ∷ l) ∷ ls
+
+-- only byte 10 ends a line, and the last line needs no end
+unfoldable pub linesOf : List ℕ → List (List ℕ)
+linesOf [] = []
+linesOf (b ∷ bs) = cond (eqb b 10) ([] ∷ linesOf bs) (inFront b (linesOf bs))
+
+-- the bytes of a block from `at` up to `end`, and what is kept of them: a line with 65 bytes is unreadable, however it goes on
+abbrev pub part : List ℕ → ℕ → ℕ → List ℕ
+part s at end = take (end - at) (drop at s)
+
+abbrev pub kept : List ℕ → ℕ → ℕ → List ℕ
+kept s at end = take 65 (part s at end)

@@ -1,0 +1,4 @@
+// One line of a script in, one line of output out (01, 'The program rehearse').
+pub mod lines;
+pub mod parse;
+pub mod print;

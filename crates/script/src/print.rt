@@ -1,0 +1,148 @@
+// The line that is printed for a line of the script. Each function writes a text into a lent buffer and answers where it ends.
+ghost use mathlib.Core.Path.{_≡_};
+ghost use mathlib.Core.List.{[], _∷_, _++_};
+ghost use Prim.Native.Nat.{_+_, _≤_, _<_};
+ghost use lib.ListN.{length};
+ghost use Rattle.register.specs.declared.Answer.the-variants.{Refused};
+ghost use Rattle.script.specs.Numbers.{hexDigit, digitsOf, digitCount, decimal};
+ghost use Rattle.script.specs.Printed.{spaced, pairText, answerText, behindNumber, printed, Shown};
+ghost use Rattle.script.specs.Writing.{Written};
+use message::Pair;
+use refusal::Refusal;
+use register::Answer;
+
+// What the program says of a line: that it set up, that the line is unreadable, or the answer of its step.
+pub enum Output {
+    Set,
+    Unread,
+    Answered(Answer),
+}
+
+// No line is longer.
+const LONGEST: usize = 80;
+
+// How many decimal digits a number has.
+fn digit_count(v: u64) -> usize
+    ensures { λ r. ⌜ r ≡ digitCount 19 v ⌝ }
+{
+    let mut n = 1;
+    let mut left = v;
+    while 10 <= left {
+        left = left / 10;
+        n += 1;
+    }
+    n
+}
+
+fn digit(v: u64) -> u8
+    requires { ⌜ v < 16 ⌝ }
+    ensures { λ r. ⌜ r ≡ hexDigit v ⌝ }
+{
+    if v < 10 { 48 + v as u8 } else { 55 + v as u8 }
+}
+
+// The last n digits of a number, the last one first.
+fn put_digits(out: &mut [u8], at: usize, base: u64, n: usize, v: u64) -> usize
+    requires { ⌜ (at + n ≤ length (now out)) × (0 < base) × (base ≤ 16) ⌝ }
+    ensures { λ r. ⌜ Written (digitsOf base n v) (now (out .entry)) at r (now (out .exit)) ⌝ }
+{
+    let mut left = v;
+    let mut i = n;
+    while 0 < i {
+        i -= 1;
+        out[at + i] = digit(left % base);
+        left = left / base;
+    }
+    at + n
+}
+
+fn put_decimal(out: &mut [u8], at: usize, v: u64) -> usize
+    requires { ⌜ at + 20 ≤ length (now out) ⌝ }
+    ensures { λ r. ⌜ Written (decimal v) (now (out .entry)) at r (now (out .exit)) ⌝ }
+{
+    put_digits(out, at, 10, digit_count(v), v)
+}
+
+fn put_text(out: &mut [u8], at: usize, s: &[u8]) -> usize
+    requires { ⌜ at + length (now s) ≤ length (now out) ⌝ }
+    ensures { λ r. ⌜ Written (now (s .entry)) (now (out .entry)) at r (now (out .exit)) ⌝ }
+{
+    let mut i = 0;
+    while i < s.len() {
+        out[at + i] = s[i];
+        i += 1;
+    }
+    at + i
+}
+
+fn put_spaced(out: &mut [u8], at: usize, v: u64) -> usize
+    requires { ⌜ at + 21 ≤ length (now out) ⌝ }
+    ensures { λ r. ⌜ Written (spaced v) (now (out .entry)) at r (now (out .exit)) ⌝ }
+{
+    let a = put_text(out, at, b" ");
+    put_decimal(out, a, v)
+}
+
+fn put_pair(out: &mut [u8], at: usize, p: Pair) -> usize
+    requires { ⌜ at + 53 ≤ length (now out) ⌝ }
+    ensures { λ r. ⌜ Written (pairText p) (now (out .entry)) at r (now (out .exit)) ⌝ }
+{
+    let a = put_spaced(out, at, message::counter_of(p).0 as u64);
+    let b = put_spaced(out, a, message::client_of(p) as u64);
+    let c = put_text(out, b, b" ");
+    put_digits(out, c, 16, 10, message::entry_of(p).0)
+}
+
+// A pair and the line's end, behind its word.
+fn put_paired(out: &mut [u8], at: usize, word: &[u8], p: Pair) -> usize
+    requires { ⌜ at + length (now word) + 54 ≤ length (now out) ⌝ }
+    ensures { λ r. ⌜ Written (now (word .entry) ++ pairText p ++ 10 ∷ []) (now (out .entry)) at r (now (out .exit)) ⌝ }
+{
+    let a = put_text(out, at, word);
+    let b = put_pair(out, a, p);
+    put_text(out, b, b"\n")
+}
+
+fn put_refused(out: &mut [u8], at: usize, r: Refusal) -> usize
+    requires { ⌜ at + 30 ≤ length (now out) ⌝ }
+    ensures { λ n. ⌜ Written (32 ∷ answerText (Refused r) ++ 10 ∷ []) (now (out .entry)) at n (now (out .exit)) ⌝ }
+{
+    let a = put_text(out, at, b" REFUSED");
+    let b = put_spaced(out, a, refusal::number(r) as u64);
+    put_text(out, b, b"\n")
+}
+
+fn put_answer(out: &mut [u8], at: usize, a: Answer) -> usize
+    requires { ⌜ at + 60 ≤ length (now out) ⌝ }
+    ensures { λ r. ⌜ Written (32 ∷ answerText a ++ 10 ∷ []) (now (out .entry)) at r (now (out .exit)) ⌝ }
+{
+    match a {
+        Answer::Went => put_text(out, at, b" WENT\n"),
+        Answer::Read(p) => put_paired(out, at, b" READ", p),
+        Answer::Wrote(p) => put_paired(out, at, b" WROTE", p),
+        Answer::Spent => put_text(out, at, b" SPENT\n"),
+        Answer::Refused(r) => put_refused(out, at, r),
+    }
+}
+
+fn put_output(out: &mut [u8], at: usize, what: Output) -> usize
+    requires { ⌜ at + 60 ≤ length (now out) ⌝ }
+    ensures { λ r. ⌜ Written (behindNumber what) (now (out .entry)) at r (now (out .exit)) ⌝ }
+{
+    match what {
+        Output::Set => put_text(out, at, b" SET\n"),
+        Output::Unread => put_text(out, at, b" UNREAD\n"),
+        Output::Answered(a) => put_answer(out, at, a),
+    }
+}
+
+// The line of a number, at the start of a buffer; the answer is its length. A buffer that could be too short stays as it is.
+pub fn print(out: &mut [u8], number: u64, what: Output) -> usize
+    ensures { λ r. ⌜ Shown (printed number what) (now (out .entry)) r (now (out .exit)) ⌝ }
+{
+    if out.len() < LONGEST {
+        return 0;
+    }
+    let a = put_decimal(out, 0, number);
+    put_output(out, a, what)
+}
