@@ -215,7 +215,8 @@ module _ {A : Type 0} (pack : A → List ℕ) (eleven : (a : A) → length (pack
       → cleared (s ++ row pack ms ++ t) i ≡ s ++ row pack [] ++ t
   unfolding cleared
   clear-row ms i h s t e =
-      rw (inside-filled s (row pack ms) t (i * 89) 0 (λ j. 0) 89 (omega arith) (rw (row-length ms h) (omega arith)), clear-in ms h)
+      let wide : length (row pack ms) ≡ 89 = row-length ms h in
+      rw (inside-filled s (row pack ms) t (i * 89) 0 (λ j. 0) 89 (omega arith) (omega arith), clear-in ms h)
 
   -- ---- oldest
 

@@ -43,7 +43,7 @@ all-listed p f (suc k) h = all-more p (listed f k) (f k) (all-listed p f k (λ s
 
 -- what the packing, the unpacking, the test of a slot and the test of a message must be to each other
 pub record Lawful {A : Type 0} (pack : A → List ℕ) (unpack : List ℕ → A) (test : ℕ → List ℕ → Bool)
-  (ok : ℕ → A → Bool) : Type 0 where
+    (ok : ℕ → A → Bool) : Type 0 where
   pub eleven : (a : A) → length (pack a) ≡ 11
   pub repacked : (i : ℕ) (s : List ℕ) → test i s ≡ true → pack (unpack s) ≡ s
   pub unpacks-ok : (i : ℕ) (s : List ℕ) → test i s ≡ true → ok i (unpack s) ≡ true

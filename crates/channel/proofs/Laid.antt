@@ -25,7 +25,7 @@ use Rattle.channel.proofs.Laws.{reads}
 use Rattle.channel.proofs.Held.{Lawful}
 
 module _ {A : Type 0} (pack : A → List ℕ) (unpack : List ℕ → A) (test : ℕ → List ℕ → Bool)
-  (ok : ℕ → A → Bool) (lawful : Lawful pack unpack test ok) where
+    (ok : ℕ → A → Bool) (lawful : Lawful pack unpack test ok) where
   first-slot : (m : A) (ms : List A) → bytesAt (packed pack (m ∷ ms)) (0 * 11) 11 ≡ pack m
   unfolding packed
   first-slot m ms =
@@ -56,7 +56,7 @@ module _ {A : Type 0} (pack : A → List ℕ) (unpack : List ℕ → A) (test : 
         ∙ rw (first-slot m ms, lawful .unpacked i m (q .0))
         (ap (λ (l : List A). m ∷ l)
         (listed-same (λ s. unpack (bytesAt (packed pack (m ∷ ms)) (suc s * 11) 11))
-          (λ s. unpack (bytesAt (packed pack ms) (s * 11) 11))
+        (λ s. unpack (bytesAt (packed pack ms) (s * 11) 11))
         (length ms) (λ s less. ap unpack (next-slot m ms s))
         ∙ slots-back ms (q .1)))
 
@@ -69,7 +69,7 @@ module _ {A : Type 0} (pack : A → List ℕ) (unpack : List ℕ → A) (test : 
         rw (next-slot m ms s) (slots-pass ms s (both (ok i m) (all (map (ok i) ms)) h .1) (omega arith))
 
     module _ (ms : List A) (short : length ms ≤ 8) (good : all (map (ok i) ms) ≡ true)
-      (s t : List ℕ) (e : length s ≡ i * 89) where
+        (s t : List ℕ) (e : length s ≡ i * 89) where
       bytes : List ℕ
       bytes = s ++ row pack ms ++ t
 
@@ -103,7 +103,7 @@ module _ {A : Type 0} (pack : A → List ℕ) (unpack : List ℕ → A) (test : 
       held-row =
           rw count
           (listed-same (λ n. unpack (bytesAt bytes (i * 89 + 1 + n * 11) 11))
-            (λ n. unpack (bytesAt (packed pack ms) (n * 11) 11)) (length ms)
+          (λ n. unpack (bytesAt (packed pack ms) (n * 11) 11)) (length ms)
           (λ n less. ap unpack (slot-of n less))
           ∙ slots-back ms good)
 

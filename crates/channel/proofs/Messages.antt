@@ -63,17 +63,17 @@ lawful =
     record {
       eleven = packed-length;
       repacked = λ i s h.
-        let p = passed i s h in
-        ap bytesOf (unpacked-is s (p .is) (p .unpacks)) ∙ pack-unpack s (p .is) (p .unpacks) .packing;
+          let p = passed i s h in
+          ap bytesOf (unpacked-is s (p .is) (p .unpacks)) ∙ pack-unpack s (p .is) (p .unpacks) .packing;
       unpacks-ok = λ i s h.
-        let p = passed i s h in
-        rw (unpacked-is s (p .is) (p .unpacks))
-        (both-of (wellFormed (p .is)) (goes (isDown i) (Good (p .is))) (pack-unpack s (p .is) (p .unpacks) .within) (p .way));
+          let p = passed i s h in
+          rw (unpacked-is s (p .is) (p .unpacks))
+          (both-of (wellFormed (p .is)) (goes (isDown i) (Good (p .is))) (pack-unpack s (p .is) (p .unpacks) .within) (p .way));
       passes = λ i m h.
-        let q = both (wellFormed m) (goes (isDown i) (Good m)) h in
-        ap (goes (isDown i)) (unpack-pack m (q .0)) ∙ q .1;
+          let q = both (wellFormed m) (goes (isDown i) (Good m)) h in
+          ap (goes (isDown i)) (unpack-pack m (q .0)) ∙ q .1;
       unpacked = λ i m h.
-        unpacked-is (bytesOf m) m (unpack-pack m (both (wellFormed m) (goes (isDown i) (Good m)) h .0));
+          unpacked-is (bytesOf m) m (unpack-pack m (both (wellFormed m) (goes (isDown i) (Good m)) h .0));
     }
 
 -- ---- sound memory holds messages, and is their layout

@@ -61,7 +61,7 @@ empty-sound test b i z =
     let rest : zeroFrom b (i * 89 + 1 + 0) 88 ≡ true =
     below-of (λ j. eqb (getD b (i * 89 + 1 + 0 + j) 0) 0) 88
     (λ j less. eq-eqb (getD b (i * 89 + 1 + 0 + j) 0) 0
-      (ap (λ (k : ℕ). getD b k 0) (shift j) ∙ zero-at (1 + j) (omega arith))) in
+    (ap (λ (k : ℕ). getD b k 0) (shift j) ∙ zero-at (1 + j) (omega arith))) in
     rw (none, none-pass (λ s. test i (bytesAt b (i * 89 + 1 + s * 11) 11)), rest)
   where
     shift : (j : ℕ) → i * 89 + 1 + 0 + j ≡ i * 89 + (1 + j)

@@ -24,6 +24,7 @@ pub type Slots = [u8; 13884];
 
 // Channels, and how many of them go from clients to servers.
 const CHANNELS: usize = 156;
+
 const UPWARD: usize = 78;
 
 // Servers that a client has channels to.
@@ -34,8 +35,11 @@ const CAPACITY: u8 = 8;
 
 // Bytes of a message, of a channel, of a channel's slots, and of all of them but the last.
 const WIDTH: usize = 11;
+
 const SPAN: usize = 89;
+
 const ROOM: usize = 88;
+
 const MOVED: usize = 77;
 
 // Where the last slot begins.

@@ -1,17 +1,35 @@
--- A ladder that refuses nothing, and what is so whether it refuses or not.
+-- The ladders of the entry points: each stands in the table's order, so the refusal given is the lowest that applies; what a
+-- ladder that refuses nothing says; and what is so whether it refuses or not.
 -- Assumes nothing.
 use mathlib.Core.Path.{_≡_, refl}
-use mathlib.Core.Bool.{false}
+use mathlib.Core.Bool.{true, false}
 use mathlib.Core.List.{List, [], _∷_}
 use mathlib.Core.Option.{Option, none, some}
 use Prim.Native.Nat.{ℕ}
 use native.Mathlib.Omega.{arith}
 use Rattle.basics.proofs.Cases.{by-test}
 use Rattle.refusal.specs.declared.Refusal.{Refusal}
-use Rattle.refusal.specs.Ladder.{Rung, lowest}
+use Rattle.message.specs.declared.Entry.{Entry}
+use Rattle.refusal.specs.Ladder.{Rung, lowest, rising}
 use Rattle.client.specs.declared.Client.{Client}
 use Rattle.client.specs.Sends.{After}
-use Rattle.client.specs.Entry.{refusedBy, decided}
+use Rattle.client.specs.Entry.{refusedBy, decided, newRefusals, readRefusals, writeRefusals, takeRefusals}
+
+-- ---- in the table's order
+
+pub new-ladder-rises : (d f : ℕ) (r : List ℕ) → rising 0 (newRefusals d f r) ≡ true
+new-ladder-rises d f r = refl
+
+pub read-ladder-rises : (c : Client) (r : List ℕ) → rising 0 (readRefusals c r) ≡ true
+read-ladder-rises c r = refl
+
+pub write-ladder-rises : (c : Client) (r : List ℕ) (e : Entry) → rising 0 (writeRefusals c r e) ≡ true
+write-ladder-rises c r e = refl
+
+pub take-ladder-rises : (c : Client) (r : List ℕ) (k : ℕ) (bytes : List ℕ) → rising 0 (takeRefusals c r k bytes) ≡ true
+take-ladder-rises c r k bytes = refl
+
+-- ---- refused or not
 
 -- no rung applies
 abbrev pub NoneApply : List Rung → Type 0

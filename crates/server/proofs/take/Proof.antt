@@ -68,7 +68,8 @@ returns-4 c =
     let e = c .before .before .before .before .before .before .before in
     let a = e .before .before .before .before .before .args in
     let h : sound (a .s) ≡ true = lt-ltb _ _ (e .before .before .if1 .left) in
-    let good = sym (c .before .before .before .before .before .before .unpack .ensures) ∙ c .before .before .before .before .m .given .1 in
+    let m = c .before .before .before .before .m .given in
+    let good = sym (c .before .before .before .before .before .before .unpack .ensures) ∙ m .1 in
     let other = sym (c .before .before .is-taken .ensures) ∙ not-true _ (c .before .if4 .taken) in
     c .refused4 .ensures
     ∙ sym (malformed (a .s) (a .d) (a .bytes .now) h (e .before .if2 .left) (ltb-false 6 (a .d) (e .if3 .left))

@@ -1,0 +1,41 @@
+-- `say`: the line fits the buffer.
+-- Assumes nothing.
+use Prim.Native.Nat.{_≤_}
+use native.Mathlib.Omega.{arith}
+use lib.ListN.{length}
+use borrow.Author.Needs.{needs}
+use Rattle.rehearse.proofs.Blocks.{shown-fits, counted}
+use Rattle.rehearse.proofs.say.Statement.{statement}
+use Rattle.rehearse.proofs.say.Tie as tie
+
+print-requires : tie.Need-print-requires
+print-requires c κs = search needs
+
+slice-reshare-prefix-write-all : tie.Need-slice-reshare-prefix-write-all
+slice-reshare-prefix-write-all c =
+    let fits = shown-fits _ _ _ _ _ (c .before .before .print .ensures) in
+    let same = c .before .before .print .kept in
+    search needs
+
+slice-aggregate-write-all : tie.Need-slice-aggregate-write-all
+slice-aggregate-write-all c = counted _ (c .before .before .before .before .before .before .args .out .now) (c .before .before .before .print .last .0) (shown-fits _ _ _ _ _ (c .before .before .before .print .ensures)) (c .before .before .before .print .kept .0)
+
+write-all-requires : tie.Need-write-all-requires
+write-all-requires c κs = search needs
+
+same-length : tie.Need-same-length
+same-length c = search needs
+
+returns : tie.Need-returns
+returns c = search needs
+
+pub say-spec : {M : Type 1} → statement M
+say-spec =
+    tie.close
+    (tie.spec
+    print-requires
+    slice-reshare-prefix-write-all
+    slice-aggregate-write-all
+    write-all-requires
+    same-length
+    returns)

@@ -1,0 +1,248 @@
+-- A sound client's place: its session and its replies hold a well-formed client, the client at setup where there is none, and
+-- storing what they hold gives the replies back.
+--
+-- The client's own test speaks of numbers in memory; here each is read as what it says of the client.
+-- Assumes nothing.
+use mathlib.Core.Path.{_≡_, refl, sym, ap, fun-ext, _∙_}
+use mathlib.Core.Bool.{Bool, true, false, not, _&&_, _||_}
+use mathlib.Core.List.{List, [], _∷_}
+use mathlib.Core.Option.{Option, none, some}
+use Prim.Native.Nat.{ℕ, zero, suc, _+_, _*_, _^_, _≤_, _<_}
+use native.Mathlib.Omega.{arith}
+use lib.Dec.{eqb, leb, ltb}
+use lib.ListN.{length, getD}
+use borrow.Author.Tests.{eqb-true, ltb-true}
+use Rattle.basics.specs.Members.{Member}
+use Rattle.basics.proofs.Cases.{by-test, both, true-or-false, clash}
+use Rattle.basics.proofs.Members.{every-at}
+use Rattle.basics.proofs.Tests.{each}
+use Rattle.licence.specs.Entry.{isLicence}
+use Rattle.message.specs.declared.Entry.{Entry}
+use Rattle.message.specs.declared.Pair.{Pair}
+use Rattle.message.specs.declared.WriteCounter.{WriteCounter}
+use Rattle.message.specs.Pair.{initial}
+use Rattle.register.specs.declared.Phase.{Phase}
+use Rattle.register.specs.declared.Phase.the-variants.{Idle, Reading, ReadingForWrite, Storing}
+use Rattle.register.specs.Client.{newClient, isIdle, isReading}
+use Rattle.register.specs.Settings.{isServer}
+use Rattle.register.proofs.WellFormed.{WellPhase, WellSet, WellClient}
+use Rattle.replies.specs.Replies.{noteOf, notedIn, setIn, ackIn, storeReplies}
+use Rattle.replies.specs.Sound.{areSound}
+use Rattle.replies.proofs.Places.{noted-at, ack-at, size-most, size-below, pair-at}
+use Rattle.replies.proofs.Soundness.{Sound, facts, most}
+use Rattle.replies.proofs.Storing.{store-held}
+use Rattle.client.specs.Sound.{isSoundPhase, stores, isSoundClient, isSound}
+use Rattle.state.specs.declared.Session.{Session}
+use Rattle.state.specs.declared.Settings.{Settings}
+use Rattle.register.specs.Formats.{formats}
+use Rattle.state.specs.State.{settingsOf, clientIn}
+use Rattle.state.specs.Sound.{clientEnd, isClientSound}
+use Rattle.state.proofs.Orders.{rising-ordered, every-place}
+use Rattle.state.proofs.SoundServer.{server-place}
+
+-- ---- phases, notes, lists
+
+or-else : (a b : Bool) → a || b ≡ true → a ≡ false → b ≡ true
+or-else true b h e = absurd (true-or-false true refl e)
+or-else false b h e = h
+
+pub or-first : (a b : Bool) → a || b ≡ true → b ≡ false → a ≡ true
+or-first true b h e = refl
+or-first false b h e = absurd (true-or-false b h e)
+
+pub and-false : (a : Bool) → a && false ≡ false
+and-false true = refl
+and-false false = refl
+
+idle-is : (p : Phase) → isIdle p ≡ true → p ≡ Idle
+unfolding isIdle
+idle-is Idle h = refl
+idle-is Reading h = absurd (true-or-false false h refl)
+idle-is (ReadingForWrite e) h = absurd (true-or-false false h refl)
+idle-is (Storing e c) h = absurd (true-or-false false h refl)
+
+well-phase : (p : Phase) → isSoundPhase p ≡ true → WellPhase formats p
+unfolding isSoundPhase
+well-phase Idle h = tt
+well-phase Reading h = tt
+well-phase (ReadingForWrite e) h = h
+well-phase (Storing e c) h =
+    let b = both (isLicence (e .0)) (ltb (c .0) (2 ^ 20)) h in (b .0, ltb-true (c .0) (2 ^ 20) (b .1))
+
+pub no-store : (p : Phase) → ((e : Entry) (c : WriteCounter) → p ≡ Storing e c → ⊥) → stores p ≡ false
+unfolding stores
+no-store Idle h = refl
+no-store Reading h = refl
+no-store (ReadingForWrite e) h = refl
+no-store (Storing e c) h = absurd (h e c refl)
+
+note-some : (w t : ℕ) → noteOf w ≡ some t → w ≡ suc t
+unfolding noteOf
+note-some zero t e = clash (cc)
+note-some (suc w) t e = let z : w ≡ t = cc in ap suc z
+
+no-length : {A : Type 0} (l : List A) → length l ≡ 0 → l ≡ []
+no-length [] e = refl
+no-length (x ∷ xs) e = absurd (let z : ⊥ = omega arith in z)
+
+empty-set : WellSet []
+empty-set = record { ordered = tt; few = omega arith; pairs = λ p m. absurd m }
+
+-- ---- the client at place i
+
+module _ (t : Settings) (i : ℕ) (c : Session) (l : List ℕ) (h : isClientSound t i c l ≡ true) where
+  pub end-sound : isSound (clientEnd t i c) l ≡ true
+  unfolding isClientSound
+  end-sound =
+      both (isSound (clientEnd t i c) l) (ltb i (t .clients) || (isIdle (c .phase) && eqb (c .reads .0) 0)) h .0
+
+  both-sound : (isSoundClient (clientEnd t i c) ≡ true)
+      × (areSound (3 * t .f + 1) (isReading (c .phase)) (stores (c .phase)) l ≡ true)
+  unfolding isSound
+  both-sound =
+      both (isSoundClient (clientEnd t i c)) (areSound (3 * t .f + 1) (isReading (c .phase)) (stores (c .phase)) l) end-sound
+
+  -- a place that is not used
+  at-rest : ltb i (t .clients) ≡ false → (c .phase ≡ Idle) × (c .reads .0 ≡ 0)
+  unfolding isClientSound
+  at-rest e =
+      let a = both (isSound (clientEnd t i c) l) (ltb i (t .clients) || (isIdle (c .phase) && eqb (c .reads .0) 0)) h in
+      let b = both (isIdle (c .phase)) (eqb (c .reads .0) 0)
+      (or-else (ltb i (t .clients)) (isIdle (c .phase) && eqb (c .reads .0) 0) (a .1) e) in
+      (idle-is (c .phase) (b .0), eqb-true (c .reads .0) 0 (b .1))
+
+  -- the client's number, f, read number and phase
+  own : (c .reads .0 < 2 ^ 20) × WellPhase formats (c .phase)
+  unfolding isSoundClient
+  own =
+      let q = each
+      (leb 1 (suc i) ∷ leb (suc i) 6 ∷ leb (t .f) 4 ∷ ltb (c .reads .0) (2 ^ 20) ∷ isSoundPhase (c .phase) ∷ [])
+      (both-sound .0) in
+      (ltb-true (c .reads .0) (2 ^ 20) (q .1 .1 .1 .0), well-phase (c .phase) (q .1 .1 .1 .1 .0))
+
+  pub memory : Sound (3 * t .f + 1) (isReading (c .phase)) (stores (c .phase)) l
+  memory = facts (3 * t .f + 1) (isReading (c .phase)) (stores (c .phase)) l (both-sound .1)
+
+  abbrev reading : ℕ → Bool
+  reading j = ltb j (3 * t .f + 1) && isReading (c .phase)
+
+  abbrev storing : ℕ → Bool
+  storing j = ltb j (3 * t .f + 1) && stores (c .phase)
+
+  -- ---- what the memory says of each server
+
+  noted : (k x : ℕ) → notedIn l k ≡ some x → x < 2 ^ 24
+  unfolding notedIn
+  noted zero x e = clash (cc)
+  noted (suc j) x e =
+      by-test (ltb j 13)
+      (λ q. let less = ltb-true j 13 q in
+      let w : getD l j 0 ≡ suc x = note-some (getD l j 0) x (sym (noted-at l j less) ∙ e) in
+      let top : getD l j 0 ≤ 2 ^ 24 = most (reading j) (2 ^ 24) (getD l j 0) (memory .part j less .noted) in
+      omega arith)
+      (λ q. let z : _≡_ {A = Option ℕ} none (some x) = rw q at e in clash (cc))
+
+  not-read : (j : ℕ) → isServer (settingsOf t) (suc j) && isReading (c .phase) ≡ false → reading j ≡ false
+  not-read j e = ap (λ (b : Bool). b && isReading (c .phase)) (sym (server-place t j)) ∙ e
+
+  noted-unused : (k : ℕ) → isServer (settingsOf t) k && isReading (c .phase) ≡ false → notedIn l k ≡ none
+  unfolding notedIn noteOf
+  noted-unused zero e = refl
+  noted-unused (suc j) e =
+      by-test (ltb j 13)
+      (λ q. let less = ltb-true j 13 q in
+      let flag : reading j ≡ false = not-read j e in
+      let top : getD l j 0 ≤ 0 = rw flag at (memory .part j less .noted) in
+      let z : getD l j 0 ≡ 0 = omega arith in
+      noted-at l j less ∙ ap noteOf z)
+      (λ q. rw q)
+
+  sets-unused : (k : ℕ) → isServer (settingsOf t) k && isReading (c .phase) ≡ false → setIn l k ≡ []
+  unfolding setIn
+  sets-unused zero e = refl
+  sets-unused (suc j) e =
+      by-test (ltb j 13)
+      (λ q. let less = ltb-true j 13 q in
+      let flag : reading j ≡ false = not-read j e in
+      let top : getD l (13 + j) 0 ≤ 0 = rw flag at (memory .part j less .size) in
+      no-length (setIn l (suc j)) (size-below l j (memory .long) less (omega arith) ∙ omega arith))
+      (λ q. rw q)
+
+  ack-none : (j : ℕ) → storing j ≡ false → ackIn l (suc j) ≡ false
+  unfolding ackIn
+  ack-none j flag =
+      by-test (ltb j 13)
+      (λ q. let less = ltb-true j 13 q in
+      let top : getD l (26 + j) 0 ≤ 0 = rw flag at (memory .part j less .ack) in
+      let z : getD l (26 + j) 0 ≡ 0 = omega arith in
+      ack-at l j less ∙ ap (λ (w : ℕ). not (eqb w 0)) z)
+      (λ q. rw q)
+
+  acks-unused : (k : ℕ) → isServer (settingsOf t) k ≡ false → ackIn l k ≡ false
+  unfolding ackIn
+  acks-unused zero e = refl
+  acks-unused (suc j) e = ack-none j (ap (λ (b : Bool). b && stores (c .phase)) (sym (server-place t j) ∙ e))
+
+  acks-idle : ((e : Entry) (w : WriteCounter) → c .phase ≡ Storing e w → ⊥) → (k : ℕ) → ackIn l k ≡ false
+  unfolding ackIn
+  acks-idle apart zero = refl
+  acks-idle apart (suc j) =
+      ack-none j
+      (ap (λ (b : Bool). ltb j (3 * t .f + 1) && b) (no-store (c .phase) apart) ∙ and-false (ltb j (3 * t .f + 1)))
+
+  module _ (words : (x : ℕ) → x < 91 → getD l x 0 < 2 ^ 64) where
+    set-pairs : (j : ℕ) → j < 13 → (p : Pair) → Member p (setIn l (suc j)) → p .0 < 2 ^ 64
+    set-pairs j less =
+        every-at (λ p. p .0 < 2 ^ 64) (setIn l (suc j))
+        (every-place (λ p. p .0 < 2 ^ 64) initial (setIn l (suc j))
+        (λ x inside. let few = size-most l j (memory .long) less in
+        rw (pair-at l j (memory .long) less x initial inside) (words (39 + j * 4 + x) (omega arith))))
+
+    sets : (k : ℕ) → WellSet (setIn l k)
+    unfolding setIn
+    sets zero = empty-set
+    sets (suc j) =
+        by-test (ltb j 13)
+        (λ q. let less = ltb-true j 13 q in
+        record {
+          ordered = rising-ordered (setIn l (suc j)) (memory .part j less .rising);
+          few = size-most l j (memory .long) less;
+          pairs = set-pairs j less;
+        })
+        (λ q. rw q empty-set)
+
+    pub well-client : WellClient (settingsOf t) formats (clientIn c l)
+    well-client =
+        record {
+          phase = own .1;
+          reads = own .0;
+          noted = noted;
+          sets = sets;
+          notedUnused = noted-unused;
+          setsUnused = sets-unused;
+          acksUnused = acks-unused;
+          acksIdle = acks-idle;
+        }
+
+  pub unused-client : ltb i (t .clients) ≡ false → clientIn c l ≡ newClient
+  unfolding isReading
+  unused-client e =
+      let p = at-rest e in
+      let quiet : (k : ℕ) → isServer (settingsOf t) k && isReading (c .phase) ≡ false =
+      λ k. ap (λ (ph : Phase). isServer (settingsOf t) k && isReading ph) (p .0) ∙ and-false (isServer (settingsOf t) k) in
+      let apart : (x : Entry) (w : WriteCounter) → c .phase ≡ Storing x w → ⊥ =
+      λ x w z. let q : Idle ≡ Storing x w = sym (p .0) ∙ z in clash (cc) in
+      let notes : notedIn l ≡ (λ (k : ℕ). none) = fun-ext (λ k. noted-unused k (quiet k)) in
+      let pairs : setIn l ≡ (λ (k : ℕ). []) = fun-ext (λ k. sets-unused k (quiet k)) in
+      let acks : ackIn l ≡ (λ (k : ℕ). false) = fun-ext (acks-idle apart) in
+      λ q. record {
+        phase = p .0 q;
+        reads = record { 0 = p .1 q };
+        noted = notes q;
+        sets = pairs q;
+        acks = acks q;
+      }
+
+  pub replies-back : storeReplies (clientIn c l) ≡ l
+  replies-back =
+      store-held (3 * t .f + 1) (isReading (c .phase)) (stores (c .phase)) l memory (c .phase) (c .reads)

@@ -1,0 +1,67 @@
+-- Sets of clients and servers are found again in what is stored of them.
+--
+-- A set of clients 1 to 6 is its bits (`set-is`), so the stopped clients are, and a server's readers. A stored server then sends
+-- what the server sends (`sends-is`).
+-- Assumes nothing.
+use mathlib.Core.Path.{_≡_, refl, sym, ap, fun-ext, _∙_}
+use mathlib.Core.Bool.{Bool, false}
+use mathlib.Core.List.{[], _∷_, _++_}
+use Prim.Native.Nat.{ℕ, zero, suc, _≤_}
+use native.Mathlib.Omega.{arith}
+use lib.Dec.{ltb}
+use borrow.Author.Tests.{ltb-true, ltb-false}
+use Rattle.basics.proofs.Cases.{by-test, true-or-false}
+use Rattle.message.specs.declared.Message.{Message}
+use Rattle.message.specs.declared.Message.the-variants.{GetInfo, Info, Done, WriteInfo, Fwd, WriteAck}
+use Rattle.message.specs.Pair.{counter}
+use Rattle.register.specs.Server.{Server, sent, forwards, serverSends}
+use Rattle.register.specs.Settings.{Settings, Accepted, isClient}
+use Rattle.register.specs.Steps.{Formats}
+use Rattle.register.specs.World.{World}
+use Rattle.register.proofs.Bounds.{client-small}
+use Rattle.register.proofs.WellFormed.{WellServer, WellFormed}
+use Rattle.server.specs.State.{contains, setOf, view, store}
+use Rattle.server.specs.Taking.{sentBy, sendsOf}
+use Rattle.server.proofs.Sets.{set-lt, set-of, set-above}
+use Rattle.state.specs.State.{isOf, storeStopped}
+use Rattle.state.proofs.Ranges.{of-range, over-range}
+
+pub set-is : (p : ℕ → Bool) → ((d : ℕ) → isOf 6 d ≡ false → p d ≡ false) → contains (setOf p 6) ≡ p
+unfolding contains
+set-is p none-else = fun-ext each
+  where
+    each : (d : ℕ) → contains (setOf p 6) d ≡ p d
+    each zero = sym (none-else 0 refl)
+    each (suc i) =
+        by-test (ltb i 6) (λ h. set-of p 6 i (ltb-true i 6 h))
+        (λ h. let over : 6 ≤ i = ltb-false i 6 h in
+        set-above (setOf p 6) 6 i (set-lt p 6) over ∙ sym (none-else (suc i) (over-range 6 (suc i) (omega arith))))
+
+module _ (S : Settings) (accepted : Accepted S) where
+  -- clients are among 1 to 6
+  pub no-client : (d : ℕ) → isOf 6 d ≡ false → isClient S d ≡ false
+  no-client d h =
+      by-test (isClient S d)
+      (λ e. let r = client-small S accepted d e in absurd (true-or-false (isOf 6 d) (of-range 6 d (r .0) (r .1)) h)) (λ e. e)
+
+  pub stopped-is : (F : Formats) (w : World) → WellFormed S F w → contains (storeStopped w) ≡ w .stopped
+  unfolding storeStopped
+  stopped-is F w well = set-is (w .stopped) (λ d h. well .stoppedUnused d (no-client d h))
+
+  module _ (s : Server) (well : WellServer S s) where
+    readers-is : contains (setOf (s .readers) 6) ≡ s .readers
+    readers-is = set-is (s .readers) (λ d h. well .readers d (no-client d h))
+
+    pub server-is : view (store s) ≡ s
+    unfolding view store
+    server-is = λ i. record { pair = s .pair; readers = readers-is i }
+
+    pub sends-is : (d : ℕ) (m : Message) → sentBy d (sendsOf (store s) m) ≡ serverSends s d m
+    unfolding sentBy sendsOf store serverSends
+    sends-is d (GetInfo t) = refl
+    sends-is d Done = refl
+    sends-is d (WriteInfo p) =
+        ap (λ (f : ℕ → Bool). forwards f p 6 ++ sent d (WriteAck (counter p)) ∷ []) readers-is
+    sends-is d (Info t p) = refl
+    sends-is d (Fwd p) = refl
+    sends-is d (WriteAck c) = refl

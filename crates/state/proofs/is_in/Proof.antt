@@ -1,0 +1,20 @@
+-- `is_in`: a mask of one bit is the remainder by two.
+use Prim.Native.Nat.{_/_, _^_}
+use borrow.Author.Needs.{needs}
+use lib.Bits.{and-mask}
+use Rattle.server.specs.State.{contains}
+use Rattle.state.proofs.is_in.Statement.{statement}
+use Rattle.state.proofs.is_in.Tie as tie
+
+cast-result : tie.Need-cast-result
+cast-result c = search needs
+
+shr-result : tie.Need-shr-result
+shr-result c = search needs
+
+returns : tie.Need-returns
+unfolding contains
+returns c = rw (and-mask (c .args .set / 2 ^ c .args .i) 1)
+
+pub is-in-spec : {M : Type 1} → statement M
+is-in-spec = tie.close (tie.spec cast-result shr-result returns)

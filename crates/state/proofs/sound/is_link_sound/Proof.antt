@@ -1,0 +1,26 @@
+-- `is_link_sound`: both ways. Assumes nothing.
+use mathlib.Core.Path.{sym, _∙_}
+use borrow.Author.Needs.{needs}
+use borrow.Author.Tests.{not-true, not-false}
+use Rattle.state.specs.Sound.{isLinkSound}
+use Rattle.state.proofs.sound.is_link_sound.Statement.{statement}
+use Rattle.state.proofs.sound.is_link_sound.Tie as tie
+
+is-up-sound-requires : tie.Need-is-up-sound-requires
+is-up-sound-requires c κs = search needs
+
+returns : tie.Need-returns
+unfolding isLinkSound
+returns c = rw (sym (c .before .is-up-sound .ensures) ∙ not-true _ (c .if1 .taken))
+
+is-down-sound-requires : tie.Need-is-down-sound-requires
+is-down-sound-requires c κs = search needs
+
+returns-2 : tie.Need-returns-2
+unfolding isLinkSound
+returns-2 c =
+    rw (sym (c .before .before .is-up-sound .ensures) ∙ not-false _ (c .before .if1 .left)) (c .is-down-sound .ensures)
+
+pub is-link-sound-spec : {M : Type 1} → statement M
+is-link-sound-spec =
+    tie.close (tie.spec is-up-sound-requires returns is-down-sound-requires returns-2)

@@ -1,0 +1,115 @@
+-- L: the code's step is the model's.
+--
+-- Bytes that unpack to a message are its packing, so the channel gets that message; a stopped client's channel drops it.
+-- Assumes nothing.
+use mathlib.Core.Path.{_≡_, refl, sym, ap, subst, _∙_}
+use mathlib.Core.Bool.{Bool, true, false, cond, not, _&&_, _||_}
+use mathlib.Core.List.{List, [], _∷_, _++_}
+use Prim.Native.Nat.{ℕ, _+_, _-_, _<_}
+use native.Mathlib.Omega.{arith}
+use lib.Dec.{eqb, leb}
+use lib.ListN.{length}
+use borrow.Author.Tests.{eqb-true, leb-true, not-false}
+use Rattle.basics.proofs.Cases.{by-test, true-or-false}
+use Rattle.message.specs.declared.Message.{Message}
+use Rattle.message.specs.declared.Unpacked.{Unpacked}
+use Rattle.message.specs.declared.Unpacked.the-variants.{Good, Bad}
+use Rattle.message.specs.declared.Words.{Words}
+use Rattle.message.specs.Layout.{bytesOf, unpackOf}
+use Rattle.message.proofs.RoundTrip.{pack-unpack}
+use Rattle.channel.specs.Memory.{countAt, putOn}
+use Rattle.register.specs.declared.Answer.the-variants.{Went}
+use Rattle.register.specs.declared.Step.the-variants as code
+use Rattle.register.specs.Settings.{Accepted, isServer, isClient}
+use Rattle.register.specs.Steps.{L, hasRoom, isReply, ladder, liesWith, accepted}
+use Rattle.register.specs.World.{World, lies, apply, answerOf, nextServers, nextClients, nextStopped, nextUp, nextDown}
+use Rattle.register.specs.World.{leavesUp, leavesDown, putsUp, putsDown}
+use Rattle.register.proofs.Dropping.{nothing-put}
+use Rattle.register.proofs.Rooms.{unless}
+use Rattle.register.proofs.WellFormed.{WellFormed}
+use Rattle.server.specs.State.{contains, store}
+use Rattle.state.specs.declared.Settings.{Settings}
+use Rattle.register.specs.Formats.{formats}
+use Rattle.state.specs.State.{settingsOf, bytesIn, stepOf, downIndex, sessionOf, storeStopped, storeSlots, storeAllReplies}
+use Rattle.steps.specs.Inner.{lied, lieLadder, lieStep, innerOf}
+use Rattle.state.proofs.Channels.{store-slots, slots-same, changed, down-put}
+use Rattle.steps.proofs.Parts.{on, outcomeOf, innerAt, modelAt, step-law}
+use Rattle.steps.proofs.Rooms.{up-short, down-short, stopped-same, inside, count-down}
+
+by-unpacked : {A : Type 0} (u : Unpacked) → (u ≡ Bad → A) → ((m : Message) → u ≡ Good m → A) → A
+by-unpacked Bad f g = f refl
+by-unpacked (Good m) f g = g m refl
+
+-- ---- one channel, by cases on the tests: c, it is the client's; b, it is the server's; s, the client has stopped
+
+dropped : (c b s : Bool) (l : List Message) (m : Message) → (c ≡ true → s ≡ true)
+    → l ≡ l ++ cond s [] (cond (b && c) (m ∷ []) [])
+dropped c false s l m h = sym (nothing-put s l)
+dropped false true s l m h = sym (nothing-put s l)
+dropped true true s l m h = rw (h refl) (sym (nothing-put true l))
+
+put-last : (c b s : Bool) (l x : List Message) (m : Message) → (c ≡ true → s ≡ false) → (b ≡ true → c ≡ true → x ≡ l)
+    → cond (b && c) (x ++ m ∷ []) l ≡ l ++ cond s [] (cond (b && c) (m ∷ []) [])
+put-last c false s l x m h g = sym (nothing-put s l)
+put-last false true s l x m h g = sym (nothing-put s l)
+put-last true true s l x m h g = rw (h refl, g refl refl)
+
+module _ (t : Settings) (accepted : Accepted (settingsOf t)) (w : World) (well : WellFormed (settingsOf t) formats w) where
+  module _ (k d : ℕ) (client : isClient (settingsOf t) d ≡ true) (server : isServer (settingsOf t) k ≡ true) (x : Words) where
+    room-is : contains (storeStopped w) d || leb (countAt (storeSlots w) (downIndex (d - 1) (k - 1)) + 1) 8
+        ≡ w .stopped d || hasRoom (w .down d k) 1
+    unfolding hasRoom
+    room-is = rw (stopped-same t accepted w well d, count-down t accepted w well d k client server)
+
+    module _ (m : Message) (unpacks : unpackOf (bytesIn x) ≡ Good m) (room : w .stopped d || hasRoom (w .down d k) 1 ≡ true) where
+      abbrev at : ℕ
+      at = downIndex (d - 1) (k - 1)
+
+      slots-after : cond (contains (storeStopped w) d) (storeSlots w) (putOn (storeSlots w) at (bytesIn x))
+          ≡ storeSlots (apply (settingsOf t) w (lies k d m))
+      unfolding changed hasRoom apply nextUp nextDown leavesUp leavesDown putsUp putsDown
+      slots-after =
+          let w′ = apply (settingsOf t) w (lies k d m) in
+          let up-same : (e j : ℕ) → w .up e j ≡ w′ .up e j =
+          λ e j. sym (nothing-put (settingsOf t .faulty j) (w .up e j)) in
+          rw (stopped-same t accepted w well d)
+          (by-test (w .stopped d)
+          (λ s. rw s
+          (store-slots w
+          ∙ slots-same (w .up) (w′ .up) (w .down) (w′ .down) up-same
+          (λ e j. dropped (eqb d e) (eqb k j) (w .stopped e) (w .down e j) m (λ c. rw (← (eqb-true d e c)) s))
+          ∙ sym (store-slots w′)))
+          (λ s. let fits = leb-true (length (w .down d k) + 1) 8 (unless (w .stopped d) _ room s) in
+          let less : length (w .down d k) < 8 = omega arith in
+          rw s
+          (ap (λ (b : List ℕ). putOn (storeSlots w) at b) (sym (pack-unpack (bytesIn x) m unpacks .packing))
+          ∙ ap (λ (b : List ℕ). putOn b at (bytesOf m)) (store-slots w)
+          ∙ down-put (w .up) (w .down) d k (inside t accepted w well d k client server) (up-short t accepted w well)
+          (down-short t accepted w well) m less
+          ∙ slots-same (w .up) (w′ .up) (changed (w .down) d k (w .down d k ++ m ∷ [])) (w′ .down) up-same
+          (λ e j. put-last (eqb d e) (eqb k j) (w .stopped e) (w .down e j) (w .down d k) m
+          (λ c. rw (← (eqb-true d e c)) s) (λ b c. rw (eqb-true d e c, eqb-true k j b)))
+          ∙ sym (store-slots w′))))
+
+      lies-law : (j c : ℕ) → on w j c (lied t) k d x ≡ outcomeOf (settingsOf t) w (lies k d m) j c
+      unfolding answerOf apply nextStopped nextServers nextClients storeStopped storeAllReplies
+      lies-law j c =
+          λ i. record {
+            answer = Went;
+            stopped = storeStopped w;
+            server = store (w .servers j);
+            client = sessionOf (w .clients c);
+            slots = slots-after i;
+            replies = storeAllReplies w;
+          }
+
+    pub lie-law : (j c : ℕ) → innerAt t w j c (code.L k d x) ≡ modelAt t w j c (code.L k d x)
+    unfolding innerOf lieStep stepOf ladder accepted settingsOf isReply
+    lie-law j c =
+        step-law (settingsOf t) formats w j c (L k d (bytesIn x)) (on w j c (lieLadder t) k d x) (on w j c (lied t) k d x)
+        (refl, (refl, λ e. (refl, (refl, λ e. (refl, (refl, λ e. (refl, (ap not room-is, λ e. tt))))))))
+        (λ none en. by-unpacked (unpackOf (bytesIn x))
+        (λ e. absurd (true-or-false true refl (rw e at (none .1 .1 .0))))
+        (λ m e. subst
+        (λ (u : Unpacked). on w j c (lied t) k d x ≡ outcomeOf (settingsOf t) w (liesWith (settingsOf t) formats k d u) j c)
+        (sym e) (lies-law m e (not-false _ (none .1 .1 .1 .0)) j c)))

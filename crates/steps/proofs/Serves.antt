@@ -1,0 +1,146 @@
+-- K: the code's step is the model's.
+--
+-- The message in the first slot is the oldest of the channel, the stored server sends for it what the server sends, and the room
+-- that the ladder tests is where it is put.
+-- Assumes nothing.
+use mathlib.Core.Path.{_≡_, refl, sym, ap, subst, _∙_}
+use mathlib.Core.Bool.{Bool, true, false, cond, not}
+use mathlib.Core.List.{List, [], _∷_, _++_}
+use Prim.Native.Nat.{ℕ, _-_, _≤_}
+use native.Mathlib.Omega.{arith}
+use lib.Dec.{eqb}
+use lib.ListN.{length}
+use Rattle.basics.proofs.Cases.{by-list, true-or-false}
+use Rattle.basics.proofs.Update.{update-same}
+use Rattle.message.specs.declared.Message.{Message}
+use Rattle.channel.specs.Memory.{taken}
+use Rattle.register.specs.declared.Answer.the-variants.{Went}
+use Rattle.register.specs.declared.Step.the-variants as code
+use Rattle.register.specs.Server.{Sent, serverAfter, serverSends, sentTo}
+use Rattle.register.specs.Settings.{Accepted, isServer, isClient}
+use Rattle.register.specs.Steps as model
+use Rattle.register.specs.Steps.{K, isEmpty, oldest, ladder, servesOldest, accepted}
+use Rattle.register.specs.World.{World, serves, apply, answerOf, nextServers, nextClients, nextStopped, nextUp, nextDown}
+use Rattle.register.specs.World.{leavesUp, leavesDown, putsUp, putsDown}
+use Rattle.register.proofs.Bounds.{client-small}
+use Rattle.register.proofs.Dropping.{nothing-put}
+use Rattle.register.proofs.Enabled.{Enabled}
+use Rattle.register.proofs.WellFormed.{FromClient, WellFormed}
+use Rattle.register.proofs.WellServer.{well-sends}
+use Rattle.register.proofs.WellChannels.{oldest-kind}
+use Rattle.server.specs.State.{contains, view, store}
+use Rattle.state.specs.declared.Settings.{Settings}
+use Rattle.register.specs.Formats.{formats}
+use Rattle.state.specs.State.{settingsOf, stepOf, upIndex, sessionOf, storeStopped, storeSlots, storeAllReplies}
+use Rattle.steps.specs.Inner.{roomDown, sendDown, requested, replied, served, serveLadder, serveStep, innerOf}
+use Rattle.state.proofs.Formats.{client-message}
+use Rattle.state.proofs.Channels.{store-slots, slots-same, changed, short-changed, up-take, up-oldest}
+use Rattle.steps.proofs.SendingDown.{sentDown, send-down}
+use Rattle.state.proofs.StoredServer.{stopped-is, server-is, sends-is}
+use Rattle.steps.proofs.Parts.{on, outcomeOf, innerAt, modelAt, step-law}
+use Rattle.steps.proofs.Rooms.{up-short, down-short, inside, count-up, empty-is, room-down-is, down-room}
+
+module _ (t : Settings) (accepted : Accepted (settingsOf t)) (w : World) (well : WellFormed (settingsOf t) formats w) where
+  module _ (k d : ℕ) (client : isClient (settingsOf t) d ≡ true) (server : isServer (settingsOf t) k ≡ true) where
+    -- ---- the message that waits
+
+    module _ (m : Message) (ms : List Message) (waits : w .up d k ≡ m ∷ ms) where
+      kind : FromClient m
+      kind = oldest-kind FromClient (w .up d k) m ms waits (well .up d k)
+
+      request-is : (c : ℕ) → on w k c (requested t) k d ≡ m
+      request-is c =
+          rw (store-slots w)
+          (up-oldest (w .up) (w .down) d k (inside t accepted w well d k client server) (up-short t accepted w well)
+          (down-short t accepted w well) m ms waits (client-message m kind))
+
+      replied-is : (c : ℕ) → on w k c (replied t) k d ≡ serverSends (w .servers k) d m
+      replied-is c = rw (request-is c) (sends-is (settingsOf t) accepted (w .servers k) (well .server k) d m)
+
+    room-is : (c : ℕ) → isEmpty (w .up d k) ≡ false
+        → roomDown t (storeStopped w) (storeSlots w) (k - 1) (on w k c (replied t) k d)
+        ≡ model.roomDown (settingsOf t) formats w k d (oldest (w .up d k))
+    unfolding isEmpty oldest
+    room-is c some =
+        by-list (w .up d k) (λ e. absurd (true-or-false true refl (rw e at some)))
+        (λ m ms e. rw (replied-is m ms e c, e) (room-down-is t accepted w well k server d m))
+
+    -- ---- it is taken
+
+    module _ (c : ℕ) (m : Message) (ms : List Message) (en : Enabled (settingsOf t) formats w (serves k d m ms)) where
+      abbrev sends : List Sent
+      sends = serverSends (w .servers k) d m
+
+      slots-after : sendDown (storeStopped w) (taken (storeSlots w) (upIndex (d - 1) (k - 1))) (k - 1) (on w k c (replied t) k d)
+          ≡ storeSlots (apply (settingsOf t) w (serves k d m ms))
+      unfolding settingsOf sentDown changed apply nextUp nextDown leavesUp leavesDown putsUp putsDown
+      slots-after =
+          let z = storeStopped w in
+          let i = inside t accepted w well d k client server in
+          let hu = up-short t accepted w well in
+          let hn = down-short t accepted w well in
+          let message = kind m ms (en .channel) in
+          let w′ = apply (settingsOf t) w (serves k d m ms) in
+          let u = changed (w .up) d k ms in
+          let rest : length ms ≤ 8 = let h = hu d k in let g = ap length (en .channel) in omega arith in
+          ap (sendDown z (taken (storeSlots w) (upIndex (d - 1) (k - 1))) (k - 1)) (replied-is m ms (en .channel) c)
+          ∙ ap (λ (b : List ℕ). sendDown z (taken b (upIndex (d - 1) (k - 1))) (k - 1) sends) (store-slots w)
+          ∙ ap (λ (b : List ℕ). sendDown z b (k - 1) sends) (up-take (w .up) (w .down) d k i hu hn m ms (en .channel))
+          ∙ send-down z k (i .first) (i .last) u (short-changed (w .up) d k ms hu rest) sends (w .down) hn
+          (λ x h. client-small (settingsOf t) accepted (x .to)
+          (well-sends (settingsOf t) (w .servers k) d client (well .server k) m message x h .client))
+          (down-room t accepted w well k server d m client message (en .room))
+          ∙ slots-same u (w′ .up) (sentDown (contains z) k sends (w .down)) (w′ .down)
+          (λ e j. sym (nothing-put (contains (t .faulty) j) (u e j)))
+          (λ e j. ap (λ (f : ℕ → Bool). w .down e j ++ cond (f e) [] (cond (eqb k j) (sentTo e sends) []))
+          (stopped-is (settingsOf t) accepted formats w well))
+          ∙ sym (store-slots w′)
+
+      serves-law : on w k c (served t) k d ≡ outcomeOf (settingsOf t) w (serves k d m ms) k c
+      unfolding answerOf apply nextStopped nextServers nextClients storeStopped storeAllReplies
+      serves-law =
+          let message = request-is m ms (en .channel) c in
+          let before = server-is (settingsOf t) accepted (w .servers k) (well .server k) in
+          let after-it : store (serverAfter (view (store (w .servers k))) d (on w k c (requested t) k d))
+          ≡ store (apply (settingsOf t) w (serves k d m ms) .servers k) =
+          rw (message, before, update-same (w .servers) k (serverAfter (w .servers k) d m)) in
+          λ i. record {
+            answer = Went;
+            stopped = storeStopped w;
+            server = after-it i;
+            client = sessionOf (w .clients c);
+            slots = slots-after i;
+            replies = storeAllReplies w;
+          }
+
+    pub serve-law : (c : ℕ) → innerAt t w k c (code.K k d) ≡ modelAt t w k c (code.K k d)
+    unfolding innerOf serveStep stepOf ladder accepted settingsOf isEmpty
+    serve-law c =
+        step-law (settingsOf t) formats w k c (K k d) (on w k c (serveLadder t) k d) (on w k c (served t) k d) (
+          refl,
+          (
+            refl,
+            λ e. (
+              refl,
+              (
+                refl,
+                λ e. (
+                  refl,
+                  (
+                    ap (λ (n : ℕ). eqb n 0) (count-up t accepted w well d k client server) ∙ empty-is (w .up d k),
+                    λ some.
+                        (refl, (ap not (room-is c some), λ e. tt)),
+                  ),
+                ),
+              ),
+            ),
+          ),
+        )
+        (λ none en. by-list (w .up d k)
+        (λ e. absurd (true-or-false true refl (rw e at (none .1 .1 .0))))
+        (λ m ms e. subst
+        (λ (l : List Message). on w k c (served t) k d
+        ≡ outcomeOf (settingsOf t) w (servesOldest (settingsOf t) formats k d l) k c)
+        (sym e)
+        (serves-law c m ms
+        (subst (λ (l : List Message). Enabled (settingsOf t) formats w (servesOldest (settingsOf t) formats k d l)) e en))))

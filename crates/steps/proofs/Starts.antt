@@ -1,0 +1,185 @@
+-- R and W: the code's step is the model's.
+--
+-- A client that starts is idle, so it holds nothing of any server and its replies are zeros before and after. GET_INFO goes on
+-- its channels in the room that the ladder has tested.
+-- Assumes nothing.
+use mathlib.Core.Path.{_≡_, refl, sym, ap, fun-ext, _∙_}
+use mathlib.Core.Bool.{true, false, not, _&&_}
+use mathlib.Core.List.{List, [], _∷_}
+use mathlib.Core.Option.{none}
+use Prim.Native.Nat.{ℕ, _-_, _≤_}
+use native.Mathlib.Omega.{arith}
+use Rattle.basics.proofs.Cases.{true-or-false}
+use Rattle.basics.proofs.Update.{update-same}
+use Rattle.message.specs.declared.Entry.{Entry}
+use Rattle.message.specs.declared.Message.{Message}
+use Rattle.message.specs.declared.Message.the-variants.{GetInfo}
+use Rattle.message.specs.declared.WriteCounter.{WriteCounter}
+use Rattle.register.specs.declared.Answer.the-variants.{Went}
+use Rattle.register.specs.declared.Phase.{Phase}
+use Rattle.register.specs.declared.Phase.the-variants.{Idle, Reading, ReadingForWrite, Storing}
+use Rattle.register.specs.declared.Step.the-variants as code
+use Rattle.register.specs.Client.{Client, cleared, isIdle, isReading, nextRead, started}
+use Rattle.register.specs.Settings as model
+use Rattle.register.specs.Settings.{Accepted, isServer, isClient}
+use Rattle.register.specs.Steps.{R, W, Formats, ladder, accepted}
+use Rattle.register.specs.World.{World, begins, apply, answerOf, nextServers, nextClients, nextStopped, nextUp, nextDown}
+use Rattle.register.specs.World.{leavesUp, leavesDown, putsUp, putsDown}
+use Rattle.register.proofs.Bounds.{client-small}
+use Rattle.register.proofs.Dropping.{nothing-put}
+use Rattle.register.proofs.Enabled.{Enabled, places}
+use Rattle.register.proofs.WellFormed.{WellClient, WellFormed}
+use Rattle.server.specs.State.{store}
+use Rattle.replies.specs.Replies.{storeReplies}
+use Rattle.replies.proofs.Storing.{store-cleared}
+use Rattle.state.specs.declared.Settings.{Settings}
+use Rattle.register.specs.Formats.{formats}
+use Rattle.state.specs.State.{settingsOf, stepOf, sessionOf, storeStopped, storeSlots, storeAllReplies}
+use Rattle.steps.specs.Inner.{sendUp, begun, readLadder, writeLadder, readStep, writeStep, innerOf}
+use Rattle.state.proofs.Ranges.{and-false}
+use Rattle.state.proofs.Channels.{store-slots, slots-same}
+use Rattle.steps.proofs.SendingUp.{sentUp, send-up}
+use Rattle.state.proofs.Replies.{replies-kept}
+use Rattle.steps.proofs.Parts.{on, outcomeOf, innerAt, modelAt, step-law}
+use Rattle.steps.proofs.Rooms.{few-servers, up-short, down-short, stopped-same, room-up-is, room-of}
+
+-- ---- an idle client
+
+not-reading : (ph : Phase) → isIdle ph ≡ true → isReading ph ≡ false
+unfolding isIdle isReading
+not-reading Idle h = refl
+not-reading Reading h = absurd (true-or-false false h refl)
+not-reading (ReadingForWrite e) h = absurd (true-or-false false h refl)
+not-reading (Storing e c) h = refl
+
+not-storing : (ph : Phase) → isIdle ph ≡ true → (e : Entry) (c : WriteCounter) → ph ≡ Storing e c → ⊥
+unfolding isIdle
+not-storing ph h e c q = true-or-false (isIdle ph) h (ap isIdle q)
+
+pub idle-empty : (S : model.Settings) (F : Formats) (x : Client) → WellClient S F x → isIdle (x .phase) ≡ true
+    → x ≡ cleared (x .phase) (x .reads)
+idle-empty S F x well idle =
+    let unused : (k : ℕ) → isServer S k && isReading (x .phase) ≡ false =
+    λ k. and-false (isServer S k) (isReading (x .phase)) (not-reading (x .phase) idle) in
+    let noted : x .noted ≡ (λ k. none) = fun-ext (λ k. well .notedUnused k (unused k)) in
+    let sets : x .sets ≡ (λ k. []) = fun-ext (λ k. well .setsUnused k (unused k)) in
+    let acks : x .acks ≡ (λ k. false) = fun-ext (λ k. well .acksIdle (not-storing (x .phase) idle) k) in
+    λ i. record { phase = x .phase; reads = x .reads; noted = noted i; sets = sets i; acks = acks i }
+
+one-place : (ph : Phase) → 1 ≤ places ph
+one-place Idle = omega arith
+one-place Reading = omega arith
+one-place (ReadingForWrite e) = omega arith
+one-place (Storing e c) = omega arith
+
+-- ---- a start
+
+module _ (t : Settings) (accepted : Accepted (settingsOf t)) (w : World) (well : WellFormed (settingsOf t) formats w) where
+  module _ (d k : ℕ) (client : isClient (settingsOf t) d ≡ true) where
+    module _ (ph : Phase) (en : Enabled (settingsOf t) formats w (begins d ph)) where
+      slots-after : sendUp t (storeSlots w) (d - 1) (GetInfo (nextRead (w .clients d)) ∷ [])
+          ≡ storeSlots (apply (settingsOf t) w (begins d ph))
+      unfolding settingsOf isServer sentUp apply nextUp nextDown leavesUp leavesDown putsUp putsDown
+      slots-after =
+          let c = client-small (settingsOf t) accepted d client in
+          let m : Message = GetInfo (nextRead (w .clients d)) in
+          let w′ = apply (settingsOf t) w (begins d ph) in
+          ap (λ (b : List ℕ). sendUp t b (d - 1) (m ∷ [])) (store-slots w)
+          ∙ send-up t d (c .0) (c .1) (few-servers t accepted w well) (w .down) (down-short t accepted w well) (m ∷ []) (w .up)
+          (up-short t accepted w well) (room-of t accepted w well d client 1 (places ph) (one-place ph) (en .room))
+          ∙ slots-same _ (w′ .up) (w .down) (w′ .down) (λ e j. refl) (λ e j. sym (nothing-put (w .stopped e) (w .down e j)))
+          ∙ sym (store-slots w′)
+
+      replies-after : storeAllReplies w ≡ storeAllReplies (apply (settingsOf t) w (begins d ph))
+      unfolding storeAllReplies apply nextClients started
+      replies-after =
+          let c = client-small (settingsOf t) accepted d client in
+          let empty = idle-empty (settingsOf t) formats (w .clients d) (well .client d) (en .idle) in
+          sym (replies-kept (w .clients) d (c .0) (c .1) (started (w .clients d) ph)
+          (store-cleared ph (nextRead (w .clients d))
+          ∙ sym (ap storeReplies empty ∙ store-cleared (w .clients d .phase) (w .clients d .reads))))
+
+      begins-law : on w k d (begun t) d ph ≡ outcomeOf (settingsOf t) w (begins d ph) k d
+      unfolding answerOf apply nextStopped nextServers nextClients storeStopped started nextRead
+      begins-law =
+          let client-after = sym (update-same (w .clients) d (started (w .clients d) ph)) in
+          λ i. record {
+            answer = Went;
+            stopped = storeStopped w;
+            server = store (w .servers k);
+            client = sessionOf (client-after i);
+            slots = slots-after i;
+            replies = replies-after i;
+          }
+
+    pub read-law : innerAt t w k d (code.R d) ≡ modelAt t w k d (code.R d)
+    unfolding innerOf readStep stepOf ladder accepted
+    read-law =
+        step-law (settingsOf t) formats w k d (R d)
+        (on w k d (readLadder t) d)
+        (on w k d (begun t) d Reading) (
+          refl,
+          (
+            refl,
+            λ e. (
+              refl,
+              (
+                stopped-same t accepted w well d,
+                λ e. (
+                  refl,
+                  (
+                    refl,
+                    λ e. (
+                      refl,
+                      (
+                        refl,
+                        λ e.
+                            (refl, (ap not (room-up-is t accepted w well d client 2), λ e. tt)),
+                      ),
+                    ),
+                  ),
+                ),
+              ),
+            ),
+          ),
+        )
+        (λ none en. begins-law Reading en)
+
+    pub write-law : (e : Entry) → innerAt t w k d (code.W d e) ≡ modelAt t w k d (code.W d e)
+    unfolding innerOf writeStep stepOf ladder accepted
+    write-law e =
+        step-law (settingsOf t) formats w k d (W d e)
+        (on w k d (writeLadder t) d e)
+        (on w k d (begun t) d (ReadingForWrite e)) (
+          refl,
+          (
+            refl,
+            λ q. (
+              refl,
+              (
+                stopped-same t accepted w well d,
+                λ q. (
+                  refl,
+                  (
+                    refl,
+                    λ q. (
+                      refl,
+                      (
+                        refl,
+                        λ q. (
+                          refl,
+                          (
+                            refl,
+                            λ q.
+                                (refl, (ap not (room-up-is t accepted w well d client 3), λ q. tt)),
+                          ),
+                        ),
+                      ),
+                    ),
+                  ),
+                ),
+              ),
+            ),
+          ),
+        )
+        (λ none en. begins-law (ReadingForWrite e) en)

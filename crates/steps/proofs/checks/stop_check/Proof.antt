@@ -1,0 +1,45 @@
+-- `stop_check`: the rungs in turn. Assumes nothing.
+use mathlib.Core.List.{List}
+use native.Mathlib.Omega.{arith}
+use borrow.Author.Needs.{needs}
+use borrow.Author.Tests.{not-false}
+use Rattle.refusal.specs.Ladder.{Rung}
+use Rattle.steps.specs.Checks.{stopChecks}
+use Rattle.steps.proofs.Named.{client-within}
+use Rattle.steps.proofs.Rungs.{end, stop, next, climbs, is-of, not-of}
+use Rattle.steps.proofs.checks.stop_check.Statement.{statement}
+use Rattle.steps.proofs.checks.stop_check.Tie as tie
+
+-- the rungs
+abbrev rungs : (c : tie.Start) → List Rung
+rungs c = let a = c .args in stopChecks (a .t) (a .stopped) (a .d)
+
+is-client-requires : tie.Need-is-client-requires
+is-client-requires c κs = search needs
+
+returns : tie.Need-returns
+returns c =
+    climbs (rungs (c .before .before)) _
+    (stop (not-of (c .before .is-client .ensures) (c .if1 .taken)))
+
+has-requires : tie.Need-has-requires
+has-requires c κs =
+    let a = c .before .before .args in
+    omega (arith, client-within (a .t) (a .d) (is-of (c .before .is-client .ensures) (not-false _ (c .if1 .left))))
+
+returns-2 : tie.Need-returns-2
+returns-2 c =
+    let at-4 = c .before .before .before .before in
+    climbs (rungs at-4) _
+    (next (not-of (c .before .before .before .is-client .ensures) (c .before .before .if1 .left))
+    (stop (is-of (c .before .has .ensures) (c .if2 .taken))))
+
+returns-3 : tie.Need-returns-3
+returns-3 c =
+    let at-4 = c .before .before .before .before in
+    climbs (rungs at-4) _
+    (next (not-of (c .before .before .before .is-client .ensures) (c .before .before .if1 .left))
+    (next (is-of (c .before .has .ensures) (c .if2 .left)) end))
+
+pub stop-check-spec : {M : Type 1} → statement M
+stop-check-spec = tie.close (tie.spec is-client-requires returns has-requires returns-2 returns-3)

@@ -1,0 +1,39 @@
+-- `send_one`: the message is put where the client works, and dropped where it has stopped. Assumes nothing.
+use mathlib.Core.Path.{sym, _∙_}
+use borrow.Author.Needs.{needs}
+use borrow.Author.Tests.{not-true, not-false}
+use Rattle.steps.proofs.SendLaws.{put-message, send-working, send-stopped}
+use Rattle.steps.proofs.transport.send_one.Statement.{statement}
+use Rattle.steps.proofs.transport.send_one.Tie as tie
+
+is-in-requires : tie.Need-is-in-requires
+is-in-requires c κs = search needs
+
+down-requires : tie.Need-down-requires
+down-requires c κs = search needs
+
+words-of-requires : tie.Need-words-of-requires
+words-of-requires c κs = search needs
+
+put-requires : tie.Need-put-requires
+put-requires c κs = search needs
+
+returns : tie.Need-returns
+returns c =
+    let s = c .before .before .before .before .before in
+    let a = s .before .args in
+    put-message (a .b .now) _ _ _ _ (a .m) (c .before .before .down .ensures) (c .before .words-of .ensures)
+    (c .put .ensures)
+    ∙ sym (send-working (a .stopped) (a .b .now) (a .i) (a .j) (a .m)
+    (sym (s .is-in .ensures) ∙ not-true _ (c .before .before .before .before .if1 .taken)))
+
+returns-2 : tie.Need-returns-2
+returns-2 c =
+    let a = c .before .before .args in
+    sym (send-stopped (a .stopped) (a .b .now) (a .i) (a .j) (a .m)
+    (sym (c .before .is-in .ensures) ∙ not-false _ (c .if1 .left)))
+
+pub send-one-spec : {M : Type 1} → statement M
+send-one-spec =
+    tie.close
+    (tie.spec is-in-requires down-requires words-of-requires put-requires returns returns-2)

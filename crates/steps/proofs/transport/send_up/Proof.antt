@@ -1,0 +1,83 @@
+-- `send_up`: what is sent goes by its kind. Assumes nothing.
+use Prim.Native.Nat.{ℕ}
+use mathlib.Core.List.{List}
+use mathlib.Core.Path.{sym, ap, _∙_}
+use borrow.Author.Needs.{needs}
+use Rattle.message.specs.declared.Message.the-variants.{WriteInfo}
+use Rattle.client.specs.Sends.{messagesOf}
+use Rattle.client.specs.declared.Sends.{Sends}
+use Rattle.steps.specs.Inner.{toAll, sendUp}
+use Rattle.steps.proofs.transport.send_up.Statement.{statement}
+use Rattle.steps.proofs.transport.send_up.Tie as tie
+
+-- the slots after what is sent
+abbrev sent : (c : tie.Start) → Sends → List ℕ
+sent c x = sendUp (c .args .t) (c .args .b .now) (c .args .i) (messagesOf x)
+
+enum-told : tie.Need-enum-told
+enum-told c = search needs
+
+enum-known-s : tie.Need-enum-known-s
+enum-known-s c = search needs
+
+broadcast-requires : tie.Need-broadcast-requires
+broadcast-requires c κs = search needs
+
+enum-told-2 : tie.Need-enum-told-2
+enum-told-2 c = search needs
+
+broadcast-requires-2 : tie.Need-broadcast-requires-2
+broadcast-requires-2 c κs = search needs
+
+enum-known-s-2 : tie.Need-enum-known-s-2
+enum-known-s-2 c = search needs
+
+broadcast-requires-3 : tie.Need-broadcast-requires-3
+broadcast-requires-3 c κs = search needs
+
+broadcast-requires-4 : tie.Need-broadcast-requires-4
+broadcast-requires-4 c κs = search needs
+
+returns : tie.Need-returns
+unfolding sendUp
+returns c = ap (sent (c .before .before)) (sym (c .enum-told .given .1))
+
+returns-2 : tie.Need-returns-2
+unfolding sendUp
+returns-2 c =
+    let at-5 = c .before .before .before .before .before in
+    c .broadcast .ensures ∙ ap (sent at-5) (sym (c .before .before .before .s .given .1))
+
+returns-3 : tie.Need-returns-3
+unfolding sendUp
+returns-3 c =
+    let at-4 = c .before .before .before .before in
+    c .broadcast2 .ensures ∙ ap (sent at-4) (sym (c .before .before .enum-told2 .given .1))
+
+returns-4 : tie.Need-returns-4
+unfolding sendUp
+returns-4 c =
+    let at-s2 = c .before .before .before .before .before in
+    let s = at-s2 .before .before in
+    let a = s .args in
+    c .broadcast4 .ensures
+    ∙ ap (λ (y : List ℕ). toAll (a .t) y (a .i) (WriteInfo (at-s2 .s2 .given .0 .0)))
+    (c .before .before .broadcast3 .ensures)
+    ∙ ap (sent s) (sym (at-s2 .s2 .given .1))
+
+pub send-up-spec : {M : Type 1} → statement M
+send-up-spec =
+    tie.close
+    (tie.spec
+    enum-told
+    enum-known-s
+    broadcast-requires
+    enum-told-2
+    broadcast-requires-2
+    enum-known-s-2
+    broadcast-requires-3
+    broadcast-requires-4
+    returns
+    returns-2
+    returns-3
+    returns-4)

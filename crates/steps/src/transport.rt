@@ -1,0 +1,223 @@
+// Room on the channels, and messages put on them. A client and a server are named by their places, counted from 0.
+ghost use mathlib.Core.Bool.{_||_};
+ghost use mathlib.Core.Path.{_≡_};
+ghost use lib.Dec.{leb};
+ghost use lib.ListN.{length};
+ghost use Prim.Native.Nat.{suc, _+_, _≤_, _<_};
+ghost use Rattle.channel.specs.Memory.{countAt};
+ghost use Rattle.client.specs.Sends.{messagesOf};
+ghost use Rattle.register.specs.Server.{forwards, sent, sentTo};
+ghost use Rattle.register.specs.Thresholds.{size};
+ghost use Rattle.server.specs.State.{contains};
+ghost use Rattle.server.specs.Taking.{sentBy};
+ghost use Rattle.state.specs.State.{upIndex, downIndex, messageAt};
+ghost use Rattle.steps.specs.Inner as inner;
+use state::Settings;
+use state::is_in;
+use channel::Slots;
+use message::Message;
+use message::Pair;
+use message::Unpacked;
+use server::Sends;
+
+// The slots of a channel.
+const SLOTS: u32 = 8;
+
+// The channel from a client to a server, and the one back.
+pub fn up(i: usize, j: usize) -> usize
+    requires { ⌜ (i < 6) × (j < 13) ⌝ }
+    ensures { λ r. ⌜ r ≡ upIndex i j ⌝ }
+{
+    i * 13 + j
+}
+
+pub fn down(i: usize, j: usize) -> usize
+    requires { ⌜ (i < 6) × (j < 13) ⌝ }
+    ensures { λ r. ⌜ r ≡ downIndex i j ⌝ }
+{
+    78 + (i * 13 + j)
+}
+
+// Whether a channel has room for more messages.
+pub fn has_room(b: &Slots, c: usize, more: u32) -> bool
+    requires { ⌜ (c < 156) × (more ≤ 8) ⌝ }
+    ensures { λ r. ⌜ r ≡ leb (countAt (now (b .entry)) c + more) 8 ⌝ }
+{
+    channel::count(b, c) as u32 + more <= SLOTS
+}
+
+// Whether the channel from a client to a server drops, or has room.
+fn has_room_to(faulty: u16, b: &Slots, i: usize, j: usize, more: u32) -> bool
+    requires { ⌜ (i < 6) × (j < 13) × (more ≤ 8) ⌝ }
+    ensures { λ r. ⌜ r ≡ (contains faulty (suc j) || leb (countAt (now (b .entry)) (upIndex i j) + more) 8) ⌝ }
+{
+    if is_in(faulty, j) {
+        return true;
+    }
+    has_room(b, up(i, j), more)
+}
+
+// Whether every channel from a client to an honest server has room for more messages.
+pub fn has_room_up(t: Settings, b: &Slots, i: usize, more: u32) -> bool
+    requires { ⌜ (i < 6) × (t .f ≤ 4) × (more ≤ 8) ⌝ }
+    ensures { λ r. ⌜ r ≡ inner.roomUp t (now (b .entry)) i more ⌝ }
+{
+    let faulty = t.faulty;
+    let n = register::servers(t.f) as usize;
+    let mut j = 0;
+    while j < n {
+        if !has_room_to(faulty, b, i, j, more) {
+            return false;
+        }
+        j += 1;
+    }
+    true
+}
+
+// A message on the channels from a client to all honest servers.
+pub fn broadcast(t: Settings, b: &mut Slots, i: usize, m: Message)
+    requires { ⌜ (i < 6) × (t .f ≤ 4) ⌝ }
+    ensures { λ r. ⌜ now (b .exit) ≡ inner.toAll t (now (b .entry)) i m ⌝ }
+{
+    let w = message::words_of(m);
+    let faulty = t.faulty;
+    let n = register::servers(t.f) as usize;
+    let mut j = 0;
+    while j < n {
+        if !is_in(faulty, j) {
+            channel::put(b, up(i, j), w);
+        }
+        j += 1;
+    }
+}
+
+// How many messages a client sends to each server.
+pub fn count_sent(s: client::Sends) -> u32
+    ensures { λ r. ⌜ (r ≡ length (messagesOf s)) × (r ≤ 2) ⌝ }
+{
+    match s {
+        client::Sends::Nothing => 0,
+        client::Sends::GetInfo(_) => 1,
+        client::Sends::Done => 1,
+        client::Sends::DoneAndWrite(_) => 2,
+    }
+}
+
+// What a client sends, on the channels to all honest servers.
+pub fn send_up(t: Settings, b: &mut Slots, i: usize, s: client::Sends)
+    requires { ⌜ (i < 6) × (t .f ≤ 4) ⌝ }
+    ensures { λ r. ⌜ now (b .exit) ≡ inner.sendUp t (now (b .entry)) i (messagesOf s) ⌝ }
+{
+    match s {
+        client::Sends::Nothing => {}
+        client::Sends::GetInfo(n) => broadcast(t, b, i, Message::GetInfo(n)),
+        client::Sends::Done => broadcast(t, b, i, Message::Done),
+        client::Sends::DoneAndWrite(p) => {
+            broadcast(t, b, i, Message::Done);
+            broadcast(t, b, i, Message::WriteInfo(p));
+        }
+    }
+}
+
+// The oldest message of a channel.
+pub fn oldest(b: &Slots, c: usize) -> Message
+    requires { ⌜ c < 156 ⌝ }
+    ensures { λ r. ⌜ r ≡ messageAt (now (b .entry)) c ⌝ }
+{
+    match message::of_words(channel::oldest(b, c)) {
+        Unpacked::Good(m) => m,
+        Unpacked::Bad => Message::Done,
+    }
+}
+
+// How many messages go to the client at place i when a server replies to client d.
+fn places(s: Sends, d: u8, i: usize) -> u32
+    requires { ⌜ i < 6 ⌝ }
+    ensures { λ r. ⌜ (r ≡ length (sentTo (suc i) (sentBy d s))) × (r ≤ 2) ⌝ }
+{
+    let own = (d as usize == i + 1) as u32;
+    match s {
+        Sends::Nothing => 0,
+        Sends::Info(_t, _p) => own,
+        Sends::Forward(set, _p) => is_in(set as u16, i) as u32 + own,
+    }
+}
+
+// Whether the channel from a server to a client drops, or has room for the server's reply to client d.
+fn has_room_from(stopped: u8, b: &Slots, i: usize, j: usize, d: u8, s: Sends) -> bool
+    requires { ⌜ (i < 6) × (j < 13) ⌝ }
+    ensures { λ r. ⌜ r ≡ (contains stopped (suc i) || leb (countAt (now (b .entry)) (downIndex i j) + length (sentTo (suc i) (sentBy d s))) 8) ⌝ }
+{
+    if is_in(stopped as u16, i) {
+        return true;
+    }
+    has_room(b, down(i, j), places(s, d, i))
+}
+
+// Whether every channel from a server to a working client has room for the server's reply to client d.
+pub fn has_room_down(t: Settings, stopped: u8, b: &Slots, j: usize, d: u8, s: Sends) -> bool
+    requires { ⌜ (j < 13) × (t .clients ≤ 6) ⌝ }
+    ensures { λ r. ⌜ r ≡ inner.roomDown t stopped (now (b .entry)) j (sentBy d s) ⌝ }
+{
+    let n = t.clients as usize;
+    let mut i = 0;
+    while i < n {
+        if !has_room_from(stopped, b, i, j, d, s) {
+            return false;
+        }
+        i += 1;
+    }
+    true
+}
+
+// A message on the channel from a server to a client, unless the client has stopped.
+fn send_one(stopped: u8, b: &mut Slots, i: usize, j: usize, m: Message)
+    requires { ⌜ (i < 6) × (j < 13) ⌝ }
+    ensures { λ r. ⌜ now (b .exit) ≡ inner.sendOne stopped (now (b .entry)) j (sent (suc i) m) ⌝ }
+{
+    if !is_in(stopped as u16, i) {
+        channel::put(b, down(i, j), message::words_of(m));
+    }
+}
+
+// FWD of a pair on the channels from a server to the working clients of a set, lowest first.
+fn forward(stopped: u8, b: &mut Slots, j: usize, set: u8, p: Pair)
+    requires { ⌜ j < 13 ⌝ }
+    ensures { λ r. ⌜ now (b .exit) ≡ inner.sendDown stopped (now (b .entry)) j (forwards (contains set) p 6) ⌝ }
+{
+    let mut i = 0;
+    while i < 6 {
+        if is_in(set as u16, i) {
+            send_one(stopped, b, i, j, Message::Fwd(p));
+        }
+        i += 1;
+    }
+}
+
+// A server's reply to the client at place i.
+pub fn reply(stopped: u8, b: &mut Slots, i: usize, j: usize, s: Sends)
+    requires { ⌜ (i < 6) × (j < 13) ⌝ }
+    ensures { λ r. ⌜ now (b .exit) ≡ inner.sendDown stopped (now (b .entry)) j (sentBy (suc i) s) ⌝ }
+{
+    match s {
+        Sends::Nothing => {}
+        Sends::Info(t, p) => send_one(stopped, b, i, j, Message::Info(t, p)),
+        Sends::Forward(set, p) => {
+            forward(stopped, b, j, set, p);
+            send_one(stopped, b, i, j, Message::WriteAck(message::counter_of(p)));
+        }
+    }
+}
+
+// The channels to a client emptied.
+pub fn empty_down(t: Settings, b: &mut Slots, i: usize)
+    requires { ⌜ (i < 6) × (t .f ≤ 4) ⌝ }
+    ensures { λ r. ⌜ now (b .exit) ≡ inner.emptied (now (b .entry)) i (size (t .f)) ⌝ }
+{
+    let n = register::servers(t.f) as usize;
+    let mut j = 0;
+    while j < n {
+        channel::clear(b, down(i, j));
+        j += 1;
+    }
+}

@@ -1,0 +1,10 @@
+pub mod EndLaws
+pub mod Turn
+pub mod RunLaws
+pub mod ReadyLaws
+pub mod SetupLaws
+pub mod OnRuns
+pub mod StepLaws
+pub mod Histories
+pub mod Bytes
+pub mod Refusals

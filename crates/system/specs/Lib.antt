@@ -1,0 +1,5 @@
+pub mod Ends
+pub mod Stored
+pub mod Setup
+pub mod Run
+pub mod Step

@@ -1,0 +1,96 @@
+-- A whole run in lent memory (01, 'The words of demand 3'): a list of steps in numbers, from a setup, and their answers in numbers.
+--
+-- In order: a step; an answer; how many steps there are; the list; what a run leaves; what it gives for a setup.
+-- Assumes nothing.
+use Prim.Native.Nat.{ℕ, zero, suc, _+_, _-_, _*_, _/_, _^_, min}
+use mathlib.Core.Path.{_≡_}
+use mathlib.Core.Bool.{cond}
+use mathlib.Core.List.{List}
+use lib.Dec.{eqb, ltb}
+use lib.ListN.{length, getD, set}
+use Rattle.refusal.specs.Numbers.{numberOf}
+use Rattle.register.specs.declared.Answer.{Answer}
+use Rattle.register.specs.declared.Answer.the-variants.{Went, Read, Wrote, Spent, Refused}
+use Rattle.register.specs.declared.Step.{Step}
+use Rattle.register.specs.declared.Step.the-variants.{R, W, K, D, C, L}
+use Rattle.register.specs.Formats.{formats, DemandThree}
+use Rattle.register.specs.History.{worldAt, answerAt}
+use Rattle.register.specs.Steps as steps
+use Rattle.register.specs.World.{newWorld}
+use Rattle.system.specs.declared.setup.Setup.{Setup}
+use Rattle.system.specs.declared.setup.Setup.the-variants as setup
+use Rattle.state.specs.declared.Settings.{Settings}
+use Rattle.state.specs.declared.System.{System}
+use Rattle.state.specs.State.{settingsOf, stepOf, numbered, storeSystem}
+use Rattle.system.specs.Stored.{Stored}
+
+-- ---- a step in five numbers: its kind, 0 to 5 for R, W, K, D, C, L, and its arguments; a message is its two words
+
+-- an argument of 32 bits; a larger one is the highest, which is no client, no server and no message
+abbrev pub narrowed : ℕ → ℕ
+narrowed a = cond (ltb a (2 ^ 32)) a (2 ^ 32 - 1)
+
+-- another kind is R 0, which every state refuses
+unfoldable pub stepBy : ℕ → ℕ → ℕ → ℕ → ℕ → Step
+stepBy kind p q u v =
+    cond (eqb kind 0) (R (narrowed p))
+    (cond (eqb kind 1) (W (narrowed p) (record { 0 = q }))
+    (cond (eqb kind 2) (K (narrowed p) (narrowed q))
+    (cond (eqb kind 3) (D (narrowed p) (narrowed q))
+    (cond (eqb kind 4) (C (narrowed p))
+    (cond (eqb kind 5) (L (narrowed p) (narrowed q) (record { 0 = narrowed u; 1 = v })) (R 0))))))
+
+-- step i of the list
+unfoldable pub stepIn : List ℕ → ℕ → Step
+stepIn xs i =
+    stepBy (getD xs (i * 5) 0) (getD xs (i * 5 + 1) 0) (getD xs (i * 5 + 2) 0) (getD xs (i * 5 + 3) 0) (getD xs (i * 5 + 4) 0)
+
+-- ---- an answer in two numbers: which it is, and the pair that READ or WROTE shows
+
+unfoldable pub codeOf : Answer → ℕ
+codeOf Went = 0
+codeOf (Read p) = 1
+codeOf (Wrote p) = 2
+codeOf Spent = 3
+codeOf (Refused n) = 16 + numberOf n
+
+unfoldable pub shownBy : Answer → ℕ
+shownBy Went = 0
+shownBy (Read p) = p .0
+shownBy (Wrote p) = p .0
+shownBy Spent = 0
+shownBy (Refused n) = 0
+
+-- the answers of the first n steps, written over what memory held
+abbrev pub putAnswer : List ℕ → ℕ → Answer → List ℕ
+putAnswer out i a = set (set out (i * 2) (codeOf a)) (i * 2 + 1) (shownBy a)
+
+unfoldable pub answered : (ℕ → Answer) → List ℕ → ℕ → List ℕ
+answered a out zero = out
+answered a out (suc n) = putAnswer (answered a out n) n (a n)
+
+-- ---- a run
+
+-- as many steps as the list has whole, and as there is room for answers
+unfoldable pub howMany : List ℕ → List ℕ → ℕ
+howMany xs out = min (length xs / 5) (length out / 2)
+
+-- the first n steps of the list
+unfoldable pub stepsIn : List ℕ → ℕ → List steps.Step
+stepsIn xs n = numbered (λ i. stepOf (stepIn xs (i - 1))) n
+
+-- after i of n steps the state is that of the history's world, and the answers are the history's
+pub record Run (t : Settings) (xs out : List ℕ) (n i : ℕ) (s : System) (b r written : List ℕ) : Type 0 where
+  pub stored : Stored t (worldAt (settingsOf t) formats (stepsIn xs n) i) s b r
+  pub answers : written ≡ answered (answerAt (settingsOf t) formats (stepsIn xs n)) out i
+
+-- what stands for a system where there is none
+abbrev pub noSystem : System
+noSystem = storeSystem (record { f = 0; clients = 0; faulty = 0 }) newWorld
+
+-- an accepted setup: the whole run, and demand 3; a refused one leaves lent memory as it was
+abbrev pub Outcome : Setup → (xs out b r : List ℕ) → System → (b′ r′ out′ : List ℕ) → Type 0
+Outcome (setup.Set t) xs out b r s b′ r′ out′ =
+    Run t xs out (howMany xs out) (howMany xs out) s b′ r′ out′
+    × DemandThree (settingsOf t) (stepsIn xs (howMany xs out))
+Outcome (setup.Refused n) xs out b r s b′ r′ out′ = (s ≡ noSystem) × (b′ ≡ b) × (r′ ≡ r) × (out′ ≡ out)

@@ -1,0 +1,180 @@
+// A whole run: a lent list of steps from a setup, each given the state that the one before it left.
+ghost use mathlib.Core.Bool.{true};
+ghost use mathlib.Core.Path.{_≡_};
+ghost use lib.ListN.{length};
+ghost use Prim.Native.Nat.{_+_, _*_, _≤_, min};
+ghost use Rattle.register.specs.World.{newWorld};
+ghost use Rattle.system.specs.Setup.{setupOf};
+ghost use Rattle.state.specs.Sound.{areAllowed};
+ghost use Rattle.system.specs.Stored.{Stored};
+ghost use Rattle.system.specs.Run.{narrowed, stepBy, stepIn, codeOf, shownBy, putAnswer, howMany, Run, Outcome};
+use crate::ends::client_place;
+use crate::ends::server_place;
+use crate::setup::Setup;
+use crate::setup::new_system;
+use crate::setup::set_up;
+use crate::setup::settings_of;
+use channel::Slots;
+use message::Entry;
+use message::Words;
+use register::Answer;
+use register::Step;
+use state::Replies;
+use state::Settings;
+use state::System;
+use steps::inner::inner;
+
+// The numbers of a step, and of an answer.
+const STEP: usize = 5;
+
+const ANSWER: usize = 2;
+
+// The highest number of 32 bits.
+const HIGHEST: u32 = 4294967295;
+
+// What a refused setup's number is added to.
+const REFUSED: u64 = 16;
+
+// The setup, and the system after the last step.
+pub struct Ran {
+    pub setup: Setup,
+    pub system: System,
+}
+
+fn narrow(a: u64) -> u32
+    ensures { λ r. ⌜ r ≡ narrowed a ⌝ }
+{
+    if a < 4294967296 { a as u32 } else { HIGHEST }
+}
+
+fn step_of(kind: u64, p: u64, q: u64, u: u64, v: u64) -> Step
+    ensures { λ r. ⌜ r ≡ stepBy kind p q u v ⌝ }
+{
+    match kind {
+        0 => Step::R(narrow(p)),
+        1 => Step::W(narrow(p), Entry(q)),
+        2 => Step::K(narrow(p), narrow(q)),
+        3 => Step::D(narrow(p), narrow(q)),
+        4 => Step::C(narrow(p)),
+        5 => Step::L(narrow(p), narrow(q), Words(narrow(u), v)),
+        _ => Step::R(0),
+    }
+}
+
+fn step_in(xs: &[u64], i: usize) -> Step
+    requires { ⌜ i * 5 + 5 ≤ length (now xs) ⌝ }
+    ensures { λ r. ⌜ r ≡ stepIn (now (xs .entry)) i ⌝ }
+{
+    let at = i * STEP;
+    step_of(xs[at], xs[at + 1], xs[at + 2], xs[at + 3], xs[at + 4])
+}
+
+fn code(a: Answer) -> u64
+    ensures { λ r. ⌜ r ≡ codeOf a ⌝ }
+{
+    match a {
+        Answer::Went => 0,
+        Answer::Read(_) => 1,
+        Answer::Wrote(_) => 2,
+        Answer::Spent => 3,
+        Answer::Refused(n) => REFUSED + refusal::number(n) as u64,
+    }
+}
+
+fn shown(a: Answer) -> u64
+    ensures { λ r. ⌜ r ≡ shownBy a ⌝ }
+{
+    match a {
+        Answer::Went => 0,
+        Answer::Read(p) => p.0,
+        Answer::Wrote(p) => p.0,
+        Answer::Spent => 0,
+        Answer::Refused(_) => 0,
+    }
+}
+
+fn write_answer(out: &mut [u64], i: usize, a: Answer)
+    requires { ⌜ i * 2 + 2 ≤ length (now out) ⌝ }
+    ensures { λ r. ⌜ now (out .exit) ≡ putAnswer (now (out .entry)) i a ⌝ }
+{
+    let at = i * ANSWER;
+    out[at] = code(a);
+    out[at + 1] = shown(a);
+}
+
+// The steps one after the other. The system stays in one local: a step is given two parts of it, and these are put back.
+fn take_all(
+    s: System,
+    steps: &[u64],
+    n: usize,
+    out: &mut [u64],
+    b: &mut Slots,
+    r: &mut Replies,
+) -> System
+    requires { ⌜ (areAllowed (s .settings) ≡ true) × Stored (s .settings) newWorld s (now b) (now r) × (n * 5 ≤ length (now steps)) × (n * 2 ≤ length (now out)) ⌝ }
+    ensures { λ z. ⌜ Run (s .settings) (now (steps .entry)) (now (out .entry)) n n z (now (b .exit)) (now (r .exit)) (now (out .exit)) ⌝ }
+{
+    let t = s.settings;
+    let mut u = s;
+    let mut i = 0;
+    while i < n {
+        let x = step_in(steps, i);
+        let j = server_place(x);
+        let d = client_place(x);
+        let v = u.servers[j];
+        let c = u.clients[d];
+        let z = inner(t, u.stopped, v, c, x, b, r);
+        let a = z.answer;
+        write_answer(out, i, a);
+        u.stopped = z.stopped;
+        let w = z.server;
+        u.servers[j] = w;
+        let y = z.client;
+        u.clients[d] = y;
+        i += 1;
+    }
+    u
+}
+
+fn least(a: usize, b: usize) -> usize
+    ensures { λ r. ⌜ r ≡ min a b ⌝ }
+{
+    if a < b { a } else { b }
+}
+
+// Five numbers a step, two an answer; as many steps as both have room for.
+pub fn run(
+    f: u32,
+    clients: u32,
+    faulty: u32,
+    steps: &[u64],
+    out: &mut [u64],
+    b: &mut Slots,
+    r: &mut Replies,
+) -> Ran
+    ensures { λ z. ⌜ (z .setup ≡ setupOf f clients faulty) × Outcome (setupOf f clients faulty) (now (steps .entry)) (now (out .entry)) (now (b .entry)) (now (r .entry)) (z .system) (now (b .exit)) (now (r .exit)) (now (out .exit)) ⌝ }
+{
+    let setup = settings_of(f, clients, faulty);
+    match setup {
+        Setup::Refused(_) => {
+            let s = new_system(Settings {
+                f: 0,
+                clients: 0,
+                faulty: 0,
+            });
+            Ran {
+                setup: setup,
+                system: s,
+            }
+        }
+        Setup::Set(t) => {
+            let n = least(steps.len() / STEP, out.len() / ANSWER);
+            let s = set_up(t, b, r);
+            let last = take_all(s, steps, n, out, b, r);
+            Ran {
+                setup: setup,
+                system: last,
+            }
+        }
+    }
+}

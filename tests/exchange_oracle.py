@@ -1,0 +1,189 @@
+#!/usr/bin/env python3
+"""Works out what the program `exchange` must print, from paper 01 and Algorithms 1 to 3 of document 001.
+
+  exchange_oracle.py            write crates/exchange/stdout
+  exchange_oracle.py --check    fail if crates/exchange/stdout is not what this script works out
+
+Nothing here is taken from the crates: keepers and desks are 01's sentences, and every message goes over a wire of its own,
+first in first out. A line for each message when it is put on a wire, and a line for each outcome.
+"""
+import collections
+import pathlib
+import sys
+
+STDOUT = pathlib.Path(__file__).resolve().parent.parent / "crates" / "exchange" / "stdout"
+GET_INFO, INFO, DONE, WRITE_INFO, FWD, WRITE_ACK = range(1, 7)
+SET_SIZE = 4
+DESKS = 2
+
+Pair = collections.namedtuple("Pair", "counter desk entry")
+START = Pair(0, 0, 0)
+
+
+def stamp(pair):
+    return pair.counter, pair.desk
+
+
+def licence(year, month, day, copies, state):
+    """Forty bits, most significant first: year 12, month 4, day 5, copies 16, state 3."""
+    return int(f"{year:012b}{month:04b}{day:05b}{copies:016b}{state:03b}", 2)
+
+
+def packed(kind, tag=0, pair=START):
+    """Eleven bytes: kind 4 bits, tag 20, counter 20, desk 4, entry 40; a field not used is zero."""
+    bits = f"{kind:04b}{tag:020b}{pair.counter:020b}{pair.desk:04b}{pair.entry:040b}"
+    return int(bits, 2).to_bytes(11, "big")
+
+
+def unpacked(message):
+    bits = f"{int.from_bytes(message, 'big'):088b}"
+    kind, tag, counter, desk, entry = (int(bits[a:b], 2) for a, b in ((0, 4), (4, 24), (24, 44), (44, 48), (48, 88)))
+    return kind, tag, Pair(counter, desk, entry)
+
+
+class Keeper:
+    """Algorithm 3: one pair, and the desks that read."""
+
+    def __init__(self):
+        self.pair, self.readers = START, set()
+
+    def take(self, desk, message):
+        """The desks that it sends to, each with its message, in order."""
+        kind, tag, pair = unpacked(message)
+        if kind == GET_INFO:
+            self.readers.add(desk)
+            return [(desk, packed(INFO, tag, self.pair))]
+        if kind == DONE:
+            self.readers.discard(desk)
+            return []
+        if stamp(pair) > stamp(self.pair):
+            self.pair = pair
+        forwards = [(reader, packed(FWD, 0, pair)) for reader in sorted(self.readers)]
+        return forwards + [(desk, packed(WRITE_ACK, 0, Pair(pair.counter, 0, 0)))]
+
+
+class Desk:
+    """Algorithms 1 and 2. What it sends goes to every keeper."""
+
+    def __init__(self, number, f):
+        self.number, self.f, self.n = number, f, 3 * f + 1
+        self.phase, self.reads = "idle", 0
+
+    def start(self, entry=None):
+        assert self.phase == "idle"
+        self.phase, self.entry = "reading", entry
+        self.reads += 1
+        self.noted, self.sets = {}, collections.defaultdict(set)
+        return [packed(GET_INFO, self.reads)]
+
+    def counts(self, pair):
+        below = sum(stamp(pair) >= noted for noted in self.noted.values())
+        holders = sum(pair in pairs for pairs in self.sets.values())
+        return below >= 2 * self.f + 1 and holders >= self.f + 1
+
+    def take(self, keeper, message):
+        """What goes to every keeper, and the outcome."""
+        kind, tag, pair = unpacked(message)
+        if kind == WRITE_ACK:
+            return self.acknowledged(keeper, pair.counter)
+        if self.phase != "reading" or kind == INFO and (tag != self.reads or keeper in self.noted):
+            return [], None
+        if kind == INFO:
+            self.noted[keeper] = stamp(pair)
+        self.sets[keeper] = set(sorted(self.sets[keeper] | {pair})[-SET_SIZE:])
+        counting = [p for pairs in self.sets.values() for p in pairs if self.counts(p)]
+        if len(self.noted) < self.n - self.f or not counting:
+            return [], None
+        return self.chosen(max(counting))
+
+    def chosen(self, pair):
+        if self.entry is None:
+            self.phase = "idle"
+            return [packed(DONE)], ("READ", pair)
+        self.phase, self.acks = "storing", set()
+        self.own = Pair(pair.counter + 1, self.number, self.entry)
+        return [packed(DONE), packed(WRITE_INFO, 0, self.own)], None
+
+    def acknowledged(self, keeper, counter):
+        if self.phase != "storing" or counter != self.own.counter:
+            return [], None
+        self.acks.add(keeper)
+        if len(self.acks) < self.n - self.f:
+            return [], None
+        self.phase = "idle"
+        return [], ("WROTE", self.own)
+
+
+class Exchange:
+    def __init__(self, f):
+        self.lines = [f"f = {f}"]
+        self.keepers = {k: Keeper() for k in range(1, 3 * f + 2)}
+        self.desks = {d: Desk(d, f) for d in range(1, DESKS + 1)}
+        self.up, self.down = collections.defaultdict(collections.deque), collections.defaultdict(collections.deque)
+
+    def put(self, desk, messages):
+        for message in messages:
+            for k in self.keepers:
+                self.lines.append(f"client {desk} to server {k}: {message.hex().upper()}")
+                self.up[desk, k].append(message)
+
+    def read(self, desk):
+        self.put(desk, self.desks[desk].start())
+
+    def write(self, desk, entry):
+        self.put(desk, self.desks[desk].start(entry))
+
+    def keeper_takes(self, k, desk):
+        """Keeper k takes the oldest message of a desk; then the desks take what it sent, in order."""
+        sent = self.keepers[k].take(desk, self.up[desk, k].popleft())
+        for to, message in sent:
+            self.lines.append(f"server {k} to client {to}: {message.hex().upper()}")
+            self.down[k, to].append(message)
+        for to, _ in sent:
+            self.desk_takes(to, k)
+
+    def desk_takes(self, desk, k):
+        messages, outcome = self.desks[desk].take(k, self.down[k, desk].popleft())
+        self.put(desk, messages)
+        if outcome:
+            word, pair = outcome
+            self.lines.append(f"client {desk} {word} {pair.counter} {pair.desk} {pair.entry:010X}")
+
+
+def scenario(f):
+    """With f = 1 keeper 4 takes nothing: 2f + 1 = n - f keepers work."""
+    x, working = Exchange(f), range(1, 2 * f + 2)
+
+    def each(desk, keepers=working, times=1):
+        for _ in range(times):
+            for k in keepers:
+                x.keeper_takes(k, desk)
+
+    x.write(1, licence(2024, 2, 29, 40, 1))
+    each(1, times=3)  # GET_INFO, DONE, WRITE_INFO
+    x.read(1)
+    each(1, times=2)  # GET_INFO, DONE
+    x.read(2)
+    each(2)  # GET_INFO; its DONE stays on the wires
+    x.write(1, licence(2028, 2, 29, 40, 1))
+    each(1, times=2)  # GET_INFO, DONE
+    x.read(2)
+    each(1, [1])  # WRITE_INFO reaches keeper 1, which forwards it
+    each(2, times=2)  # the late DONE, GET_INFO
+    each(1, working[1:])  # WRITE_INFO reaches the others
+    each(2)  # DONE
+    return x.lines
+
+
+def main():
+    text = "".join(line + "\n" for f in (0, 1) for line in scenario(f))
+    if sys.argv[1:] == ["--check"]:
+        if STDOUT.read_text() != text:
+            sys.exit("exchange_oracle: crates/exchange/stdout is not what 01 gives")
+        print("exchange_oracle: crates/exchange/stdout is right")
+    else:
+        STDOUT.write_text(text)
+
+
+if __name__ == "__main__":
+    main()
