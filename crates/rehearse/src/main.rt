@@ -18,6 +18,7 @@ use script::parse::Line;
 use script::parse::parse;
 use script::print::Output;
 use script::print::print;
+use server::Server;
 use state::Replies;
 use state::Settings;
 use state::System;
@@ -132,7 +133,13 @@ fn take_lines(
                 let t = u.settings;
                 let z = inner(t, u.stopped, v, c, x, b, r);
                 u.stopped = z.stopped;
-                let w = z.server;
+                // Made anew, so that no unused bytes are copied.
+                let q = z.server;
+                let p = q.pair;
+                let w = Server {
+                    pair: p,
+                    readers: q.readers,
+                };
                 u.servers[j] = w;
                 let y = z.client;
                 u.clients[d] = y;

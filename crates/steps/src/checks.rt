@@ -11,9 +11,6 @@ ghost use Rattle.register.specs.Steps.{isReply};
 ghost use Rattle.server.specs.State.{contains};
 ghost use Rattle.state.specs.State.{settingsOf, bytesIn};
 ghost use Rattle.steps.specs.Checks as checks;
-use state::Session;
-use state::Settings;
-use state::is_in;
 use crate::transport::down;
 use crate::transport::up;
 use channel::Slots;
@@ -22,6 +19,9 @@ use message::Unpacked;
 use message::Words;
 use refusal::Refusal;
 use register::Phase;
+use state::Session;
+use state::Settings;
+use state::is_in;
 
 // What a check finds.
 pub enum Check {

@@ -24,9 +24,6 @@ use crate::checks::serve_check;
 use crate::checks::start_check;
 use crate::checks::stop_check;
 use crate::checks::take_check;
-use state::Replies;
-use state::Session;
-use state::Settings;
 use crate::transport::broadcast;
 use crate::transport::count_sent;
 use crate::transport::down;
@@ -50,6 +47,9 @@ use register::Answer;
 use register::Phase;
 use register::Step;
 use server::Server;
+use state::Replies;
+use state::Session;
+use state::Settings;
 
 // The highest read number.
 const HIGHEST: u32 = 1048575;

@@ -12,13 +12,13 @@ ghost use Rattle.server.specs.State.{contains};
 ghost use Rattle.server.specs.Taking.{sentBy};
 ghost use Rattle.state.specs.State.{upIndex, downIndex, messageAt};
 ghost use Rattle.steps.specs.Inner as inner;
-use state::Settings;
-use state::is_in;
 use channel::Slots;
 use message::Message;
 use message::Pair;
 use message::Unpacked;
 use server::Sends;
+use state::Settings;
+use state::is_in;
 
 // The slots of a channel.
 const SLOTS: u32 = 8;

@@ -157,29 +157,29 @@ inner-requires c κs =
 
 mul-w : tie.Need-mul-w Inv-loop μ-loop
 mul-w c =
-    let at : c .before .before .before .before .before .before .before .before .server-place .result < 13 = rw (c .before .before .before .before .before .before .before .before .server-place .ensures) (server-within _) in
+    let at : c .before .before .before .before .before .before .before .before .before .server-place .result < 13 = rw (c .before .before .before .before .before .before .before .before .before .server-place .ensures) (server-within _) in
     search needs
 
 element-set-from-w : tie.Need-element-set-from-w Inv-loop μ-loop
 element-set-from-w c =
-    let at : c .before .before .before .before .before .before .before .before .server-place .result < 13 = rw (c .before .before .before .before .before .before .before .before .server-place .ensures) (server-within _) in
+    let at : c .before .before .before .before .before .before .before .before .before .server-place .result < 13 = rw (c .before .before .before .before .before .before .before .before .before .server-place .ensures) (server-within _) in
     search needs
 
 mul-y : tie.Need-mul-y Inv-loop μ-loop
 mul-y c =
-    let at : c .before .before .before .before .before .before .before .before .client-place .result < 6 = rw (c .before .before .before .before .before .before .before .before .client-place .ensures) (client-within _) in
+    let at : c .before .before .before .before .before .before .before .before .before .client-place .result < 6 = rw (c .before .before .before .before .before .before .before .before .before .client-place .ensures) (client-within _) in
     search needs
 
 element-set-from-y : tie.Need-element-set-from-y Inv-loop μ-loop
 element-set-from-y c =
-    let at : c .before .before .before .before .before .before .before .before .client-place .result < 6 = rw (c .before .before .before .before .before .before .before .before .client-place .ensures) (client-within _) in
+    let at : c .before .before .before .before .before .before .before .before .before .client-place .result < 6 = rw (c .before .before .before .before .before .before .before .before .before .client-place .ensures) (client-within _) in
     search needs
 
 sub-print-2 : tie.Need-sub-print-2 Inv-loop μ-loop
-sub-print-2 c = search needs
+sub-print-2 c = let inside = c .before .before .before .before .before .before .before .before .before .before .before .before .before .before .before .before .before .before .before .before .before .before .loop .inv .1 in search needs
 
 part-print-start-2 : tie.Need-part-print-start-2 Inv-loop μ-loop
-part-print-start-2 c = search needs
+part-print-start-2 c = let inside = c .before .before .before .before .before .before .before .before .before .before .before .before .before .before .before .before .before .before .before .before .before .before .loop .inv .1 in search needs
 
 part-print-end-2 : tie.Need-part-print-end-2 Inv-loop μ-loop
 part-print-end-2 c = search needs
@@ -189,25 +189,25 @@ print-requires-2 c κs = search needs
 
 add-used-2 : tie.Need-add-used-2 Inv-loop μ-loop
 add-used-2 c =
-    let l = c .before .before .before .before .before .before .before .before .before .before .before .before .before .before .before .before .before .before .before .before .before .before .before .before .before .loop in
+    let l = c .before .before .before .before .before .before .before .before .before .before .before .before .before .before .before .before .before .before .before .before .before .before .before .before .before .before .loop in
     let same = l .inv .2 in
-    let bound = c .before .before .before .before .before .before .before .before .before .before .before .before .before .before .before .before .before .before .before .before .before .before .before .before .before .before .before .before .good .1 .1 .1 .1 .1 .0 .0 in
+    let bound = c .before .before .before .before .before .before .before .before .before .before .before .before .before .before .before .before .before .before .before .before .before .before .before .before .before .before .before .before .before .good .1 .1 .1 .1 .1 .0 .0 in
     let h : l .used + c .before .before .print2 .result ≤ length (l .out) =
     part-fits (l .used) (c .before .before .print2 .result) (l .out) (l .inv .1) (shown-fits _ _ _ _ _ (c .before .before .print2 .ensures)) in
     search needs
 
 loop-less-2 : tie.Need-loop-less-2 Inv-loop μ-loop
-loop-less-2 c = let less = c .before .before .before .before .before .before .before .before .before .before .before .before .before .before .before .before .before .before .before .before .before .if1 .left in omega arith
+loop-less-2 c = let less = c .before .before .before .before .before .before .before .before .before .before .before .before .before .before .before .before .before .before .before .before .before .before .if1 .left in omega arith
 
 loop-again-2 : tie.Need-loop-again-2 Inv-loop μ-loop
 loop-again-2 c =
-    let l = c .before .before .before .before .before .before .before .before .before .before .before .before .before .before .before .before .before .before .before .before .before .before .before .before .before .loop in
-    let less = c .before .before .before .before .before .before .before .before .before .before .before .before .before .before .before .before .before .before .before .before .before .if1 .left in
+    let l = c .before .before .before .before .before .before .before .before .before .before .before .before .before .before .before .before .before .before .before .before .before .before .before .before .before .before .loop in
+    let less = c .before .before .before .before .before .before .before .before .before .before .before .before .before .before .before .before .before .before .before .before .before .before .if1 .left in
     let h = part-fits (l .used) (c .before .before .print2 .result) (l .out) (l .inv .1) (shown-fits _ _ _ _ _ (c .before .before .print2 .ensures)) in (
       omega arith,
       put-fits (l .used) (c .before .before .print2 .result) (l .out) (c .before .before .print2 .last .0) h (c .before .before .print2 .kept .0),
       same-len-mid (l .used) (length (l .out) - l .used) (l .out) (c .before .before .print2 .last .0) (c .before .before .print2 .kept .0) ∙ l .inv .2,
-      run-steps (l .u) (l .b) (l .r) (l .inv .3) _ _ _ (c .before .before .before .before .before .before .before .before .before .before .before .before .before .server-place .ensures) (c .before .before .before .before .before .before .before .before .before .before .before .before .client-place .ensures) _ _ _ (c .before .before .before .before .before .before .inner .ensures),
+      run-steps (l .u) (l .b) (l .r) (l .inv .3) _ _ _ (c .before .before .before .before .before .before .before .before .before .before .before .before .before .before .server-place .ensures) (c .before .before .before .before .before .before .before .before .before .before .before .before .before .client-place .ensures) _ _ _ (c .before .before .before .before .before .before .before .inner .ensures),
     )
 
 same-length-3 : tie.Need-same-length-3 Inv-loop μ-loop
