@@ -80,7 +80,8 @@ module _ (S : Settings) (F : Formats) (w : World) (e : Event) (en : Enabled S F 
   acknowledged-next : Acknowledged S (apply S w e)
   acknowledged-next =
       record {
-        own = λ d k p h. by-either (up-cases S F w e en d k (WriteInfo p) h) (λ a. A .own d k p a) (λ a. new d p a);
+        own = λ d k p h. by-either (up-cases S F w e en d k (WriteInfo p) h) (λ a. A .own d k p a) (λ a. new
+            d p a);
         channel = λ d k g c h. by-either (down-cases S F w e en d k g (WriteAck c) h)
             (λ a. le-trans (A .channel d k g c a) (grows S w e k)) (λ a. answered d k c a);
         counted = λ d k g c h. le-trans (counts d k g c _ (client-next S F w e en d) h) (grows S w e k);

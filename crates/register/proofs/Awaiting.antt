@@ -1,8 +1,10 @@
 -- Awaiting: for a working client that stores, each honest server has its WRITE_INFO still to take, or its
 -- acknowledgement is on its way, or is counted.
 --
--- Why: the write puts WRITE_INFO on every channel to an honest server, where nothing is lost; the server that takes
--- it sends WRITE_ACK with its counter, which a working client gets; and the client counts it when it takes it, for it
+-- Why: the write puts WRITE_INFO on every channel to an honest server, where nothing is lost; the server that
+-- takes
+-- it sends WRITE_ACK with its counter, which a working client gets; and the client counts it when it takes
+-- it, for it
 -- is storing with that counter.
 -- In order: on the channels; at the client; along a run.
 -- Assumes nothing.
@@ -38,7 +40,8 @@ use Rattle.register.proofs.Bounds.{client-small}
 use Rattle.register.proofs.Enabled.{Enabled, Starts}
 use Rattle.register.proofs.Run.{Run, world, event, enabled-at}
 use Rattle.register.proofs.Sends.{direct, sent-direct}
-use Rattle.register.proofs.Outcomes.{Outcome, dropped, waits, shows, spends, sends, acks, ends, grown-phase}
+use Rattle.register.proofs.Outcomes.{Outcome, dropped, waits, shows, spends, sends, acks, ends}
+use Rattle.register.proofs.Outcomes.{grown-phase}
 use Rattle.register.proofs.Outcomes.{nextCounter}
 use Rattle.register.proofs.Frames.{ClientNext, same, starts, took, client-next, Puts, up-stays, up-new}
 use Rattle.register.proofs.Frames.{down-stays, down-new}
@@ -62,12 +65,15 @@ ack-sent : (s : Server) (d : ℕ) (p : Pair) → 1 ≤ d → d ≤ 6
 unfolding direct
 ack-sent s d p low high =
     rw (sent-direct s d (WriteInfo p) d low high)
-    (member-right (WriteAck (counter p)) (cond (s .readers d) (Fwd p ∷ []) []) _ (rw (eq-eqb d d refl) (inl refl)))
+    (member-right (WriteAck (counter p)) (cond (s .readers d) (Fwd p
+    ∷ []) []) _ (rw (eq-eqb d d refl) (inl refl)))
 
-module _ (S : Settings) (F : Formats) (w : World) (e : Event) (en : Enabled S F w e) (d k : ℕ) (low : 1 ≤ d) (high : d ≤ 6) where
+module _ (S : Settings) (F : Formats) (w : World) (e : Event) (en : Enabled S F w e) (d k : ℕ) (low : 1 ≤ d)
+    (high : d ≤ 6) where
   -- what is on its way stays so, unless the client takes the acknowledgement or stops
   way-next : (c : WriteCounter) → w .stopped d ≡ false → (e ≡ stops d → ⊥)
-      → ((ms : List Message) → e ≡ takes d k (WriteAck c) ms → ⊥) → OnTheWay w d k c → OnTheWay (apply S w e) d k c
+      → ((ms : List Message) → e ≡ takes d k (WriteAck c) ms → ⊥) → OnTheWay w d k c
+      → OnTheWay (apply S w e) d k c
   way-next c works no-stop no-take (inl (p, h, is)) =
       by-either (up-stays S F w e en d k (WriteInfo p) h) (λ a. inl (p, a, is))
       (λ a. inr (rw (a .1) (down-new S F w k d (WriteInfo p) (a .0) d (WriteAck c) works
@@ -77,33 +83,40 @@ module _ (S : Settings) (F : Formats) (w : World) (e : Event) (en : Enabled S F 
       (λ a. by-either a (λ b. absurd (no-take (b .0) (b .1))) (λ b. absurd (no-stop b)))
 
   awaits-next : (c : WriteCounter) (x : Client) → w .stopped d ≡ false → (e ≡ stops d → ⊥)
-      → ((ms : List Message) → e ≡ takes d k (WriteAck c) ms → ⊥) → Awaits w d k c x → Awaits (apply S w e) d k c x
+      → ((ms : List Message) → e ≡ takes d k (WriteAck c) ms → ⊥) → Awaits w d k c x
+      → Awaits (apply S w e) d k c x
   awaits-next c x works no-stop no-take (inl a) = inl a
   awaits-next c x works no-stop no-take (inr a) = inr (way-next c works no-stop no-take a)
 
 -- ---- at the client
 
 -- a client that works after an event worked before, and did not stop
-pub works-before : (S : Settings) (w : World) (e : Event) (d : ℕ) → apply S w e .stopped d ≡ false → w .stopped d ≡ false
+pub works-before : (S : Settings) (w : World) (e : Event) (d : ℕ) → apply S w e .stopped d ≡ false
+    → w .stopped d ≡ false
 unfolding apply nextStopped
 works-before S w (refuses r) d h = h
 works-before S w (begins c ph) d h = h
 works-before S w (serves j c m ms) d h = h
 works-before S w (takes c j m ms) d h = h
 works-before S w (stops c) d h =
-    update-at (λ b. b ≡ false → w .stopped d ≡ false) (w .stopped) c d true (λ q b. absurd (true-or-false true refl b))
+    update-at (λ b. b ≡ false → w .stopped d ≡ false) (w .stopped) c d true (λ q b. absurd (true-or-false
+    true refl b))
     (λ q b. b) h
 works-before S w (lies j c m) d h = h
 
-not-stopped : (S : Settings) (w : World) (e : Event) (d : ℕ) → apply S w e .stopped d ≡ false → e ≡ stops d → ⊥
+not-stopped : (S : Settings) (w : World) (e : Event) (d : ℕ) → apply S w e .stopped d ≡ false → e ≡ stops d
+    → ⊥
 unfolding apply nextStopped
 not-stopped S w e d h q = true-or-false true refl (rw (q, update-same) at h)
 
-module _ (S : Settings) (F : Formats) (w : World) (e : Event) (en : Enabled S F w e) (d k : ℕ) (low : 1 ≤ d) (high : d ≤ 6)
-    (honest : isHonest S k ≡ true) (small : (v : Entry) → w .clients d .phase ≡ ReadingForWrite v → v .0 < 2 ^ 40)
+module _ (S : Settings) (F : Formats) (w : World) (e : Event) (en : Enabled S F w e) (d k : ℕ) (low : 1 ≤ d)
+    (high : d ≤ 6)
+    (honest : isHonest S k ≡ true) (small : (v : Entry) → w .clients d .phase ≡ ReadingForWrite v
+    → v .0 < 2 ^ 40)
     (old : w .stopped d ≡ false → (v : Entry) (c : WriteCounter) → w .clients d .phase ≡ Storing v c
     → Awaits w d k c (w .clients d)) where
-  outcome-awaits : (j : ℕ) (m : Message) (ms : List Message) → e ≡ takes d j m ms → (o : Taken) → o ≡ takenBy S w d j m
+  outcome-awaits : (j : ℕ) (m : Message) (ms : List Message) → e ≡ takes d j m ms → (o : Taken)
+      → o ≡ takenBy S w d j m
       → Outcome S d (w .clients d) j m o → w .stopped d ≡ false → (v : Entry) (c : WriteCounter)
       → o .client .phase ≡ Storing v c → Awaits (apply S w e) d k c (o .client)
   unfolding withAck
@@ -117,10 +130,19 @@ module _ (S : Settings) (F : Formats) (w : World) (e : Event) (en : Enabled S F 
   outcome-awaits j m ms q o h (sends y p u g reading _ _) works v c ph =
       let z : nextCounter p ≡ c = cc in
       let is = counter-of (nextCounter p) d u (omega arith) (small u reading) in
-      inr (inl (pairOf (nextCounter p) d u, up-new S F w e d k (WriteInfo (pairOf (nextCounter p) d u)) honest puts, is ∙ z))
+      inr (inl (
+        pairOf (nextCounter p) d u,
+        up-new S F w e d k (WriteInfo (pairOf (nextCounter p) d u))
+            honest puts,
+        is ∙ z,
+      ))
     where
       puts : Puts S F w e d (WriteInfo (pairOf (nextCounter p) d u))
-      puts = rw q (refl, subst (λ (x : Taken). Member (WriteInfo (pairOf (nextCounter p) d u)) (x .sends)) h (inr (inl refl)))
+      puts = rw q (
+        refl,
+        subst (λ (x : Taken). Member (WriteInfo (pairOf (nextCounter p) d u)) (x .sends)) h
+            (inr (inl refl)),
+      )
   outcome-awaits j m ms q o h (acks u b i was _) works v c ph =
       by-test (eqb j k) (λ ek. inl (rw (eqb-true j k ek, update-same) refl))
       (λ ek. let ne : j ≢ k = eqb-false j k ek in
@@ -135,12 +157,15 @@ module _ (S : Settings) (F : Formats) (w : World) (e : Event) (en : Enabled S F 
   no-start (ReadingForWrite u) s v c e = clash (cc)
   no-start (Storing u b) s v c e = s
 
-  client-awaits : (y : Client) → ClientNext S F w e d y → apply S w e .stopped d ≡ false → (v : Entry) (c : WriteCounter)
+  client-awaits : (y : Client) → ClientNext S F w e d y → apply S w e .stopped d ≡ false
+      → (v : Entry) (c : WriteCounter)
       → y .phase ≡ Storing v c → Awaits (apply S w e) d k c y
   unfolding started
   client-awaits y (same a b) works v c ph =
-      awaits-next S F w e en d k low high c (w .clients d) (works-before S w e d works) (not-stopped S w e d works)
-      (λ ms g. true-or-false (eqb d d) (eq-eqb d d refl) (rw g at b)) (old (works-before S w e d works) v c ph)
+      awaits-next S F w e en d k low high c (w .clients d) (works-before S w e d works) (not-stopped S w e d
+      works)
+      (λ ms g. true-or-false (eqb d d) (eq-eqb d d refl) (rw g at b)) (old (works-before S w e d works) v c
+      ph)
   client-awaits y (starts ph′ q on) works v c ph = absurd (no-start ph′ (on .phase) v c ph)
   client-awaits y (took j m ms o q on h out) works v c ph = outcome-awaits j m ms q o h out (on .works) v c ph
 
@@ -153,7 +178,8 @@ module _ (r : Run) where
       let well = well-formed (r .S) (r .F) (r .accepted) (r .lawful) (r .steps) n .client d .phase in
       r .lawful .small v (subst (WellPhase (r .F)) ph well)
 
-  pub awaiting : (n d k : ℕ) → isClient (r .S) d ≡ true → isHonest (r .S) k ≡ true → world r n .stopped d ≡ false
+  pub awaiting : (n d k : ℕ) → isClient (r .S) d ≡ true → isHonest (r .S) k ≡ true
+      → world r n .stopped d ≡ false
       → (v : Entry) (c : WriteCounter) → world r n .clients d .phase ≡ Storing v c
       → Awaits (world r n) d k c (world r n .clients d)
   unfolding worldAt

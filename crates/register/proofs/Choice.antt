@@ -1,6 +1,7 @@
 -- The choice of a client: what a chosen pair is, and that a pair is chosen as soon as one counts.
 --
--- Why: `highestOf` goes through all pairs of all sets and keeps the higher of those that pass, so what it gives
+-- Why: `highestOf` goes through all pairs of all sets and keeps the higher of those that pass, so what it
+-- gives
 -- passes and is none lower than any that passes, and it gives nothing only where none passes.
 -- In order: the highest of a list; the pairs of all sets; the choice.
 -- Assumes nothing.
@@ -21,7 +22,8 @@ use Rattle.message.specs.declared.Pair.{Pair}
 use Rattle.message.specs.Pair.{stamp, below}
 use Rattle.register.specs.Thresholds.{counted, enough, notOldBy, validBy}
 use Rattle.register.specs.PairSet.{has}
-use Rattle.register.specs.Client.{Client, isNoted, isAtMost, higher, highestOf, allPairs, notOld, valid, counts}
+use Rattle.register.specs.Client.{Client, isNoted, isAtMost, higher, highestOf, allPairs, notOld, valid}
+use Rattle.register.specs.Client.{counts}
 use Rattle.register.specs.Client.{chosen}
 
 -- ---- the highest of a list that passes a test
@@ -42,7 +44,8 @@ module _ (test : Pair → Bool) where
   Found l (some p) = Highest test l p
 
   -- a pair in front that passes
-  in-front : (x : Pair) (l : List Pair) → test x ≡ true → ((q : Pair) → Member q l → test q ≡ true → q .0 ≤ x .0)
+  in-front : (x : Pair) (l : List Pair) → test x ≡ true → ((q : Pair) → Member q l → test q ≡ true
+      → q .0 ≤ x .0)
       → Highest test (x ∷ l) x
   in-front x l t low =
       record {
@@ -52,16 +55,19 @@ module _ (test : Pair → Bool) where
       }
 
   -- a pair in front that is not higher, or does not pass
-  behind : (x : Pair) (l : List Pair) (r : Pair) → Highest test l r → (test x ≡ true → x .0 ≤ r .0) → Highest test (x ∷ l) r
+  behind : (x : Pair) (l : List Pair) (r : Pair) → Highest test l r → (test x ≡ true → x .0 ≤ r .0)
+      → Highest test (x ∷ l) r
   behind x l r h low =
       record {
         member = inr (h .member);
         passes = h .passes;
         top = λ q m t. by-either m
-            (λ e. let n = number q x e in let k = low (ap test (sym e) ∙ t) in omega arith) (λ m′. h .top q m′ t);
+            (λ e. let n = number q x e in let k = low (ap test (sym e)
+            ∙ t) in omega arith) (λ m′. h .top q m′ t);
       }
 
-  passing : (x : Pair) (l : List Pair) (o : Option Pair) → test x ≡ true → Found l o → Found (x ∷ l) (higher x o)
+  passing : (x : Pair) (l : List Pair) (o : Option Pair) → test x ≡ true → Found l o → Found (x
+      ∷ l) (higher x o)
   unfolding higher
   passing x l none t h = in-front x l t (λ q m t′. absurd (true-or-false (test q) t′ (h q m)))
   passing x l (some r) t h =
@@ -117,7 +123,8 @@ module _ (n f : ℕ) (x : Client) where
     pub notOld : notOldBy f (counted (λ k. isAtMost (stamp p) (x .noted k)) n) ≡ true
     pub valid : validBy f (counted (λ k. has p (x .sets k)) n) ≡ true
 
-  -- a chosen pair: enough timestamps are noted; it counts, is in a set, and none that counts and is in one is higher
+  -- a chosen pair: enough timestamps are noted; it counts, is in a set, and none that counts and is in one is
+  -- higher
   pub record Chosen (p : Pair) : Type 0 where
     pub spoken : enough n f (counted (λ k. isNoted (x .noted k)) n) ≡ true
     pub counts : Counts p
@@ -126,7 +133,11 @@ module _ (n f : ℕ) (x : Client) where
 
   counts-true : (d : ℕ) (p : Pair) → counts n f d x p ≡ true → Counts p
   unfolding counts notOld valid
-  counts-true d p h = let c = both (notOld n f d x p) (valid n f d x p) h in record { notOld = c .0; valid = c .1 }
+  counts-true d p h = let c = both (notOld n f d x p) (valid n f d x p) h in record {
+    notOld = c .0;
+    valid =
+        c .1;
+  }
 
   true-counts : (d : ℕ) (p : Pair) → Counts p → counts n f d x p ≡ true
   unfolding counts notOld valid
@@ -139,7 +150,8 @@ module _ (n f : ℕ) (x : Client) where
         spoken = h;
         counts = counts-true d p (g .passes);
         held = from-all (x .sets) n p (g .member);
-        top = λ q s c. g .top q (in-all (x .sets) n (s .server) (s .low) (s .high) q (s .member)) (true-counts d q c);
+        top = λ q s c. g .top q (in-all (x .sets) n (s .server) (s .low) (s .high) q (s .member))
+            (true-counts d q c);
       }
 
   pub chosen-some : (d : ℕ) (p : Pair) → chosen n f d x ≡ some p → Chosen p
@@ -147,16 +159,19 @@ module _ (n f : ℕ) (x : Client) where
   chosen-some d p e =
       by-test (enough n f (counted (λ k. isNoted (x .noted k)) n))
       (λ b. chosen-of d p b
-      (subst (Found (counts n f d x) (allPairs (x .sets) n)) (rw b at e) (found (counts n f d x) (allPairs (x .sets) n))))
+      (subst (Found (counts n f d x) (allPairs (x .sets) n)) (rw b at e) (found (counts n f d x) (allPairs (x
+      .sets) n))))
       (λ b. absurd (let e′ : none ≡ some p = rw b at e in let z : _≡_ {A = ℕ} 0 1 = cc in omega arith))
 
   -- nothing is chosen: too few are noted, or no pair of a set counts
-  pub chosen-none : (d : ℕ) → chosen n f d x ≡ none → enough n f (counted (λ k. isNoted (x .noted k)) n) ≡ true
+  pub chosen-none : (d : ℕ) → chosen n f d x ≡ none
+      → enough n f (counted (λ k. isNoted (x .noted k)) n) ≡ true
       → (p : Pair) → InSet (x .sets) n p → Counts p → ⊥
   unfolding chosen
   chosen-none d e h p s c =
       let e′ : highestOf (counts n f d x) (allPairs (x .sets) n) ≡ none = rw h at e in
       let none-counts =
-      subst (Found (counts n f d x) (allPairs (x .sets) n)) e′ (found (counts n f d x) (allPairs (x .sets) n)) in
+      subst (Found (counts n f d x) (allPairs (x .sets) n)) e′ (found (counts n f d x) (allPairs (x .sets)
+      n)) in
       true-or-false (counts n f d x p) (true-counts d p c)
       (none-counts p (in-all (x .sets) n (s .server) (s .low) (s .high) p (s .member)))

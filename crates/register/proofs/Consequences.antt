@@ -15,7 +15,8 @@ use Rattle.message.specs.declared.Pair.{Pair}
 use Rattle.message.specs.Pair.{stamp, initial}
 use Rattle.register.specs.Settings.{Settings, Accepted}
 use Rattle.register.specs.Steps.{Step, Formats}
-use Rattle.register.specs.History.{worldAt, AnswersRead, AnswersWrite, ReadEnds, WriteEnds, Sends, PairOf}
+use Rattle.register.specs.History.{worldAt, AnswersRead, AnswersWrite, ReadEnds, WriteEnds, Sends}
+use Rattle.register.specs.History.{PairOf}
 use Rattle.register.proofs.Lawful.{Lawful}
 use Rattle.register.proofs.Run.{Run}
 use Rattle.register.proofs.Grows.{grows-on}
@@ -70,7 +71,8 @@ module _ (S : Settings) (F : Formats) (accepted : Accepted S) (lawful : Lawful F
   writes-ordered b₁ d₁ j₁ c i b₂ d₂ j₂ p₁ p₂ s₁ e s₂ lt =
       let s = sends-in run b₁ d₁ j₁ p₁ s₁ in
       let f = finished run b₁ d₁ c i e (same-client run b₁ d₁ j₁ c i p₁ s e) in
-      ordered run b₁ d₁ j₁ i b₂ d₂ j₂ p₁ p₂ s (sends-in run b₂ d₂ j₂ p₂ s₂) (f .later) (f .writes) (f .first) lt
+      ordered run b₁ d₁ j₁ i b₂ d₂ j₂ p₁ p₂ s (sends-in run b₂ d₂ j₂ p₂ s₂) (f .later) (f .writes) (f .first)
+      lt
 
   pub reads-not-old : (b₁ d₁ j₁ c i b₂ d₂ j₂ : ℕ) (p₁ p₂ : Pair) → Sends S F steps b₁ d₁ j₁ p₁
       → WriteEnds S F steps b₁ c i
@@ -80,7 +82,8 @@ module _ (S : Settings) (F : Formats) (accepted : Accepted S) (lawful : Lawful F
       let f = finished run b₁ d₁ c i e (same-client run b₁ d₁ j₁ c i p₁ s e) in
       let st = stored-when-ended run b₁ d₁ j₁ i p₁ s (f .later) (f .writes) (f .first) in
       let h = showing run b₂ d₂ j₂ p₂ x in
-      not-old run j₂ d₂ p₂ (stamp p₁) (h .decides) (rw (h .begun) (stored-stays run i b₂ (stamp p₁) (omega arith) st))
+      not-old run j₂ d₂ p₂ (stamp p₁) (h .decides) (rw (h .begun) (stored-stays run i b₂ (stamp p₁) (omega
+      arith) st))
 
   -- what a read shows
   pub shown-genuine : (b d j : ℕ) (p : Pair) → ReadEnds S F steps b d j p
@@ -97,7 +100,8 @@ module _ (S : Settings) (F : Formats) (accepted : Accepted S) (lawful : Lawful F
           client = k .client;
           at = k .at;
           sends = sends-out run (w .begin) (k .client) (k .at) p (omega arith) (w .sending);
-          only = λ b′ d′ j′ s. unique run b′ d′ j′ (w .begin) (k .client) (k .at) p p (sends-in run b′ d′ j′ p s)
+          only = λ b′ d′ j′ s. unique run b′ d′ j′ (w .begin) (k .client) (k .at) p p (sends-in run b′ d′ j′
+              p s)
               (w .sending) refl;
         },
         omega arith,

@@ -1,6 +1,7 @@
 -- Delivered: a pair that was sent is on its way to an honest server, or the server is at or above it.
 --
--- Why: WRITE_INFO is put on every channel to an honest server, where nothing is lost; it leaves the channel only when
+-- Why: WRITE_INFO is put on every channel to an honest server, where nothing is lost; it leaves the channel
+-- only when
 -- the server takes it, and then the server is at or above its pair, for ever (`Grows`).
 -- Assumes nothing.
 use mathlib.Core.Path.{_≡_, refl}
@@ -29,11 +30,13 @@ use Rattle.register.proofs.Grows.{taken-write, grows}
 abbrev pub Arrives : World → ℕ → Pair → ℕ → Type 0
 Arrives w d p k = Member (WriteInfo p) (w .up d k) ⊎ (stamp p ≤ stamp (w .servers k .pair))
 
-arrives-next : (S : Settings) (F : Formats) (w : World) (e : Event) → Enabled S F w e → (d : ℕ) (p : Pair) (k : ℕ)
+arrives-next : (S : Settings) (F : Formats) (w : World) (e : Event) → Enabled S F w e
+    → (d : ℕ) (p : Pair) (k : ℕ)
     → Arrives w d p k → Arrives (apply S w e) d p k
 arrives-next S F w e en d p k (inl h) =
     by-either (up-stays S F w e en d k (WriteInfo p) h) (λ a. inl a)
-    (λ a. inr (rw (server-after S w e k d (WriteInfo p) (a .0) (a .1)) (taken-write (w .servers k) d (WriteInfo p) p refl)))
+    (λ a. inr (rw (server-after S w e k d (WriteInfo p) (a .0) (a .1)) (taken-write (w .servers k) d
+    (WriteInfo p) p refl)))
 arrives-next S F w e en d p k (inr h) = inr (le-trans h (grows S w e k))
 
 -- from the step that sends it on
@@ -46,4 +49,5 @@ delivered r (suc n) i h d p k honest puts =
     (λ q. let same : i ≡ n = eqb-true i n q in
     inl (up-new (r .S) (r .F) (world r n) (event r n) d k (WriteInfo p) honest (rw same at puts)))
     (λ q. let other : i ≢ n = eqb-false i n q in
-    arrives-next (r .S) (r .F) (world r n) (event r n) (enabled-at r n) d p k (delivered r n i (omega arith) d p k honest puts))
+    arrives-next (r .S) (r .F) (world r n) (event r n) (enabled-at r n) d p k (delivered r n i (omega arith)
+    d p k honest puts))

@@ -1,6 +1,7 @@
 -- Demand 3, with this repository's formats: for every accepted setting and every list of steps.
 --
--- Why: the theorem asks two laws of the formats. A licence entry has 40 bits, and what unpacks is well formed, so its fields are
+-- Why: the theorem asks two laws of the formats. A licence entry has 40 bits, and what unpacks is well
+-- formed, so its fields are
 -- in their widths.
 -- Assumes nothing.
 use mathlib.Core.Path.{_≡_}
@@ -34,7 +35,11 @@ fields-fit (WriteAck c) h = ltb-true (c .0) (2 ^ 20) h
 
 pub lawful : Lawful formats
 lawful =
-    record { small = λ e h. is-licence-small (e .0) h; fits = λ bytes m e. fields-fit m (pack-unpack bytes m e .within) }
+    record {
+      small = λ e h. is-licence-small (e .0) h;
+      fits = λ bytes m e. fields-fit m (pack-unpack bytes m
+          e .within);
+    }
 
 pub holds-always : (S : Settings) → Accepted S → (steps : List Step) → DemandThree S steps
 holds-always S accepted steps = demand-three formats lawful S accepted steps

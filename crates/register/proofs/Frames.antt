@@ -69,7 +69,8 @@ module _ (S : Settings) (F : Formats) (w : World) where
   unfolding apply nextClients
   client-next (refuses r) en d = same refl refl
   client-next (begins c ph) en d =
-      update-at (λ (x : Client). ClientNext (begins c ph) d x) (w .clients) c d _ (λ q. rw (← q) (starts ph refl en))
+      update-at (λ (x : Client). ClientNext (begins c ph) d x) (w .clients) c d _ (λ q. rw (← q) (starts ph
+      refl en))
       (λ q. same (ne-eqb c d q) refl)
   client-next (serves k c m ms) en d = same refl refl
   client-next (takes c k m ms) en d =
@@ -163,7 +164,8 @@ module _ (S : Settings) (F : Formats) (w : World) where
   leaves-up (refuses r) en d k m h = inl h
   leaves-up (begins c ph) en d k m h = inl h
   leaves-up (serves j c x xs) en d k m h =
-      at-channel (λ (l : List Message). Member m l ⊎ ((ms : List Message) × (serves j c x xs ≡ serves k d m ms)))
+      at-channel (λ (l : List Message). Member m l ⊎ ((ms : List Message)
+      × (serves j c x xs ≡ serves k d m ms)))
       j c k d xs (w .up d k)
       (λ ek ed. let h′ : Member m (x ∷ xs) = rw (← ek, ← ed, en .channel) at h in
       by-either h′ (λ q. inr (xs, rw (ek, ed, q) refl)) (λ q. inl q))
@@ -177,7 +179,8 @@ module _ (S : Settings) (F : Formats) (w : World) where
   unfolding apply nextUp
   up-stays e en d k m h =
       by-either (leaves-up e en d k m h)
-      (λ a. inl (member-left m (leavesUp S w e d k) (cond (S .faulty k) [] (putsUp S w e d k)) a)) (λ a. inr a)
+      (λ a. inl (member-left m (leavesUp S w e d k) (cond (S .faulty k) [] (putsUp S w e d k)) a)) (λ a. inr
+      a)
 
   -- what a client puts on its channels is on those to honest servers
   pub up-new : (e : Event) (d k : ℕ) (m : Message) → isHonest S k ≡ true → Puts e d m
@@ -264,11 +267,13 @@ module _ (S : Settings) (F : Formats) (w : World) where
   unfolding apply nextDown
   down-stays e en d k m h =
       by-either (leaves-down e en d k m h)
-      (λ a. inl (member-left m (leavesDown S w e d k) (cond (w .stopped d) [] (putsDown S w e d k)) a)) (λ a. inr a)
+      (λ a. inl (member-left m (leavesDown S w e d k) (cond (w .stopped d) [] (putsDown S w e d k)) a)) (λ a.
+      inr a)
 
   -- what a server sends is on the channel to a working client
   pub down-new : (k c : ℕ) (x : Message) (xs : List Message) (d : ℕ) (m : Message) → w .stopped d ≡ false
-      → Member m (sentTo d (serverSends (w .servers k) c x)) → Member m (apply S w (serves k c x xs) .down d k)
+      → Member m (sentTo d (serverSends (w .servers k) c x))
+      → Member m (apply S w (serves k c x xs) .down d k)
   unfolding apply nextDown putsDown
   down-new k c x xs d m works h =
       rw (works, eq-eqb k k refl)

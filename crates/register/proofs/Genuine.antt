@@ -122,9 +122,15 @@ module _ (r : Run) where
   known-more : (n : ℕ) (p : Pair) → Known n p → Known (suc n) p
   known-more n p (inl e) = inl e
   known-more n p (inr k) =
-      inr (record { at = k .at; before = let x = k .before in omega arith; client = k .client; puts = k .puts })
+      inr (record {
+        at = k .at;
+        before = let x = k .before in omega arith;
+        client = k .client;
+        puts = k .puts;
+      })
 
-  known-new : (n d : ℕ) (m : Message) → Puts (r .S) (r .F) (world r n) (event r n) d m → Good (Known (suc n)) m
+  known-new : (n d : ℕ) (m : Message) → Puts (r .S) (r .F) (world r n) (event r n) d m
+      → Good (Known (suc n)) m
   known-new n d m h = go m h (put-case (r .S) (r .F) (world r n) (event r n) d m h)
     where
       go : (m : Message) → Puts (r .S) (r .F) (world r n) (event r n) d m
@@ -143,5 +149,6 @@ module _ (r : Run) where
         sets = λ d k g p h. absurd h;
       }
   genuine (suc n) =
-      genuine-next (r .S) (r .F) (world r n) (event r n) (enabled-at r n) (Known n) (Known (suc n)) (genuine n)
+      genuine-next (r .S) (r .F) (world r n) (event r n) (enabled-at r n) (Known n) (Known (suc n)) (genuine
+      n)
       (known-more n) (known-new n)

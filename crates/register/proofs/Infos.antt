@@ -1,7 +1,9 @@
 -- How many INFO of one read are on a channel.
 --
--- A server answers each GET_INFO with one INFO of the same tag and sends no other INFO, so a read gets one from each
--- server: `Waiting` counts them. In order: the count; of joined lists, of lists with and without one; of what a
+-- A server answers each GET_INFO with one INFO of the same tag and sends no other INFO, so a read gets one
+-- from each
+-- server: `Waiting` counts them. In order: the count; of joined lists, of lists with and without one; of what
+-- a
 -- server sends.
 -- Assumes nothing.
 use mathlib.Core.Path.{_≡_, refl, sym, ap}
@@ -66,7 +68,8 @@ pub infos-nil : (t : ReadNumber) → infos t [] ≡ 0
 unfolding infos
 infos-nil t = refl
 
-pub infos-cons : (t : ReadNumber) (m : Message) (ms : List Message) → infos t (m ∷ ms) ≡ isInfo t m + infos t ms
+pub infos-cons : (t : ReadNumber) (m : Message) (ms : List Message) → infos t (m
+    ∷ ms) ≡ isInfo t m + infos t ms
 unfolding infos
 infos-cons t m ms = refl
 
@@ -84,7 +87,8 @@ unfolding isInfo
 info-none t (GetInfo u) h = refl
 info-none t (Info u p) h =
     by-test (eqb (u .0) (t .0))
-    (λ e. absurd (h p (ap (λ (x : ReadNumber). Info x p) (same-tag u t (eqb-true (u .0) (t .0) e))))) (λ e. rw e refl)
+    (λ e. absurd (h p (ap (λ (x : ReadNumber). Info x p) (same-tag u t (eqb-true (u .0) (t .0) e))))) (λ e.
+    rw e refl)
 info-none t Done h = refl
 info-none t (WriteInfo p) h = refl
 info-none t (Fwd p) h = refl
@@ -107,7 +111,8 @@ unfolding direct infos isInfo
 sends-none s c (GetInfo u) d t h =
     by-test (eqb c d)
     (λ q. rw q (by-test (eqb (u .0) (t .0))
-    (λ r. absurd (h (ap GetInfo (same-tag u t (eqb-true (u .0) (t .0) r))) (eqb-true c d q))) (λ r. rw r refl)))
+    (λ r. absurd (h (ap GetInfo (same-tag u t (eqb-true (u .0) (t .0) r))) (eqb-true c d q))) (λ r. rw r
+    refl)))
     (λ q. rw q refl)
 sends-none s c (Info u p) d t h = refl
 sends-none s c Done d t h = refl

@@ -1,6 +1,8 @@
--- The ladders of refusals stand in the table's order, and a ladder that refuses nothing has no rung that applies.
+-- The ladders of refusals stand in the table's order, and a ladder that refuses nothing has no rung that
+-- applies.
 --
--- So the first rung that applies is the lowest number that applies (`ladder-rises`, `setup-rises`: by looking at each list), and an
+-- So the first rung that applies is the lowest number that applies (`ladder-rises`, `setup-rises`: by looking
+-- at each list), and an
 -- accepted step passed every test (`climbed`: each rung that applied would have been given).
 -- Assumes nothing.
 use mathlib.Core.Path.{_≡_, refl}
@@ -35,5 +37,6 @@ pub climbed : (rs : List Rung) → lowest rs ≡ none → NoneApplies rs
 climbed [] h = tt
 climbed (r ∷ rs) h =
     by-test (r .applies)
-    (λ e. absurd (let h′ : some (r .refusal) ≡ none = rw e at h in let z : _≡_ {A = ℕ} 0 1 = cc in omega arith))
+    (λ e. absurd (let h′ : some (r .refusal) ≡ none = rw e at h in let z : _≡_ {A = ℕ} 0 1 = cc in omega
+    arith))
     (λ e. (e, climbed rs (rw e at h)))

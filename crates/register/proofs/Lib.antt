@@ -1,6 +1,8 @@
--- The proof of demand 3, in the order in which it is read; the header of each file tells its part of the argument.
+-- The proof of demand 3, in the order in which it is read; the header of each file tells its part of the
+-- argument.
 --
--- What the proof stands on: counting servers, accepted settings, what an accepted event was checked for, a run.
+-- What the proof stands on: counting servers, accepted settings, what an accepted event was checked for, a
+-- run.
 pub mod Counted
 pub mod Ladders
 pub mod Bounds

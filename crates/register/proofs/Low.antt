@@ -25,7 +25,8 @@ use Rattle.register.specs.History.{worldAt}
 use Rattle.register.proofs.Enabled.{Enabled}
 use Rattle.register.proofs.Run.{Run, world, event, enabled-at}
 use Rattle.register.proofs.Sends.{Reply, info, forward, ack}
-use Rattle.register.proofs.Frames.{ClientNext, same, starts, took, client-next, down-cases, server-after}
+use Rattle.register.proofs.Frames.{ClientNext, same, starts, took, client-next, down-cases}
+use Rattle.register.proofs.Frames.{server-after}
 use Rattle.register.proofs.Grows.{server-grows, taken-write, grows}
 use Rattle.register.proofs.ClientFacts.{none-some, NewNote, outcome-note, NewPair, outcome-pair}
 
@@ -83,9 +84,11 @@ module _ (S : Settings) (F : Formats) (w : World) (e : Event) (en : Enabled S F 
   client-low d k g y (starts ph _ _) = record { sets = λ p h. absurd h; noted = λ t h. absurd (none-some h) }
   client-low d k g y (took j m ms o _ on _ v) =
       record {
-        sets = λ p h. by-either (outcome-pair S d (w .clients d) j m o v k p h) (λ a. l .clients d k g .sets p a)
+        sets = λ p h. by-either (outcome-pair S d (w .clients d) j m o v k p h) (λ a. l .clients d k g .sets
+            p a)
             (λ a. came-pair d j k m p g (rw (on .channel) (inl refl)) a);
-        noted = λ u h. by-either (outcome-note S d (w .clients d) j m o v k u h) (λ a. l .clients d k g .noted u a)
+        noted = λ u h. by-either (outcome-note S d (w .clients d) j m o v k u h) (λ a. l .clients d k g
+            .noted u a)
             (λ a. came-note d j k m u g (rw (on .channel) (inl refl)) a);
       }
 

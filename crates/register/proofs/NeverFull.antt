@@ -1,8 +1,11 @@
 -- A step D of a run is never refused 12 (FullChannel).
 --
--- Why: a start is accepted only where every channel to an honest server has room for all that the operation will put
--- there (`places`: a read's GET_INFO and DONE, a write's WRITE_INFO too); only the client itself puts messages on its
--- channels, and at each choice it puts no more than it has kept. So on every such channel the messages and the places
+-- Why: a start is accepted only where every channel to an honest server has room for all that the operation
+-- will put
+-- there (`places`: a read's GET_INFO and DONE, a write's WRITE_INFO too); only the client itself puts
+-- messages on its
+-- channels, and at each choice it puts no more than it has kept. So on every such channel the messages and
+-- the places
 -- that are kept fit into the slots.
 -- In order: what an outcome puts and keeps; what an event does; along a list of steps; the step D.
 -- Assumes nothing.
@@ -27,12 +30,14 @@ use Rattle.register.specs.Settings.{Settings, servers, isServer, isClien
 use Rattle.register.specs.Client.{Client, started, withAck, Taken}
 use Rattle.register.specs.World.{World, Event, refuses, begins, serves, takes, stops, lies, takenBy}
 use Rattle.register.specs.World.{putsUp, leavesUp, nextUp, nextClients, apply}
-use Rattle.register.specs.Steps.{Step, D, Formats, slots, isEmpty, oldest, hasRoom, roomUp, ladder, refusalOf}
+use Rattle.register.specs.Steps.{Step, D, Formats, slots, isEmpty, oldest, hasRoom, roomUp, ladder}
+use Rattle.register.specs.Steps.{refusalOf}
 use Rattle.register.specs.Steps.{eventOf}
 use Rattle.register.specs.History.{stepAt, worldAt}
 use Rattle.register.proofs.Bounds.{honest-server, honest-not-faulty}
 use Rattle.register.proofs.Enabled.{Enabled, places, enabled}
-use Rattle.register.proofs.Outcomes.{Outcome, dropped, waits, shows, spends, sends, acks, ends, outcome}
+use Rattle.register.proofs.Outcomes.{Outcome, dropped, waits, shows, spends, sends, acks, ends}
+use Rattle.register.proofs.Outcomes.{outcome}
 use Rattle.register.proofs.Outcomes.{grown-phase}
 use Rattle.register.proofs.Rooms.{room-up}
 use Rattle.register.proofs.Dropping.{nothing-put}
@@ -73,7 +78,8 @@ module _ (S : Settings) (F : Formats) (w : World)
       rw (honest-not-faulty S k honest, honest-server S k honest)
       (by-test (eqb c d)
       (λ e. let same = eqb-true c d e in
-      let room : length (w .up d k) + places ph ≤ slots = rw same at (room-up S F w c (places ph) (en .room) k honest) in
+      let room : length (w .up d k) + places ph ≤ slots = rw same at (room-up S F w c (places ph) (en .room)
+      k honest) in
       rw (e, length-append) (omega arith))
       (λ e. rw (e, append-nil (w .up d k)) (kept d k honest)))
   kept-next (serves j c m ms) en d k honest =
@@ -98,7 +104,8 @@ module _ (S : Settings) (F : Formats) (w : World)
   -- so there is room for what a client puts on its channels
   room-kept : (d k : ℕ) (m : Message) → roomUp S F w d (length (takenBy S w d k m .sends)) ≡ true
   unfolding roomUp hasRoom
-  room-kept d k m = below-of _ (servers S) (λ i less. by-test (isHonest S (suc i)) (λ e. rw e (fits i e)) (λ e. rw e refl))
+  room-kept d k m = below-of _ (servers S) (λ i less. by-test (isHonest S (suc i)) (λ e. rw e (fits i e))
+      (λ e. rw e refl))
     where
       fits : (i : ℕ) → isHonest S (suc i) ≡ true
           → leb (length (w .up d (suc i)) + length (takenBy S w d k m .sends)) slots ≡ true
@@ -121,7 +128,8 @@ module _ (S : Settings) (F : Formats) (w : World)
 -- ---- along a list of steps
 
 module _ (S : Settings) (F : Formats) (steps : List Step) where
-  kept-at : (i d k : ℕ) → isHonest S k ≡ true → Kept slots (worldAt S F steps i .up d k) (worldAt S F steps i .clients d .phase)
+  kept-at : (i d k : ℕ) → isHonest S k ≡ true → Kept slots (worldAt S F steps i .up d k) (worldAt S F steps i
+      .clients d .phase)
   unfolding worldAt apply
   kept-at zero d k honest = omega arith
   kept-at (suc i) d k honest =

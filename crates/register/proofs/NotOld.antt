@@ -77,7 +77,8 @@ module _ (r : Run) where
       let f = fresh r n in
       let heard : base r n d (k .server) ≤ u .0 =
       by-either
-      (grown-note (r .S) d (world r n .clients d) (dec .by .server) (dec .by .message) (dec .grown) (dec .grows)
+      (grown-note (r .S) d (world r n .clients d) (dec .by .server) (dec .by .message) (dec .grown) (dec
+      .grows)
       (k .server) (u .0) (u .1))
       (λ a. f .noted d (k .server) (h .0) (u .0) a)
       (λ a. rw (a .is)
@@ -120,9 +121,11 @@ module _ (r : Run) where
       let b = both (has p (dec .grown .sets (k .server))) (isHonest (r .S) (k .server)) (k .left) in
       let G = genuine r n in
       by-either
-      (grown-pair (r .S) d (world r n .clients d) (dec .by .server) (dec .by .message) (dec .grown) (dec .grows)
+      (grown-pair (r .S) d (world r n .clients d) (dec .by .server) (dec .by .message) (dec .grown) (dec
+      .grows)
       (k .server) p (has-member p _ (b .0)))
       (λ a. G .sets d (k .server) (b .1) p a)
       (λ a. let good : Good (Known r n) (dec .by .message) =
-      G .down d (k .server) (b .1) (dec .by .message) (rw (← (a .server), dec .by .enabled .channel) (inl refl)) in
+      G .down d (k .server) (b .1) (dec .by .message) (rw (← (a .server), dec .by .enabled .channel) (inl
+      refl)) in
       by-either (a .message) (λ q. rw q at good) (λ q. rw (q .1) at good))

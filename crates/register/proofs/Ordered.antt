@@ -56,7 +56,14 @@ module _ (r : Run) where
         begun = o .begun;
         chosen = w .put .pair;
         decides = record {
-          by = record { server = w .server; message = w .message; rest = w .rest; event = w .event; enabled = en };
+          by = record {
+            server = w .server;
+            message = w .message;
+            rest = w .rest;
+            event = w .event;
+            enabled =
+                en;
+          };
           grown = w .put .grown;
           grows = w .put .grows;
           chosen = w .put .chosen;
@@ -78,7 +85,8 @@ module _ (r : Run) where
       omega arith
 
   -- the pair of a write that ended at step i by storing
-  ended-stamp : (b d j : ℕ) (p : Pair) (s : Sending b d j p) (i : ℕ) → j < i → (u : SentOnce r b d (s .entry) i)
+  ended-stamp : (b d j : ℕ) (p : Pair) (s : Sending b d j p) (i : ℕ) → j < i
+      → (u : SentOnce r b d (s .entry) i)
       → stamp p ≡ (counter (u .pair) .0 + 1) * 16 + d
   unfolding entryOf
   ended-stamp b d j p s i ji u =

@@ -1,9 +1,12 @@
--- Pair sets: what is in them, that they stay in strict order and within their limit, and that they keep their highest
+-- Pair sets: what is in them, that they stay in strict order and within their limit, and that they keep their
+-- highest
 -- pair.
 --
--- Why: a pair is put in its place, so the order stays; only the lowest leaves, and of two or more pairs in strict
+-- Why: a pair is put in its place, so the order stays; only the lowest leaves, and of two or more pairs in
+-- strict
 -- order the highest is not the lowest. All of it holds for every limit from 1 on, whatever the limit is.
--- In order: the tests `same` and `has` as facts; the order; putting a pair in its place; adding within a limit.
+-- In order: the tests `same` and `has` as facts; the order; putting a pair in its place; adding within a
+-- limit.
 -- Assumes nothing.
 use mathlib.Core.Path.{_≡_, refl, sym, ap, _∙_}
 use mathlib.Core.Bool.{Bool, true, false, _||_}
@@ -88,7 +91,11 @@ insert-ordered p [] o = (tt, tt)
 insert-ordered p (x ∷ xs) o =
     by-test (same p x) (λ e. rw e o)
     (λ e. by-test (below p x) (λ f. rw (e, f) (in-front (ltb-true (p .0) (x .0) f), o))
-    (λ f. rw (e, f) (behind (eqb-false (p .0) (x .0) e) (ltb-false (p .0) (x .0) f), insert-ordered p xs (o .1))))
+    (λ f. rw (e, f) (
+      behind (eqb-false (p .0) (x .0) e) (ltb-false (p .0) (x .0) f),
+      insert-ordered p xs (o
+          .1),
+    )))
   where
     in-front : p .0 < x .0 → Every (λ y. p .0 < y .0) (x ∷ xs)
     in-front lt = (
@@ -142,7 +149,8 @@ drop-keeps (x ∷ y ∷ ys) q o h (inr m) top = m
 -- the one that leaves is the lowest
 drop-leaves : (l : List Pair) (q : Pair) → Ordered l → Member q l → (Member q (drop 1 l) → ⊥)
     → (x : Pair) → Member x l → q .0 ≤ x .0
-drop-leaves (y ∷ ys) q o (inl e) gone x (inl g) = let c : q .0 ≡ x .0 = ap (λ (z : Pair). z .0) (e ∙ sym g) in omega arith
+drop-leaves (y ∷ ys) q o (inl e) gone x (inl g) = let c : q .0 ≡ x .0 = ap (λ (z : Pair). z .0) (e
+    ∙ sym g) in omega arith
 drop-leaves (y ∷ ys) q o (inl e) gone x (inr m) =
     let c : q .0 ≡ y .0 = ap (λ (z : Pair). z .0) e in
     let h : y .0 < x .0 = every-at (λ z. y .0 < z .0) ys (o .0) x m in
@@ -151,11 +159,13 @@ drop-leaves (y ∷ ys) q o (inr m′) gone x m = absurd (gone m′)
 
 module _ (limit : ℕ) (p : Pair) (l : List Pair) where
   -- by whether the limit is kept
-  by-limit {ℓ} : (P : List Pair → Type ℓ) → P (insert p l) → (limit < length (insert p l) → P (drop 1 (insert p l)))
+  by-limit {ℓ} : (P : List Pair → Type ℓ) → P (insert p l) → (limit < length (insert p l)
+      → P (drop 1 (insert p l)))
       → P (add limit p l)
   unfolding add
   by-limit P fits over =
-      by-test (leb (length (insert p l)) limit) (λ e. rw e fits) (λ e. rw e (over (leb-false (length (insert p l)) limit e)))
+      by-test (leb (length (insert p l)) limit) (λ e. rw e fits) (λ e. rw e (over (leb-false (length (insert
+      p l)) limit e)))
 
   -- whatever is in the set was there or was added
   pub add-from : (q : Pair) → Member q (add limit p l) → (q ≡ p) ⊎ Member q l
@@ -178,7 +188,8 @@ module _ (limit : ℕ) (p : Pair) (l : List Pair) where
   pub add-keeps : (q : Pair) → 1 ≤ limit → Ordered l → (q ≡ p) ⊎ Member q l → p .0 ≤ q .0
       → ((x : Pair) → Member x l → x .0 ≤ q .0) → Member q (add limit p l)
   add-keeps q h o m above tops =
-      let there : Member q (insert p l) = by-either m (λ e. rw e (insert-has p l)) (λ a. insert-keeps p l q a) in
+      let there : Member q (insert p l) = by-either m (λ e. rw e (insert-has p l)) (λ a. insert-keeps p l q
+      a) in
       by-limit (λ s. Member q s) there
       (λ over. drop-keeps (insert p l) q (insert-ordered p l o) (omega arith) there
       (λ x a. by-either (insert-from p l x a) (λ b. rw b above) (λ b. tops x b)))
@@ -187,7 +198,9 @@ module _ (limit : ℕ) (p : Pair) (l : List Pair) where
   pub add-leaves : (q : Pair) → Ordered l → (q ≡ p) ⊎ Member q l → (Member q (add limit p l) → ⊥)
       → (x : Pair) → (x ≡ p) ⊎ Member x l → q .0 ≤ x .0
   add-leaves q o m gone x n =
-      let there : Member q (insert p l) = by-either m (λ e. rw e (insert-has p l)) (λ a. insert-keeps p l q a) in
-      let also : Member x (insert p l) = by-either n (λ e. rw e (insert-has p l)) (λ a. insert-keeps p l x a) in
+      let there : Member q (insert p l) = by-either m (λ e. rw e (insert-has p l)) (λ a. insert-keeps p l q
+      a) in
+      let also : Member x (insert p l) = by-either n (λ e. rw e (insert-has p l)) (λ a. insert-keeps p l x a)
+      in
       by-limit (λ s. (Member q s → ⊥) → q .0 ≤ x .0) (λ g. absurd (g there))
       (λ over g. drop-leaves (insert p l) q (insert-ordered p l o) there g x also) gone

@@ -87,14 +87,16 @@ module _ (S : Settings) (F : Formats) (w : World) where
     puts-get t h = get-of (GetInfo t) t (put-case e d (GetInfo t) h) refl
 
 -- the pair that a write sends is made of its choice
-pub sent-pair : (S : Settings) (F : Formats) (w : World) (e : Event) (d : ℕ) (p : Pair) (s : SendsWrite S F w e d p)
+pub sent-pair : (S : Settings) (F : Formats) (w : World) (e : Event) (d : ℕ) (p : Pair) (s : SendsWrite S F w
+    e d p)
     → p ≡ pairOf (nextCounter (s .put .pair)) d (s .put .entry)
 sent-pair S F w e d p s = let i = s .put .is in cc
 
 -- an event puts at most one WRITE_INFO: the phase after it tells which
 module _ (S : Settings) (F : Formats) (w : World) (e : Event) (d : ℕ) where
   phase-after : (p : Pair) (s : SendsWrite S F w e d p)
-      → takenBy S w d (s .server) (s .message) .client .phase ≡ Storing (s .put .entry) (nextCounter (s .put .pair))
+      → takenBy S w d (s .server) (s .message) .client .phase ≡ Storing (s .put .entry) (nextCounter (s .put
+      .pair))
   phase-after p s = ap (λ (x : Client). x .phase) (s .put .after)
 
   pub puts-same : (p q : Pair) → Puts S F w e d (WriteInfo p) → Puts S F w e d (WriteInfo q) → p ≡ q
@@ -105,7 +107,8 @@ module _ (S : Settings) (F : Formats) (w : World) (e : Event) (d : ℕ) where
       let here′ = b .event in
       let server : a .server ≡ b .server = cc in
       let message : a .message ≡ b .message = cc in
-      let same : Storing (a .put .entry) (nextCounter (a .put .pair)) ≡ Storing (b .put .entry) (nextCounter (b .put .pair)) =
+      let same : Storing (a .put .entry) (nextCounter (a .put .pair)) ≡ Storing (b .put .entry) (nextCounter
+      (b .put .pair)) =
       sym (phase-after p a) ∙ (λ i. takenBy S w d (server i) (message i) .client .phase) ∙ phase-after q b in
       let entry : a .put .entry ≡ b .put .entry = cc in
       let count : nextCounter (a .put .pair) ≡ nextCounter (b .put .pair) = cc in

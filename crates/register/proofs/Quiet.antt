@@ -1,11 +1,16 @@
 -- Quiet: a working client with nothing on its way is idle.
 --
--- Why, for a client that reads: no WRITE_INFO is on its way to an honest server, so every honest server is at or
--- above every pair that was sent (`Delivered`), and so all hold the same pair, the highest (`OnePair`). Nothing is on
--- the client's channels, so each of them has answered, and its pair is in the client's set for it (`WaitingRun`); at
--- least n − f servers are honest. That pair counts: it is in n − f sets and at or above n − f noted timestamps, and n
+-- Why, for a client that reads: no WRITE_INFO is on its way to an honest server, so every honest server is at
+-- or
+-- above every pair that was sent (`Delivered`), and so all hold the same pair, the highest (`OnePair`).
+-- Nothing is on
+-- the client's channels, so each of them has answered, and its pair is in the client's set for it
+-- (`WaitingRun`); at
+-- least n − f servers are honest. That pair counts: it is in n − f sets and at or above n − f noted
+-- timestamps, and n
 -- − f is 2f + 1. So the client would have chosen (`Still`).
--- For one that stores: the n − f honest servers have all acknowledged (`Awaiting`), so the write would have ended.
+-- For one that stores: the n − f honest servers have all acknowledged (`Awaiting`), so the write would have
+-- ended.
 -- In order: all honest servers hold one pair; reading; storing; idle.
 -- Assumes nothing.
 use mathlib.Core.Path.{_≡_, refl, sym, _∙_, subst}
@@ -111,7 +116,8 @@ module _ (r : Run) (n d : ℕ) (client : isClient (r .S) d ≡ true) (works : wo
   many : (test : ℕ → Bool) → ((k : ℕ) → isHonest (r .S) k ≡ true → test k ≡ true)
       → servers (r .S) - r .S .f ≤ counted test (servers (r .S))
   many test h =
-      le-trans (many-honest (r .S) (bounded r)) (counted-mono (isHonest (r .S)) test (servers (r .S)) (λ k _ _ e. h k e))
+      le-trans (many-honest (r .S) (bounded r)) (counted-mono (isHonest (r .S)) test (servers (r .S))
+      (λ k _ _ e. h k e))
 
   not-reading-now : isReading (self .phase) ≡ true → ⊥
   not-reading-now reading =
@@ -128,7 +134,8 @@ module _ (r : Run) (n d : ℕ) (client : isClient (r .S) d ≡ true) (works : wo
       let held =
       many (λ j. has p (self .sets j))
       (λ j h. member-has p (self .sets j)
-      (subst (λ (q : Pair). Member q (self .sets j)) (one-pair j k h (one .left)) (heard reading j h .held))) in
+      (subst (λ (q : Pair). Member q (self .sets j)) (one-pair j k h (one .left)) (heard reading j h .held)))
+      in
       chosen-none (servers (r .S)) (r .S .f) self d (still r n d .undecided reading)
       (not-failing _ (λ e. omega (arith, leb-false))) p
       (record { server = k; low = one .low; high = one .high; member = heard reading k (one .left) .held })
@@ -148,7 +155,8 @@ module _ (r : Run) (n d : ℕ) (client : isClient (r .S) d ≡ true) (works : wo
 
   -- ---- idle
 
-  only-idle : (ph : Phase) → (isReading ph ≡ true → ⊥) → ((v : Entry) (c : WriteCounter) → ph ≡ Storing v c → ⊥) → ph ≡ Idle
+  only-idle : (ph : Phase) → (isReading ph ≡ true → ⊥) → ((v : Entry) (c : WriteCounter) → ph ≡ Storing v c
+      → ⊥) → ph ≡ Idle
   unfolding isReading
   only-idle Idle a b = refl
   only-idle Reading a b = absurd (a refl)

@@ -1,6 +1,7 @@
 -- Every world that a list of steps leads to is well formed.
 --
--- Why: the setup is, and every event keeps it so: servers change only by a client's message (`WellServer`), clients
+-- Why: the setup is, and every event keeps it so: servers change only by a client's message (`WellServer`),
+-- clients
 -- only by a start or a server's message (`WellClient`), and channels within their room (`WellChannels`). Only
 -- servers, clients and channels that are used change at all.
 -- Assumes nothing.
@@ -17,13 +18,15 @@ use Rattle.register.specs.declared.Phase.the-variants.{Idle, Reading, Re
 use Rattle.register.specs.Settings.{Settings, Accepted, isClient, isHonest}
 use Rattle.register.specs.Server.{newServer, serverAfter}
 use Rattle.register.specs.Client.{newClient, started}
-use Rattle.register.specs.World.{World, newWorld, Event, refuses, begins, serves, takes, stops, lies, takenBy}
+use Rattle.register.specs.World.{World, newWorld, Event, refuses, begins, serves, takes, stops, lies}
+use Rattle.register.specs.World.{takenBy}
 use Rattle.register.specs.World.{nextServers, nextClients, nextStopped, apply}
 use Rattle.register.specs.Steps.{Step, Formats, eventOf}
 use Rattle.register.specs.History.{stepAt, worldAt}
 use Rattle.register.proofs.Enabled.{Enabled, Starts, enabled}
 use Rattle.register.proofs.Lawful.{Lawful}
-use Rattle.register.proofs.WellFormed.{FromClient, FromServer, WellPhase, WellServer, WellClient, WellFormed}
+use Rattle.register.proofs.WellFormed.{FromClient, FromServer, WellPhase, WellServer, WellClient}
+use Rattle.register.proofs.WellFormed.{WellFormed}
 use Rattle.register.proofs.WellServer.{well-after}
 use Rattle.register.proofs.WellClient.{well-cleared, well-started}
 use Rattle.register.proofs.WellChannels.{oldest-kind, well-empty, well-taken, up-next, down-next}
@@ -58,9 +61,11 @@ starts-well F (Storing e c) s = absurd s
 used-only : {A : Type 0} (used : ℕ → Bool) (z : A) (f : ℕ → A) (i : ℕ) (a : A) → used i ≡ true
     → ((j : ℕ) → used j ≡ false → f j ≡ z) → (j : ℕ) → used j ≡ false → update f i a j ≡ z
 used-only used z f i a yes′ old j no′ =
-    update-at (λ b. b ≡ z) f i j a (λ same. absurd (true-or-false (used j) (ap used (sym same) ∙ yes′) no′)) (λ other. old j no′)
+    update-at (λ b. b ≡ z) f i j a (λ same. absurd (true-or-false (used j) (ap used (sym same)
+    ∙ yes′) no′)) (λ other. old j no′)
 
-module _ (S : Settings) (F : Formats) (accepted : Accepted S) (lawful : Lawful F) (w : World) (well : WellFormed S F w) where
+module _ (S : Settings) (F : Formats) (accepted : Accepted S) (lawful : Lawful F) (w : World) (well :
+    WellFormed S F w) where
   -- ---- servers, clients, the stopped
 
   servers-next : (e : Event) → Enabled S F w e → (k : ℕ) → WellServer S (nextServers S w e k)
@@ -75,12 +80,14 @@ module _ (S : Settings) (F : Formats) (accepted : Accepted S) (lawful : Lawful F
   servers-next (stops c) en k = well .server k
   servers-next (lies j c m) en k = well .server k
 
-  servers-unused : (e : Event) → Enabled S F w e → (k : ℕ) → isHonest S k ≡ false → nextServers S w e k ≡ newServer
+  servers-unused : (e : Event) → Enabled S F w e → (k : ℕ) → isHonest S k ≡ false
+      → nextServers S w e k ≡ newServer
   unfolding nextServers
   servers-unused (refuses r) en = well .serverUnused
   servers-unused (begins c ph) en = well .serverUnused
   servers-unused (serves j c m ms) en =
-      used-only (isHonest S) newServer (w .servers) j (serverAfter (w .servers j) c m) (en .honest) (well .serverUnused)
+      used-only (isHonest S) newServer (w .servers) j (serverAfter (w .servers j) c m) (en .honest) (well
+      .serverUnused)
   servers-unused (takes c j m ms) en = well .serverUnused
   servers-unused (stops c) en = well .serverUnused
   servers-unused (lies j c m) en = well .serverUnused
@@ -90,7 +97,8 @@ module _ (S : Settings) (F : Formats) (accepted : Accepted S) (lawful : Lawful F
   clients-next (refuses r) en d = well .client d
   clients-next (begins c ph) en d =
       update-at (WellClient S F) (w .clients) c d (started (w .clients c) ph)
-      (λ same. well-started S F (w .clients c) ph (starts-well F ph (en .phase)) (en .below)) (λ other. well .client d)
+      (λ same. well-started S F (w .clients c) ph (starts-well F ph (en .phase)) (en .below)) (λ other. well
+      .client d)
   clients-next (serves j c m ms) en d = well .client d
   clients-next (takes c j m ms) en d =
       update-at (WellClient S F) (w .clients) c d (takenBy S w c j m .client)
@@ -99,24 +107,29 @@ module _ (S : Settings) (F : Formats) (accepted : Accepted S) (lawful : Lawful F
   clients-next (stops c) en d = well .client d
   clients-next (lies j c m) en d = well .client d
 
-  clients-unused : (e : Event) → Enabled S F w e → (d : ℕ) → isClient S d ≡ false → nextClients S w e d ≡ newClient
+  clients-unused : (e : Event) → Enabled S F w e → (d : ℕ) → isClient S d ≡ false
+      → nextClients S w e d ≡ newClient
   unfolding nextClients
   clients-unused (refuses r) en = well .clientUnused
   clients-unused (begins c ph) en =
-      used-only (isClient S) newClient (w .clients) c (started (w .clients c) ph) (en .client) (well .clientUnused)
+      used-only (isClient S) newClient (w .clients) c (started (w .clients c) ph) (en .client) (well
+      .clientUnused)
   clients-unused (serves j c m ms) en = well .clientUnused
   clients-unused (takes c j m ms) en =
-      used-only (isClient S) newClient (w .clients) c (takenBy S w c j m .client) (en .client) (well .clientUnused)
+      used-only (isClient S) newClient (w .clients) c (takenBy S w c j m .client) (en .client) (well
+      .clientUnused)
   clients-unused (stops c) en = well .clientUnused
   clients-unused (lies j c m) en = well .clientUnused
 
-  stopped-unused : (e : Event) → Enabled S F w e → (d : ℕ) → isClient S d ≡ false → nextStopped S w e d ≡ false
+  stopped-unused : (e : Event) → Enabled S F w e → (d : ℕ) → isClient S d ≡ false
+      → nextStopped S w e d ≡ false
   unfolding nextStopped
   stopped-unused (refuses r) en = well .stoppedUnused
   stopped-unused (begins c ph) en = well .stoppedUnused
   stopped-unused (serves j c m ms) en = well .stoppedUnused
   stopped-unused (takes c j m ms) en = well .stoppedUnused
-  stopped-unused (stops c) en = used-only (isClient S) false (w .stopped) c true (en .client) (well .stoppedUnused)
+  stopped-unused (stops c) en = used-only (isClient S) false (w .stopped) c true (en .client) (well
+      .stoppedUnused)
   stopped-unused (lies j c m) en = well .stoppedUnused
 
   -- ---- every event

@@ -67,11 +67,13 @@ module _ (r : Run) where
       (λ o. absurd (o .silent j (x .later) (omega arith) p (reads-in r j d p (x .ends))))
       (λ o. by-test (ltb (o .at) j)
       (λ q. let lt = ltb-true (o .at) j q in
-      absurd (x .next (o .at) (o .after) lt (o .pair) (reads-out r (o .at) d (o .pair) (omega arith) (o .reads))))
+      absurd (x .next (o .at) (o .after) lt (o .pair) (reads-out r (o .at) d (o .pair) (omega arith) (o
+      .reads))))
       (λ q. let y = ltb-false (o .at) j q in
       let z = o .before in
       let e : o .at ≡ j = omega arith in
-      let a : answer r j ≡ Read (o .pair) = subst (λ (k : ℕ). answer r k ≡ Read (o .pair)) e (o .reads .answer) in
+      let a : answer r j ≡ Read (o .pair) = subst (λ (k : ℕ). answer r k ≡ Read (o .pair)) e (o .reads
+      .answer) in
       let a′ = x .ends .answer in
       let same : o .pair ≡ p = cc in
       record {
@@ -157,7 +159,8 @@ module _ (r : Run) where
             client = k .client;
             at = k .at;
             sends = sends-out r (w .begin) (k .client) (k .at) p (omega arith) (w .sending);
-            only = λ b′ d′ j′ z. unique r b′ d′ j′ (w .begin) (k .client) (k .at) p p (sends-in r b′ d′ j′ p z)
+            only = λ b′ d′ j′ z. unique r b′ d′ j′ (w .begin) (k .client) (k .at) p p (sends-in r b′ d′ j′ p
+                z)
                 (w .sending) refl;
           },
           omega arith,

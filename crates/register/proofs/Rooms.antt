@@ -20,7 +20,8 @@ unless a b h e = rw e at h
 
 module _ (S : Settings) (F : Formats) (w : World) where
   -- room for n messages on the channel from a client to an honest server
-  pub room-up : (d n : ℕ) → roomUp S F w d n ≡ true → (k : ℕ) → isHonest S k ≡ true → length (w .up d k) + n ≤ slots
+  pub room-up : (d n : ℕ) → roomUp S F w d n ≡ true → (k : ℕ) → isHonest S k ≡ true
+      → length (w .up d k) + n ≤ slots
   unfolding roomUp hasRoom
   room-up d n h zero honest = absurd (let r = server-range S 0 (honest-server S 0 honest) in omega arith)
   room-up d n h (suc i) honest =
@@ -28,7 +29,8 @@ module _ (S : Settings) (F : Formats) (w : World) where
       leb-true _ _ (unless (not (isHonest S (suc i))) _ (below _ (servers S) h i (r .1)) (ap not honest))
 
   -- room on the channel to a working client for what a server sends there
-  pub room-down : (k d : ℕ) (m : Message) → roomDown S F w k d m ≡ true → (e : ℕ) → isClient S e ≡ true → w .stopped e ≡ false
+  pub room-down : (k d : ℕ) (m : Message) → roomDown S F w k d m ≡ true → (e : ℕ) → isClient S e ≡ true
+      → w .stopped e ≡ false
       → length (w .down e k) + length (sentTo e (serverSends (w .servers k) d m)) ≤ slots
   unfolding roomDown hasRoom
   room-down k d m h zero client works = absurd (let r = client-range S 0 client in omega arith)

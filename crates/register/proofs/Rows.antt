@@ -120,7 +120,8 @@ module _ (r : Run) where
         let la = stamp-top a wa in
         let lc = stamp-top c wc in
         let one : stamp (wa .pair) ≡ stamp (wc .pair) → a ≡ c =
-        unique r a (wa .client) (wa .at) c (wc .client) (wc .at) (wa .pair) (wc .pair) (wa .sending) (wc .sending) in
+        unique r a (wa .client) (wa .at) c (wc .client) (wc .at) (wa .pair) (wc .pair) (wa .sending) (wc
+        .sending) in
         by-time a wa
         (λ x ka. by-time c wc (λ y kc. one (omega arith)) (λ y kc. absurd (omega arith)))
         (λ x ka. by-time c wc (λ y kc. absurd (omega arith)) (λ y kc. one (omega arith)))

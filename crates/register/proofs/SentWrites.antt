@@ -121,7 +121,8 @@ module _ (r : Run) where
   sends-now : (n d : ℕ) (p : Pair) → PutsAt r n d p → Sending r (since r n d) d n p
   sends-now n d p h =
       let s = sender r n d p h in
-      subst (λ (b : ℕ). Sending r b d n p) (sym (sent-facts r (s .begin) d n p (s .sending) .begun)) (s .sending)
+      subst (λ (b : ℕ). Sending r b d n p) (sym (sent-facts r (s .begin) d n p (s .sending) .begun)) (s
+      .sending)
 
   -- and to no other
   one-sender : (n b d : ℕ) (p : Pair) (d′ : ℕ) (p′ : Pair) → PutsAt r n d′ p′ → Sending r b d n p
@@ -135,7 +136,8 @@ module _ (r : Run) where
   -- at a step before n + 1: at n, or before it
   at-step {ℓ} : {C : Type ℓ} (j n : ℕ) → j < suc n → (j ≡ n → C) → (j < n → C) → C
   at-step j n lt now before =
-      by-test (eqb j n) (λ e. now (eqb-true j n e)) (λ e. before (let ne : j ≢ n = eqb-false j n e in omega arith))
+      by-test (eqb j n) (λ e. now (eqb-true j n e)) (λ e. before (let ne : j ≢ n = eqb-false j n e in omega
+      arith))
 
   put-now : (n b d j : ℕ) (p : Pair) → Sending r b d j p → j ≡ n → PutsAt r n d p
   put-now n b d j p s e = subst (λ (z : ℕ). PutsAt r z d p) e (s .puts)
@@ -211,7 +213,8 @@ module _ (r : Run) where
           (λ e. let now = send-now n b d j p s e in
           let same =
           sends-once r b d n d′ n p p′ now
-          (subst (λ (z : ℕ). Sending r z d′ n p′) (one-sender n b d p d′ p′ h now) (sends-now n d′ p′ h)) .pair in
+          (subst (λ (z : ℕ). Sending r z d′ n p′) (one-sender n b d p d′ p′ h now) (sends-now n d′ p′ h))
+          .pair in
           let one = top-above n in
           rw same (omega arith))
           (λ less. let x = ih less in omega arith)
@@ -226,7 +229,8 @@ module _ (r : Run) where
       go ih (puts d p h) = (
         (λ m. let s = member-sent n _ m in
             let x = s .before in
-            let q = sends-once r _ d n (s .client) (s .at) p (s .pair) (sends-now n d p h) (s .sending) .step in
+            let q = sends-once r _ d n (s .client) (s .at) p (s .pair) (sends-now n d p h) (s .sending) .step
+            in
             omega arith),
         ih,
       )

@@ -1,7 +1,8 @@
 -- Still: a client that reads has not decided, and one that stores has too few acknowledgements.
 --
 -- Why: after every taken message the client looks, and leaves its phase if it finds a pair or has enough
--- acknowledgements; so if it is still in the phase, it has not. At a start it has nothing, and n − f is above 0.
+-- acknowledgements; so if it is still in the phase, it has not. At a start it has nothing, and n − f is above
+-- 0.
 -- Assumes nothing.
 use mathlib.Core.Path.{_≡_, refl, sym, _∙_}
 use mathlib.Core.Bool.{true, false}
@@ -25,7 +26,8 @@ use Rattle.register.specs.Steps.{Formats}
 use Rattle.register.specs.History.{worldAt}
 use Rattle.register.proofs.Counted.{counted-none}
 use Rattle.register.proofs.Run.{Run, world, event, enabled-at}
-use Rattle.register.proofs.Outcomes.{choice, Grown, grown-phase, Outcome, dropped, waits, shows, spends, sends}
+use Rattle.register.proofs.Outcomes.{choice, Grown, grown-phase, Outcome, dropped, waits, shows}
+use Rattle.register.proofs.Outcomes.{spends, sends}
 use Rattle.register.proofs.Outcomes.{acks, ends}
 use Rattle.register.proofs.Frames.{ClientNext, same, starts, took, client-next}
 use Rattle.register.proofs.Live.{not-reading}

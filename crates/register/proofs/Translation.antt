@@ -80,7 +80,8 @@ module _ (S : Settings) (F : Formats) (w : World) where
   abbrev NotRefused : Event → Type 0
   NotRefused e = (x : Refusal) → answerOf S w e ≡ Refused x → ⊥
 
-  pub read-event : (s : Step) (e : Event) → Source s e → (d : ℕ) → s ≡ R d → NotRefused e → e ≡ begins d Reading
+  pub read-event : (s : Step) (e : Event) → Source s e → (d : ℕ) → s ≡ R d → NotRefused e
+      → e ≡ begins d Reading
   unfolding answerOf
   read-event s e (refused {x = x}) d q n = absurd (n x refl)
   read-event s e (read {d = c}) d q n = let z : c ≡ d = cc in ap (λ (i : ℕ). begins i Reading) z
@@ -90,7 +91,8 @@ module _ (S : Settings) (F : Formats) (w : World) where
   read-event s e stop d q n = clash (cc)
   read-event s e lie d q n = clash (cc)
 
-  pub write-event : (s : Step) (e : Event) → Source s e → (d : ℕ) (entry : Entry) → s ≡ W d entry → NotRefused e
+  pub write-event : (s : Step) (e : Event) → Source s e → (d : ℕ) (entry : Entry) → s ≡ W d entry
+      → NotRefused e
       → e ≡ begins d (ReadingForWrite entry)
   unfolding answerOf
   write-event s e (refused {x = x}) d entry q n = absurd (n x refl)
@@ -121,7 +123,8 @@ module _ (S : Settings) (F : Formats) (w : World) where
   take-step s e read d k m ms q = clash (cc)
   take-step s e write d k m ms q = clash (cc)
   take-step s e serve d k m ms q = clash (cc)
-  take-step s e (take {d = c} {k = y}) d k m ms q = let z : c ≡ d = cc in let z′ : y ≡ k = cc in rw (z, z′) refl
+  take-step s e (take {d = c} {k = y}) d k m ms q = let z : c ≡ d = cc in let z′ : y ≡ k = cc in rw (z, z′)
+      refl
   take-step s e stop d k m ms q = clash (cc)
   take-step s e lie d k m ms q = clash (cc)
 
@@ -139,7 +142,10 @@ module _ (S : Settings) (F : Formats) (w : World) where
       → s ≡ W d entry
   write-step s e refused d entry q = clash (cc)
   write-step s e read d entry q = clash (cc)
-  write-step s e (write {d = c} {e = y}) d entry q = let z : c ≡ d = cc in let z′ : y ≡ entry = cc in rw (z, z′) refl
+  write-step s e (write {d = c} {e = y}) d entry q = let z : c ≡ d = cc in let z′ : y ≡ entry = cc in rw (
+    z,
+    z′,
+  ) refl
   write-step s e serve d entry q = clash (cc)
   write-step s e take d entry q = clash (cc)
   write-step s e stop d entry q = clash (cc)
@@ -154,7 +160,8 @@ module _ (r : Run) where
   pub read-begins : (b d : ℕ) → ReadBegins (r .S) (r .F) (r .steps) b d → event r b ≡ begins d Reading
   read-begins b d h =
       let a = h .answer in
-      read-event (r .S) (r .F) (world r b) (step r b) (event r b) (source-at b) d (h .step) (λ x e. clash (cc))
+      read-event (r .S) (r .F) (world r b) (step r b) (event r b) (source-at b) d (h .step) (λ x e. clash
+      (cc))
 
   pub write-begins : (b d : ℕ) (h : WriteBegins (r .S) (r .F) (r .steps) b d)
       → event r b ≡ begins d (ReadingForWrite (h .entry))
@@ -235,7 +242,13 @@ module _ (r : Run) where
         later = h .after;
         inList = lt;
         server = q .server;
-        step = step-of j d (record { server = q .server; message = q .message; rest = q .rest; event = q .event });
+        step = step-of j d (record {
+          server = q .server;
+          message = q .message;
+          rest = q .rest;
+          event = q
+              .event;
+        });
         to = 1;
         puts = of-puts (r .S) (r .F) (world r j) (event r j) d 1 (WriteInfo p)
             (server-of (r .S) 1 (le-refl _) (omega arith)) (h .puts);

@@ -32,7 +32,8 @@ use Rattle.register.specs.Steps.{Formats}
 use Rattle.register.proofs.Enabled.{Enabled}
 use Rattle.register.proofs.Outcomes.{choice, nextCounter, Grown, grown-phase}
 use Rattle.register.proofs.Outcomes.{Outcome, dropped, waits, shows, spends, sends, acks, ends}
-use Rattle.register.proofs.Frames.{startsAt, takesAt, ClientNext, same, starts, took, client-next, Puts}
+use Rattle.register.proofs.Frames.{startsAt, takesAt, ClientNext, same, starts, took, client-next}
+use Rattle.register.proofs.Frames.{Puts}
 
 module _ (S : Settings) (F : Formats) (w : World) (e : Event) (d : ℕ) where
   -- client d takes a message
@@ -55,7 +56,8 @@ module _ (S : Settings) (F : Formats) (w : World) (e : Event) (d : ℕ) where
         → ((k : ℕ) (m : Message) (ms : List Message) → e ≡ takes d k m ms → answerOf S w e ≡ Went)
         → ((m : Message) → Puts S F w e d m → ⊥) → Turn y
     opened : (ph : Phase) → e ≡ begins d ph → Enabled S F w (begins d ph) → y .phase ≡ ph → Turn y
-    showed : (p : Pair) → Decides p → w .clients d .phase ≡ Reading → y .phase ≡ Idle → answerOf S w e ≡ Read p
+    showed : (p : Pair) → Decides p → w .clients d .phase ≡ Reading → y .phase ≡ Idle
+        → answerOf S w e ≡ Read p
         → Turn y
     spent : (p : Pair) (entry : Entry) → Decides p → w .clients d .phase ≡ ReadingForWrite entry
         → y .phase ≡ Idle
@@ -68,7 +70,8 @@ module _ (S : Settings) (F : Formats) (w : World) (e : Event) (d : ℕ) where
         → enough (servers S) (S .f) (counted (withAck (w .clients d) (t .server) .acks) (servers S)) ≡ true
         → y .phase ≡ Idle → answerOf S w e ≡ Wrote (pairOf c d entry) → Turn y
 
-  answer-is : (k : ℕ) (m : Message) (ms : List Message) (o : Taken) → e ≡ takes d k m ms → o ≡ takenBy S w d k m
+  answer-is : (k : ℕ) (m : Message) (ms : List Message) (o : Taken) → e ≡ takes d k m ms
+      → o ≡ takenBy S w d k m
       → answerOf S w e ≡ o .answer
   unfolding answerOf
   answer-is k m ms o q h = rw q (ap (λ (x : Taken). x .answer) (sym h))
@@ -109,9 +112,11 @@ module _ (S : Settings) (F : Formats) (w : World) (e : Event) (d : ℕ) where
   outcome-turn t o h (shows y p g ph c) =
       showed p (record { by = t; grown = y; grows = g; chosen = c }) ph refl (answer-is _ _ _ _ (t .event) h)
   outcome-turn t o h (spends y p entry g ph c _) =
-      spent p entry (record { by = t; grown = y; grows = g; chosen = c }) ph refl (answer-is _ _ _ _ (t .event) h)
+      spent p entry (record { by = t; grown = y; grows = g; chosen = c }) ph refl (answer-is _ _ _ _ (t
+      .event) h)
   outcome-turn t o h (sends y p entry g ph c _) =
-      sent p entry (record { by = t; grown = y; grows = g; chosen = c }) ph refl (answer-is _ _ _ _ (t .event) h)
+      sent p entry (record { by = t; grown = y; grows = g; chosen = c }) ph refl (answer-is _ _ _ _ (t
+      .event) h)
       (puts-is _ _ _ _ _ (t .event) h (inr (inl refl)))
   outcome-turn t o h (acks entry c _ _ _) =
       rested refl (rw (t .event) refl) (λ k m ms q. answer-is _ _ _ _ (t .event) h) (no-sends t o h refl)

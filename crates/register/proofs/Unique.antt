@@ -97,7 +97,8 @@ module _ (r : Run) where
   phase-after n d p q = (
     _,
     ap (λ (x : Client). x .phase)
-        (client-after (r .S) (world r n) (event r n) d (q .server) (q .message) (q .rest) (q .event) ∙ q .put .after),
+        (client-after (r .S) (world r n) (event r n) d (q .server) (q .message) (q .rest) (q .event)
+        ∙ q .put .after),
   )
 
   -- a step that sends ends nothing
@@ -106,7 +107,8 @@ module _ (r : Run) where
       let q = puts-write (r .S) (r .F) (world r n) (event r n) d p h in
       go (phase-after n d p q .1) (q .put .phase) (turn-at r n d)
     where
-      go : {entry : Entry} {c : WriteCounter} {e : Entry} → world r (suc n) .clients d .phase ≡ Storing entry c
+      go : {entry : Entry} {c : WriteCounter} {e : Entry}
+          → world r (suc n) .clients d .phase ≡ Storing entry c
           → world r n .clients d .phase ≡ ReadingForWrite e
           → Turn (r .S) (r .F) (world r n) (event r n) d (world r (suc n) .clients d) → ⊥
       go y x (rested _ _ _ quiet) = quiet (WriteInfo p) h

@@ -56,7 +56,8 @@ module _ (S : Settings) (F : Formats) (steps : List Step) (H : Holds S F steps) 
     shows : (w a : ℕ) → PairOf S F steps p w → Earlier row a b → Shows b j w row
     shows w a q e =
         by-either (R .legal)
-        (λ l. let same = R .once b (e .two) 0 (e .second) (l .1) in let lt = e .before in absurd (omega arith))
+        (λ l. let same = R .once b (e .two) 0 (e .second) (l .1) in let lt = e .before in absurd (omega
+        arith))
         (λ l. let v = l .0 in
         let same : v ≡ w = q .only v (l .2 .client) (l .2 .at) (l .2 .sends) in
         record {
@@ -77,7 +78,14 @@ module _ (S : Settings) (F : Formats) (steps : List Step) (H : Holds S F steps) 
         by-test (eqb (before .one) (sh .place))
         (λ t. inl (sym (before .first .is) ∙ ap (λ (n : ℕ). getD row n 0) (eqb-true _ _ t) ∙ sh .write .is))
         (λ t. let ne : before .one ≢ sh .place = eqb-false _ _ t in
-        inr (record { one = before .one; two = sh .place; first = before .first; second = sh .write; before = omega arith }))
+        inr (record {
+          one = before .one;
+          two = sh .place;
+          first = before .first;
+          second = sh .write;
+          before =
+              omega arith;
+        }))
 
     -- of two members one does not stand both earlier and later
     not-both : (a c : ℕ) → Earlier row a c → Earlier row c a → ⊥

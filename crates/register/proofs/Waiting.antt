@@ -1,15 +1,22 @@
 -- What a reading client still waits for from an honest server.
 --
--- Either its GET_INFO is the last message on its channel to the server, and nothing of this read has come back
--- (`Asks`); or that channel is empty, the client is among the server's readers, its INFO is either on its way back or
--- noted, one of the two, and the server's present pair is in the client's set or on its way to it (`Hears`). So a
+-- Either its GET_INFO is the last message on its channel to the server, and nothing of this read has come
+-- back
+-- (`Asks`); or that channel is empty, the client is among the server's readers, its INFO is either on its way
+-- back or
+-- noted, one of the two, and the server's present pair is in the client's set or on its way to it (`Hears`).
+-- So a
 -- client that waits with nothing on its channels has all it needs (`Quiet`).
 --
--- Why: GET_INFO makes the client a reader and sends it INFO with the present pair; from then on a newer pair is
--- forwarded to it. A set keeps its highest pair (`PairSets`), and nothing from the server is higher than its present
+-- Why: GET_INFO makes the client a reader and sends it INFO with the present pair; from then on a newer pair
+-- is
+-- forwarded to it. A set keeps its highest pair (`PairSets`), and nothing from the server is higher than its
+-- present
 -- pair (`Low`).
--- Here are the changes at one client and one server, of values alone, by a start (`asks-start`) and by the server: it
--- takes a message of this client (`asks-served`) or of another (`waits-other`). `WaitingTakes` has those by the
+-- Here are the changes at one client and one server, of values alone, by a start (`asks-start`) and by the
+-- server: it
+-- takes a message of this client (`asks-served`) or of another (`waits-other`). `WaitingTakes` has those by
+-- the
 -- client, `Live` all along a run.
 -- Assumes nothing.
 use mathlib.Core.Path.{_≡_, refl, sym, _∙_}
@@ -33,7 +40,8 @@ use Rattle.register.specs.declared.Phase.{Phase}
 use Rattle.register.specs.Server.{Server, stored, serverAfter}
 use Rattle.register.specs.Client.{Client, nextRead, started}
 use Rattle.register.proofs.Sends.{direct}
-use Rattle.register.proofs.Infos.{infos, number, infos-cons, infos-append, info-one, infos-none, sends-none}
+use Rattle.register.proofs.Infos.{infos, number, infos-cons, infos-append, info-one, infos-none}
+use Rattle.register.proofs.Infos.{sends-none}
 use Rattle.register.proofs.Infos.{sends-info}
 
 -- the channels up and down between the client x, of number d, and the server s, of number k
@@ -102,7 +110,8 @@ first-info t down p h =
     let e = infos-none t [] (λ q m. m) in
     omega arith
 
-pub asks-served : (up down : List Message) (x : Client) (s : Server) (d k : ℕ) (m : Message) (ms : List Message)
+pub asks-served : (up down : List Message) (x : Client) (s : Server) (d k : ℕ) (m : Message) (ms : List
+    Message)
     → up ≡ m ∷ ms → Asks up down x k → Waits ms (down ++ direct s d m d) x (serverAfter s d m) d k
 asks-served up down x s d k m ms q a = go (a .before) (sym q ∙ a .channel) (a .old)
   where
@@ -115,7 +124,8 @@ asks-served up down x s d k m ms q a = go (a .before) (sym q ∙ a .channel) (a 
         inr (rw (is-get, no-more) (record {
           channel = refl;
           reader = asked-reader s d (x .reads);
-          once = rw (sends-info s d (x .reads), a .unnoted) (first-info (x .reads) down (s .pair) (a .silent));
+          once = rw (sends-info s d (x .reads), a .unnoted) (first-info (x .reads) down (s .pair) (a
+              .silent));
           told =
               rw (sends-info s d (x .reads), asked-pair s d (x .reads))
               (inr (inl (member-right (Info (x .reads) (s .pair)) down _ (inl refl))));
@@ -123,7 +133,8 @@ asks-served up down x s d k m ms q a = go (a .before) (sym q ∙ a .channel) (a 
     go (b ∷ bs) e old =
         let is-first : m ≡ b = cc in
         let rest : ms ≡ bs ++ GetInfo (x .reads) ∷ [] = cc in
-        let z = sends-none s d m d (x .reads) (λ g _. let l = old (x .reads) (inl (sym g ∙ is-first)) in omega arith) in
+        let z = sends-none s d m d (x .reads) (λ g _. let l = old (x .reads) (inl (sym g
+        ∙ is-first)) in omega arith) in
         let silent = a .silent in
         inl (record {
           before = bs;
@@ -144,12 +155,14 @@ other-reader s c d (WriteInfo p) h = refl
 other-reader s c d (Fwd p) h = refl
 other-reader s c d (WriteAck a) h = refl
 
-forwarded-first : (s : Server) (c d : ℕ) (p : Pair) → s .readers d ≡ true → Member (Fwd p) (direct s c (WriteInfo p) d)
+forwarded-first : (s : Server) (c d : ℕ) (p : Pair) → s .readers d ≡ true
+    → Member (Fwd p) (direct s c (WriteInfo p) d)
 unfolding direct
 forwarded-first s c d p r = rw r (inl refl)
 
 other-told : (s : Server) (c d : ℕ) (m : Message) (t : ReadNumber) (down : List Message) (set : List Pair)
-    → s .readers d ≡ true → Told (s .pair) t down set → Told (serverAfter s c m .pair) t (down ++ direct s c m d) set
+    → s .readers d ≡ true → Told (s .pair) t down set → Told (serverAfter s c m .pair) t (down
+    ++ direct s c m d) set
 unfolding serverAfter stored
 other-told s c d (GetInfo u) t down set r h = told-more (s .pair) t down _ set h
 other-told s c d (Info u p) t down set r h = told-more (s .pair) t down _ set h

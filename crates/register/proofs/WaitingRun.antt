@@ -1,8 +1,11 @@
 -- Along a run, a working client that reads waits for each honest server as `Waiting` says.
 --
--- Why: the setup reads nothing, and `Live` has every event. What it asks for: no message of a later read is on the
--- channels when a client starts (`Fresh`); and nothing from an honest server, on a channel or in a set, is above its
--- present pair, since its timestamp is not (`Low`), both are genuine (`Genuine`), and one timestamp has one pair
+-- Why: the setup reads nothing, and `Live` has every event. What it asks for: no message of a later read is
+-- on the
+-- channels when a client starts (`Fresh`); and nothing from an honest server, on a channel or in a set, is
+-- above its
+-- present pair, since its timestamp is not (`Low`), both are genuine (`Genuine`), and one timestamp has one
+-- pair
 -- (`OnePair`).
 -- Assumes nothing.
 use mathlib.Core.Path.{_≡_, refl}
@@ -16,7 +19,8 @@ use Rattle.message.specs.declared.Pair.{Pair}
 use Rattle.message.specs.Pair.{stamp}
 use Rattle.register.specs.Settings.{isClient, isHonest}
 use Rattle.register.specs.Client.{isReading}
-use Rattle.register.specs.World.{Event, refuses, begins, serves, takes, stops, lies, nextClients, nextStopped}
+use Rattle.register.specs.World.{Event, refuses, begins, serves, takes, stops, lies, nextClients}
+use Rattle.register.specs.World.{nextStopped}
 use Rattle.register.specs.World.{apply}
 use Rattle.register.specs.History.{worldAt}
 use Rattle.register.proofs.Bounds.{client-small}
@@ -28,7 +32,8 @@ use Rattle.register.proofs.Genuine.{Good, Known, genuine}
 use Rattle.register.proofs.Fresh.{fresh}
 use Rattle.register.proofs.OnePair.{not-above}
 use Rattle.register.proofs.WaitingTakes.{Fits, Carries}
-use Rattle.register.proofs.Live.{WaitsAt, not-reading, live-refuses, live-begins, live-serves, live-takes}
+use Rattle.register.proofs.Live.{WaitsAt, not-reading, live-refuses, live-begins, live-serves}
+use Rattle.register.proofs.Live.{live-takes}
 use Rattle.register.proofs.Live.{live-stops, live-lies}
 
 module _ (r : Run) where
@@ -51,15 +56,19 @@ module _ (r : Run) where
       let present = genuine r n .server k in
       record {
         ordered = well-formed (r .S) (r .F) (r .accepted) (r .lawful) (r .steps) n .client d .sets k .ordered;
-        low = not-above r n p _ (carried-known n d k honest m h p c) present (carried-low n d k honest m h p c);
+        low = not-above r n p _ (carried-known n d k honest m h p c) present (carried-low n d k honest m h p
+            c);
         top =
-            λ z mz. not-above r n z _ (genuine r n .sets d k honest z mz) present (low r n .clients d k honest .sets z mz);
+            λ z mz. not-above r n z _ (genuine r n .sets d k honest z mz) present (low r n .clients d k
+            honest .sets z mz);
       }
 
   waits-next : (n d k : ℕ) → isClient (r .S) d ≡ true → isHonest (r .S) k ≡ true
-      → (world r n .stopped d ≡ false → isReading (world r n .clients d .phase) ≡ true → WaitsAt (world r n) d k)
+      → (world r n .stopped d ≡ false → isReading (world r n .clients d .phase) ≡ true
+      → WaitsAt (world r n) d k)
       → (e : Event) → Enabled (r .S) (r .F) (world r n) e
-      → apply (r .S) (world r n) e .stopped d ≡ false → isReading (apply (r .S) (world r n) e .clients d .phase) ≡ true
+      → apply (r .S) (world r n) e .stopped d ≡ false
+      → isReading (apply (r .S) (world r n) e .clients d .phase) ≡ true
       → WaitsAt (apply (r .S) (world r n) e) d k
   unfolding apply nextClients nextStopped
   waits-next n d k client honest old (refuses why) en works reading =
@@ -67,7 +76,8 @@ module _ (r : Run) where
       live-refuses (r .S) (world r n) d k (range .0) (range .1) honest old why works reading
   waits-next n d k client honest old (begins c ph) en works reading =
       let range = client-small (r .S) (r .accepted) d client in
-      live-begins (r .S) (world r n) d k (range .0) (range .1) honest old c ph (fresh r n .asked d k) (fresh r n .told d k honest)
+      live-begins (r .S) (world r n) d k (range .0) (range .1) honest old c ph (fresh r n .asked d k) (fresh
+      r n .told d k honest)
       works reading
   waits-next n d k client honest old (serves j c m ms) en works reading =
       let range = client-small (r .S) (r .accepted) d client in
@@ -83,10 +93,12 @@ module _ (r : Run) where
       let range = client-small (r .S) (r .accepted) d client in
       live-lies (r .S) (world r n) d k (range .0) (range .1) honest old j c m (en .faulty) works reading
 
-  pub waiting : (n d k : ℕ) → isClient (r .S) d ≡ true → isHonest (r .S) k ≡ true → world r n .stopped d ≡ false
+  pub waiting : (n d k : ℕ) → isClient (r .S) d ≡ true → isHonest (r .S) k ≡ true
+      → world r n .stopped d ≡ false
       → isReading (world r n .clients d .phase) ≡ true → WaitsAt (world r n) d k
   unfolding worldAt
   waiting zero d k client honest works reading = absurd (not-reading _ reading (inl refl))
   waiting (suc n) d k client honest works reading =
-      waits-next n d k client honest (λ works′ reading′. waiting n d k client honest works′ reading′) (event r n)
+      waits-next n d k client honest (λ works′ reading′. waiting n d k client honest works′ reading′) (event
+      r n)
       (enabled-at r n) works reading

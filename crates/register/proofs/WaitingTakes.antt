@@ -1,9 +1,13 @@
--- What a reading client waits for, when the client takes a message (`Waiting` says what that is, and has the server's
+-- What a reading client waits for, when the client takes a message (`Waiting` says what that is, and has the
+-- server's
 -- part).
 --
--- Why: INFO of this read moves from the channel to the noted timestamps; a pair moves from the channel to the set;
--- and a set keeps its highest pair, which is the server's present one, since nothing from the server is higher.
--- In order: a message of this server that is dropped (`waits-dropped`) or taken (`waits-grown`); one of another
+-- Why: INFO of this read moves from the channel to the noted timestamps; a pair moves from the channel to the
+-- set;
+-- and a set keeps its highest pair, which is the server's present one, since nothing from the server is
+-- higher.
+-- In order: a message of this server that is dropped (`waits-dropped`) or taken (`waits-grown`); one of
+-- another
 -- server (`waits-elsewhere`).
 -- Assumes nothing.
 use mathlib.Core.Path.{_≡_, refl, sym}
@@ -33,11 +37,20 @@ use Rattle.register.proofs.Waiting.{Told, Waits}
 -- ---- the client takes a message of this server
 
 -- the message is dropped: it was no INFO of this read that is still to be noted, and no FWD
-pub waits-dropped : (up down : List Message) (x : Client) (s : Server) (d k : ℕ) (m : Message) (ms : List Message)
-    → down ≡ m ∷ ms → isReading (x .phase) ≡ true → Untaken x k m → Waits up down x s d k → Waits up ms x s d k
+pub waits-dropped : (up down : List Message) (x : Client) (s : Server) (d k : ℕ) (m : Message) (ms : List
+    Message)
+    → down ≡ m ∷ ms → isReading (x .phase) ≡ true → Untaken x k m → Waits up down x s d k
+    → Waits up ms x s d k
 waits-dropped up down x s d k m ms q r un (inl a) =
     let h = rw (q, infos-cons (x .reads) m ms) at (a .silent) in
-    inl (record { before = a .before; channel = a .channel; old = a .old; silent = omega arith; unnoted = a .unnoted })
+    inl (record {
+      before = a .before;
+      channel = a .channel;
+      old = a .old;
+      silent = omega arith;
+      unnoted = a
+          .unnoted;
+    })
 waits-dropped up down x s d k m ms q r un (inr a) =
     let h = rw (q, infos-cons (x .reads) m ms) at (a .once) in
     let z = info-none (x .reads) m no-info in
@@ -69,7 +82,8 @@ pub record Fits (x : Client) (s : Server) (k : ℕ) (p : Pair) : Type 0 where
 abbrev pub Carries : Message → Pair → Type 0
 Carries m p = (m ≡ Fwd p) ⊎ ((t : ReadNumber) × (m ≡ Info t p))
 
-fits-keeps : (x : Client) (s : Server) (k : ℕ) (p : Pair) → Fits x s k p → (s .pair ≡ p) ⊎ Member (s .pair) (x .sets k)
+fits-keeps : (x : Client) (s : Server) (k : ℕ) (p : Pair) → Fits x s k p
+    → (s .pair ≡ p) ⊎ Member (s .pair) (x .sets k)
     → Member (s .pair) (update (x .sets) k (add setLimit p (x .sets k)) k)
 fits-keeps x s k p f h =
     rw update-same (add-keeps setLimit p (x .sets k) (s .pair) (omega arith) (f .ordered) h (f .low) (f .top))
@@ -79,7 +93,8 @@ unfolding number
 number-some g k u = rw update-same refl
 
 -- the message is taken
-module _ (up down : List Message) (x : Client) (s : Server) (d k : ℕ) (m : Message) (ms : List Message) (q : down ≡ m ∷ ms)
+module _ (up down : List Message) (x : Client) (s : Server) (d k : ℕ) (m : Message) (ms : List Message) (q :
+    down ≡ m ∷ ms)
     (fits : (p : Pair) → Carries m p → Fits x s k p) where
   -- the present pair was in the set, or is the one that is taken, or is still on its way
   told-next : (p : Pair) → Carries m p → Told (s .pair) (x .reads) down (x .sets k)
@@ -117,7 +132,14 @@ module _ (up down : List Message) (x : Client) (s : Server) (d k : ℕ) (m : Mes
       })
   waits-grown y (added p e) (inl a) =
       let h = rw (q, infos-cons (x .reads) m ms) at (a .silent) in
-      inl (record { before = a .before; channel = a .channel; old = a .old; silent = omega arith; unnoted = a .unnoted })
+      inl (record {
+        before = a .before;
+        channel = a .channel;
+        old = a .old;
+        silent = omega arith;
+        unnoted = a
+            .unnoted;
+      })
   waits-grown y (added p e) (inr a) =
       let h = rw (q, infos-cons (x .reads) m ms) at (a .once) in
       let i = info-none (x .reads) m (λ p′ e′. clash (cc)) in
@@ -130,7 +152,8 @@ module _ (up down : List Message) (x : Client) (s : Server) (d k : ℕ) (m : Mes
 
 -- ---- the client takes a message of another server
 
-pub waits-elsewhere : (up down : List Message) (x : Client) (s : Server) (d j k : ℕ) (m : Message) (y : Client)
+pub waits-elsewhere : (up down : List Message) (x : Client) (s : Server) (d j k : ℕ) (m : Message) (y :
+    Client)
     → Grown x j m y → j ≢ k → Waits up down x s d k → Waits up down y s d k
 unfolding withInfo withPair
 waits-elsewhere up down x s d j k m y (noted t p e _ _) ne (inl a) =
@@ -149,7 +172,14 @@ waits-elsewhere up down x s d j k m y (noted t p e _ _) ne (inr a) =
       told = rw (update-other (x .sets) j k (add setLimit p (x .sets j)) ne) (a .told);
     })
 waits-elsewhere up down x s d j k m y (added p e) ne (inl a) =
-    inl (record { before = a .before; channel = a .channel; old = a .old; silent = a .silent; unnoted = a .unnoted })
+    inl (record {
+      before = a .before;
+      channel = a .channel;
+      old = a .old;
+      silent = a .silent;
+      unnoted = a
+          .unnoted;
+    })
 waits-elsewhere up down x s d j k m y (added p e) ne (inr a) =
     inr (record {
       channel = a .channel;

@@ -53,7 +53,8 @@ module _ (r : Run) where
       let inside = y .ends .inList in
       by-either (read-status r a d (read-begins r a d (x .begins)) b lt) (λ o. let h = o .phase in clash (cc))
       (λ o. let before = o .before in
-      x .next (o .at) (o .after) (omega arith) (o .pair) (reads-out r (o .at) d (o .pair) (omega arith) (o .reads)))
+      x .next (o .at) (o .after) (omega arith) (o .pair) (reads-out r (o .at) d (o .pair) (omega arith) (o
+      .reads)))
 
   one-write : (j d a b : ℕ) → WriteEnds (r .S) (r .F) (r .steps) a d j
       → WriteEnds (r .S) (r .F) (r .steps) b d j → a < b → ⊥
@@ -81,7 +82,8 @@ module _ (r : Run) where
       record {
         begin = o .at;
         ends = ends;
-        only = λ b x. same-number b (o .at) (one-read j d p b (o .at) x ends) (one-read j d p (o .at) b ends x);
+        only = λ b x. same-number b (o .at) (one-read j d p b (o .at) x ends) (one-read j d p (o .at) b ends
+            x);
       }
 
   pub write-answered : (j d : ℕ) → AnswersWrite (r .S) (r .F) (r .steps) j d → EndsWrite j d

@@ -1,7 +1,9 @@
 -- Well-formed channels stay well formed at every event.
 --
--- Why: what an event puts on a channel was given room by its checks and is of the right kind; what is dropped changes
--- nothing; what is taken off or emptied leaves fewer. A message goes only to an honest server or a working client, so
+-- Why: what an event puts on a channel was given room by its checks and is of the right kind; what is dropped
+-- changes
+-- nothing; what is taken off or emptied leaves fewer. A message goes only to an honest server or a working
+-- client, so
 -- a channel that is unused or drops stays empty.
 -- In order: lists of messages; channels to servers; channels to clients.
 -- Assumes nothing.
@@ -27,7 +29,8 @@ use Rattle.register.specs.declared.Phase.the-variants.{Idle, Reading, Re
 use Rattle.register.specs.Settings.{Settings, Accepted, isServer, isClient, isHonest}
 use Rattle.register.specs.Server.{Sent, serverSends, sentTo}
 use Rattle.register.specs.Client.{nextRead, highest}
-use Rattle.register.specs.World.{World, Event, refuses, begins, serves, takes, stops, lies, takenBy, putsUp}
+use Rattle.register.specs.World.{World, Event, refuses, begins, serves, takes, stops, lies, takenBy}
+use Rattle.register.specs.World.{putsUp}
 use Rattle.register.specs.World.{putsDown, leavesUp, leavesDown, nextUp, nextDown, nextStopped}
 use Rattle.register.specs.Steps.{Formats, slots, hasRoom, isReply, roomUp}
 use Rattle.register.proofs.Bounds.{client-small, honest-server, honest-of}
@@ -42,7 +45,8 @@ use Rattle.register.proofs.WellClient.{WellTaken, well-takes}
 -- ---- lists of messages
 
 module _ (Kind : Message → Type 0) where
-  well-more : (s t : List Message) → WellChannel Kind s → length s + length t ≤ slots → ((m : Message) → Member m t → Kind m)
+  well-more : (s t : List Message) → WellChannel Kind s → length s + length t ≤ slots → ((m : Message)
+      → Member m t → Kind m)
       → WellChannel Kind (s ++ t)
   well-more s t well room new =
       record {
@@ -50,7 +54,8 @@ module _ (Kind : Message → Type 0) where
         kinds = λ m h. by-either (member-cases m s t h) (λ a. well .kinds m a) (λ a. new m a);
       }
 
-  well-rest : (l : List Message) (m : Message) (ms : List Message) → l ≡ m ∷ ms → WellChannel Kind l → WellChannel Kind ms
+  well-rest : (l : List Message) (m : Message) (ms : List Message) → l ≡ m ∷ ms → WellChannel Kind l
+      → WellChannel Kind ms
   well-rest l m ms e well =
       record {
         few = let h = well .few in let g : length l ≡ length (m ∷ ms) = ap length e in omega arith;
@@ -102,7 +107,12 @@ module _ (S : Settings) (F : Formats) (w : World) (well : WellFormed S F w) wher
     pub drops : stopped ≡ true → l ≡ []
 
   down-now : (d k : ℕ) → WellDown d k (w .stopped d) (w .down d k)
-  down-now d k = record { channel = well .down d k; unused = well .downUnused d k; drops = well .downDrops d k }
+  down-now d k = record {
+    channel = well .down d k;
+    unused = well .downUnused d k;
+    drops = well .downDrops d
+        k;
+  }
 
   -- a server puts messages on its channel to client d: one that is a client, and works
   down-put : (d k : ℕ) (t : List Message) → isClient S d ≡ true → isServer S k ≡ true → w .stopped d ≡ false
@@ -116,7 +126,8 @@ module _ (S : Settings) (F : Formats) (w : World) (well : WellFormed S F w) wher
       }
 
   -- server k takes a message of client c, and answers
-  down-serves : (k c : ℕ) (m : Message) (ms : List Message) → Enabled S F w (serves k c m ms) → (d : ℕ) → w .stopped d ≡ false
+  down-serves : (k c : ℕ) (m : Message) (ms : List Message) → Enabled S F w (serves k c m ms) → (d : ℕ)
+      → w .stopped d ≡ false
       → WellDown d k (w .stopped d) (w .down d k ++ sentTo d (serverSends (w .servers k) c m))
   down-serves k c m ms en d works =
       by-test (isClient S d)
@@ -156,7 +167,8 @@ reply-kind (WriteInfo p) r f = absurd (true-or-false false r refl)
 reply-kind (Fwd p) r f = f
 reply-kind (WriteAck c) r f = f
 
-module _ (S : Settings) (F : Formats) (accepted : Accepted S) (lawful : Lawful F) (w : World) (well : WellFormed S F w) where
+module _ (S : Settings) (F : Formats) (accepted : Accepted S) (lawful : Lawful F) (w : World) (well :
+    WellFormed S F w) where
   tag-only : (d : ℕ) → w .clients d .reads .0 < highest
       → (m : Message) → Member m (GetInfo (nextRead (w .clients d)) ∷ []) → FromClient m
   unfolding nextRead
@@ -174,17 +186,20 @@ module _ (S : Settings) (F : Formats) (accepted : Accepted S) (lawful : Lawful F
   unfolding nextUp leavesUp putsUp
   up-next (refuses r) en d k = rw (nothing-put (S .faulty k) (w .up d k)) (up-now S F w well d k)
   up-next (begins c ph) en d k =
-      up-put S F w well c (places ph) _ (en .client) (en .room) (starts-phase F ph (en .phase)) (tag-only c (en .below)) d k
+      up-put S F w well c (places ph) _ (en .client) (en .room) (starts-phase F ph (en .phase)) (tag-only c
+      (en .below)) d k
   up-next (serves j c m ms) en d k =
       rw (nothing-put (S .faulty k) (cond (eqb j k && eqb c d) ms (w .up d k)))
-      (by-test (eqb j k && eqb c d) (λ e. rw e (popped (both (eqb j k) _ e))) (λ e. rw e (up-now S F w well d k)))
+      (by-test (eqb j k && eqb c d) (λ e. rw e (popped (both (eqb j k) _ e))) (λ e. rw e (up-now S F w well d
+      k)))
     where
       popped : (eqb j k ≡ true) × (eqb c d ≡ true) → WellUp S F w well d k ms
       popped e =
           let server = eqb-true j k (e .0) in
           let client = eqb-true c d (e .1) in
           record {
-            channel = well-rest FromClient (w .up d k) m ms (rw (server, client) at (en .channel)) (well .up d k);
+            channel = well-rest FromClient (w .up d k) m ms (rw (server, client) at (en .channel)) (well .up
+                d k);
             unused =
                 λ h. absurd (true-or-false _
                 (both-of (isClient S d) _ (rw client at (en .client)) (rw server at (en .honest))) h);
@@ -194,12 +209,14 @@ module _ (S : Settings) (F : Formats) (accepted : Accepted S) (lawful : Lawful F
   up-next (stops c) en d k = rw (nothing-put (S .faulty k) (w .up d k)) (up-now S F w well d k)
   up-next (lies j c m) en d k = rw (nothing-put (S .faulty k) (w .up d k)) (up-now S F w well d k)
 
-  pub down-next : (e : Event) → Enabled S F w e → (d k : ℕ) → WellDown S F w well d k (nextStopped S w e d) (nextDown S w e d k)
+  pub down-next : (e : Event) → Enabled S F w e → (d k : ℕ)
+      → WellDown S F w well d k (nextStopped S w e d) (nextDown S w e d k)
   unfolding nextDown leavesDown putsDown nextStopped hasRoom
   down-next (refuses r) en d k = rw (nothing-put (w .stopped d) (w .down d k)) (down-now S F w well d k)
   down-next (begins c ph) en d k = rw (nothing-put (w .stopped d) (w .down d k)) (down-now S F w well d k)
   down-next (serves j c m ms) en d k =
-      put-or-dropped (WellDown S F w well d k (w .stopped d)) (w .stopped d) (w .down d k) _ (down-now S F w well d k)
+      put-or-dropped (WellDown S F w well d k (w .stopped d)) (w .stopped d) (w .down d k) _ (down-now S F w
+      well d k)
       (λ works. by-test (eqb j k)
       (λ e. rw e (subst
       (λ z. WellDown S F w well d z (w .stopped d) (w .down d z ++ sentTo d (serverSends (w .servers j) c m)))
@@ -207,14 +224,16 @@ module _ (S : Settings) (F : Formats) (accepted : Accepted S) (lawful : Lawful F
       (λ e. rw (e, append-nil (w .down d k)) (down-now S F w well d k)))
   down-next (takes c j m ms) en d k =
       rw (nothing-put (w .stopped d) (cond (eqb j k && eqb c d) ms (w .down d k)))
-      (by-test (eqb j k && eqb c d) (λ e. rw e (popped (both (eqb j k) _ e))) (λ e. rw e (down-now S F w well d k)))
+      (by-test (eqb j k && eqb c d) (λ e. rw e (popped (both (eqb j k) _ e))) (λ e. rw e (down-now S F w well
+      d k)))
     where
       popped : (eqb j k ≡ true) × (eqb c d ≡ true) → WellDown S F w well d k (w .stopped d) ms
       popped e =
           let server = eqb-true j k (e .0) in
           let client = eqb-true c d (e .1) in
           record {
-            channel = well-rest FromServer (w .down d k) m ms (rw (server, client) at (en .channel)) (well .down d k);
+            channel = well-rest FromServer (w .down d k) m ms (rw (server, client) at (en .channel)) (well
+                .down d k);
             unused =
                 λ h. absurd (true-or-false _
                 (both-of (isClient S d) _ (rw client at (en .client)) (rw server at (en .server))) h);
@@ -226,7 +245,8 @@ module _ (S : Settings) (F : Formats) (accepted : Accepted S) (lawful : Lawful F
       (λ e. rw e (record { channel = well-empty FromServer; unused = λ h. refl; drops = λ h. refl }))
       (λ e. rw (e, update-other (w .stopped) c d true (eqb-false c d e)) (down-now S F w well d k)))
   down-next (lies j c m) en d k =
-      put-or-dropped (WellDown S F w well d k (w .stopped d)) (w .stopped d) (w .down d k) _ (down-now S F w well d k)
+      put-or-dropped (WellDown S F w well d k (w .stopped d)) (w .stopped d) (w .down d k) _ (down-now S F w
+      well d k)
       (λ works. by-test (eqb j k && eqb c d) (λ e. rw e (lied works (both (eqb j k) _ e)))
       (λ e. rw (e, append-nil (w .down d k)) (down-now S F w well d k)))
     where

@@ -1,10 +1,14 @@
--- A well-formed client stays well formed when it takes a message of a server, and what it puts on channels is well
+-- A well-formed client stays well formed when it takes a message of a server, and what it puts on channels is
+-- well
 -- formed.
 --
--- Why: a set keeps its order and limit (`PairSets`); a pair on a channel fits its width, and so does its timestamp;
--- the chosen pair is in a set, so the counter above it fits unless it is the highest, and then the write ends as
+-- Why: a set keeps its order and limit (`PairSets`); a pair on a channel fits its width, and so does its
+-- timestamp;
+-- the chosen pair is in a set, so the counter above it fits unless it is the highest, and then the write ends
+-- as
 -- SPENT. At every end of a phase all is empty again.
--- In order: a client with nothing of any server; the three changes by a taken message; what follows from the choice
+-- In order: a client with nothing of any server; the three changes by a taken message; what follows from the
+-- choice
 -- and from an acknowledgement; one message; a start.
 -- Assumes nothing.
 use mathlib.Core.Path.{_≡_, refl}
@@ -33,7 +37,8 @@ use Rattle.register.specs.declared.Phase.the-variants.{Idle, Reading, Re
 use Rattle.register.specs.Thresholds.{counted, enough}
 use Rattle.register.specs.Settings.{Settings, servers, isServer}
 use Rattle.register.specs.PairSet.{add}
-use Rattle.register.specs.Client.{Client, cleared, highest, setLimit, isReading, isStoring, nextRead, started}
+use Rattle.register.specs.Client.{Client, cleared, highest, setLimit, isReading, isStoring, nextRead}
+use Rattle.register.specs.Client.{started}
 use Rattle.register.specs.Client.{withPair, withInfo, withAck, Taken, goesOn, chosen, concluded, looked}
 use Rattle.register.specs.Client.{acknowledged, takesInfo, clientTakes}
 use Rattle.register.specs.Steps.{Formats}
@@ -69,10 +74,13 @@ set-added l p well f =
       pairs = λ q m. by-either (add-from setLimit p l q m) (λ e. rw e f) (λ h. well .pairs q h);
     }
 
-module _ (S : Settings) (F : Formats) (x : Client) (well : WellClient S F x) (k : ℕ) (server : isServer S k ≡ true) where
-  sets-added : (p : Pair) → p .0 < 2 ^ 64 → (j : ℕ) → WellSet (update (x .sets) k (add setLimit p (x .sets k)) j)
+module _ (S : Settings) (F : Formats) (x : Client) (well : WellClient S F x) (k : ℕ) (server : isServer S k ≡
+    true) where
+  sets-added : (p : Pair) → p .0 < 2 ^ 64 → (j : ℕ)
+      → WellSet (update (x .sets) k (add setLimit p (x .sets k)) j)
   sets-added p f j =
-      update-at WellSet (x .sets) k j (add setLimit p (x .sets k)) (λ same. set-added (x .sets k) p (well .sets k) f)
+      update-at WellSet (x .sets) k j (add setLimit p (x .sets k)) (λ same. set-added (x .sets k) p (well
+      .sets k) f)
       (λ other. well .sets j)
 
   -- what changes at server k is used while the client reads
@@ -81,7 +89,8 @@ module _ (S : Settings) (F : Formats) (x : Client) (well : WellClient S F x) (k 
       → (j : ℕ) → isServer S j && isReading (x .phase) ≡ false → update f k a j ≡ z
   used z f a r old j h =
       update-at (λ b. b ≡ z) f k j a
-      (λ same. absurd (true-or-false (isServer S j && isReading (x .phase)) (rw (← same, server, r) refl) h)) (λ other. old j h)
+      (λ same. absurd (true-or-false (isServer S j && isReading (x .phase)) (rw (← same, server, r) refl) h))
+      (λ other. old j h)
 
   well-pair : (p : Pair) → p .0 < 2 ^ 64 → isReading (x .phase) ≡ true → WellClient S F (withPair x k p)
   unfolding withPair
@@ -125,7 +134,8 @@ module _ (S : Settings) (F : Formats) (x : Client) (well : WellClient S F x) (k 
         setsUnused = well .setsUnused;
         acksUnused =
             λ j h. update-at (λ b. b ≡ false) (x .acks) k j true
-            (λ same. absurd (true-or-false (isServer S j) (rw (← same) server) h)) (λ other. well .acksUnused j h);
+            (λ same. absurd (true-or-false (isServer S j) (rw (← same) server) h)) (λ other. well .acksUnused
+            j h);
         acksIdle = λ h j. absurd (h e c ph);
       }
 
@@ -149,7 +159,8 @@ module _ (S : Settings) (F : Formats) (lawful : Lawful F) (d : ℕ) (small : d <
   writes e c l h m (inl q) = rw q tt
   writes e c l h m (inr (inl q)) = rw q (pair-fits c d e small (lawful .small e l) h)
 
-  well-concluded : (x : Client) → WellClient S F x → (ph : Phase) → WellPhase F ph → (p : Pair) → p .0 < 2 ^ 64
+  well-concluded : (x : Client) → WellClient S F x → (ph : Phase) → WellPhase F ph → (p : Pair)
+      → p .0 < 2 ^ 64
       → WellTaken S F (concluded (servers S) (S .f) d x ph p)
   unfolding concluded
   well-concluded x well Idle good p f = well-goes-on x well
@@ -162,7 +173,8 @@ module _ (S : Settings) (F : Formats) (lawful : Lawful F) (d : ℕ) (small : d <
       let other = eqb-false (counter p .0) highest b in
       let next : counter p .0 + 1 < 2 ^ 20 = omega arith in
       rw b (record {
-        client = well-cleared S F (Storing e (record { 0 = counter p .0 + 1 })) (x .reads) (good, next) (well .reads);
+        client = well-cleared S F (Storing e (record { 0 = counter p .0 + 1 })) (x .reads) (good, next) (well
+            .reads);
         sends = writes e (record { 0 = counter p .0 + 1 }) good next;
       }))
   well-concluded x well (Storing e c) good p f = well-goes-on x well
@@ -173,17 +185,23 @@ module _ (S : Settings) (F : Formats) (lawful : Lawful F) (d : ℕ) (small : d <
   well-looked x well =
       by-option (chosen (servers S) (S .f) d x) (λ e. rw e (well-goes-on x well))
       (λ p e. let held = chosen-some (servers S) (S .f) x d p e .held in
-      rw e (well-concluded x well (x .phase) (well .phase) p (well .sets (held .server) .pairs p (held .member))))
+      rw e (well-concluded x well (x .phase) (well .phase) p (well .sets (held .server) .pairs p (held
+      .member))))
 
   well-acknowledged : (x : Client) → WellClient S F x → (c : WriteCounter)
       → WellTaken S F (acknowledged (servers S) (S .f) d x c)
   unfolding acknowledged
   well-acknowledged x well c =
       by-test (enough (servers S) (S .f) (counted (x .acks) (servers S)))
-      (λ e. rw e (record { client = well-cleared S F Idle (x .reads) tt (well .reads); sends = λ m h. absurd h }))
+      (λ e. rw e (record {
+        client = well-cleared S F Idle (x .reads) tt (well .reads);
+        sends = λ m h. absurd
+            h;
+      }))
       (λ e. rw e (well-goes-on x well))
 
-  storing-is : (ph : Phase) (c : WriteCounter) → isStoring ph c ≡ true → (e : Entry) × (v : WriteCounter) × (ph ≡ Storing e v)
+  storing-is : (ph : Phase) (c : WriteCounter) → isStoring ph c ≡ true → (e : Entry) × (v : WriteCounter)
+      × (ph ≡ Storing e v)
   unfolding isStoring
   storing-is Idle c h = absurd (true-or-false false h refl)
   storing-is Reading c h = absurd (true-or-false false h refl)
@@ -191,15 +209,18 @@ module _ (S : Settings) (F : Formats) (lawful : Lawful F) (d : ℕ) (small : d <
   storing-is (Storing e v) c h = (e, v, refl)
 
   -- one message of server k
-  pub well-takes : (x : Client) → WellClient S F x → (k : ℕ) → isServer S k ≡ true → (m : Message) → FromServer m
+  pub well-takes : (x : Client) → WellClient S F x → (k : ℕ) → isServer S k ≡ true → (m : Message)
+      → FromServer m
       → WellTaken S F (clientTakes (servers S) (S .f) d x k m)
   unfolding clientTakes takesInfo
   well-takes x well k server (Info t p) f =
       by-test (takesInfo (servers S) (S .f) d x k t)
       (λ e. let reading = both _ _ (both _ _ e .0) .0 in
-      rw e (well-looked (withInfo x k p) (well-info S F x well k server p (f .1) reading))) (λ e. rw e (well-goes-on x well))
+      rw e (well-looked (withInfo x k p) (well-info S F x well k server p (f .1) reading))) (λ e. rw e
+      (well-goes-on x well))
   well-takes x well k server (Fwd p) f =
-      by-test (isReading (x .phase)) (λ e. rw e (well-looked (withPair x k p) (well-pair S F x well k server p f e)))
+      by-test (isReading (x .phase)) (λ e. rw e (well-looked (withPair x k p) (well-pair S F x well k server
+      p f e)))
       (λ e. rw e (well-goes-on x well))
   well-takes x well k server (WriteAck c) f =
       by-test (isStoring (x .phase) c)
@@ -212,7 +233,8 @@ module _ (S : Settings) (F : Formats) (lawful : Lawful F) (d : ℕ) (small : d <
 
 -- ---- a start
 
-pub well-started : (S : Settings) (F : Formats) (x : Client) (ph : Phase) → WellPhase F ph → x .reads .0 < highest
+pub well-started : (S : Settings) (F : Formats) (x : Client) (ph : Phase) → WellPhase F ph
+    → x .reads .0 < highest
     → WellClient S F (started x ph)
 unfolding started nextRead
 well-started S F x ph good low = well-cleared S F ph (record { 0 = x .reads .0 + 1 }) good (omega arith)

@@ -1,7 +1,9 @@
 -- A well-formed server stays well formed when it takes a message of a client.
 --
--- Why: GET_INFO and DONE change one reader, the sender, who is a client; WRITE_INFO may bring a pair, and messages on
--- channels have their fields in their widths. What it sends is of the kinds that servers send, in the widths of what
+-- Why: GET_INFO and DONE change one reader, the sender, who is a client; WRITE_INFO may bring a pair, and
+-- messages on
+-- channels have their fields in their widths. What it sends is of the kinds that servers send, in the widths
+-- of what
 -- it took.
 -- Assumes nothing.
 use mathlib.Core.Path.{_≡_, refl, sym, ap, _∙_}
@@ -22,7 +24,8 @@ use Rattle.message.specs.declared.Pair.{Pair}
 use Rattle.message.specs.Pair.{stamp, counter}
 use Rattle.message.proofs.Pairs.{counter-fits}
 use Rattle.register.specs.Settings.{Settings, mostClients, isClient}
-use Rattle.register.specs.Server.{Server, stored, serverAfter, serverSends, forwards, Sent, sent, sentTo}
+use Rattle.register.specs.Server.{Server, stored, serverAfter, serverSends, forwards, Sent, sent}
+use Rattle.register.specs.Server.{sentTo}
 use Rattle.register.proofs.WellFormed.{FromClient, FromServer, WellServer}
 
 stored-fits : (p q : Pair) → p .0 < 2 ^ 64 → q .0 < 2 ^ 64 → stored p q .0 < 2 ^ 64
@@ -34,14 +37,19 @@ module _ (S : Settings) (s : Server) (d : ℕ) (client : isClient S d ≡ true) 
   reader-changed : (b : Bool) (e : ℕ) → isClient S e ≡ false → update (s .readers) d b e ≡ false
   reader-changed b e h =
       update-at (λ r. r ≡ false) (s .readers) d e b
-      (λ same. absurd (true-or-false (isClient S e) (ap (isClient S) (sym same) ∙ client) h)) (λ other. well .readers e h)
+      (λ same. absurd (true-or-false (isClient S e) (ap (isClient S) (sym same)
+      ∙ client) h)) (λ other. well .readers e h)
 
   pub well-after : (m : Message) → FromClient m → WellServer S (serverAfter s d m)
   unfolding serverAfter
   well-after (GetInfo t) f = record { pair = well .pair; readers = reader-changed true }
   well-after (Info t p) f = absurd f
   well-after Done f = record { pair = well .pair; readers = reader-changed false }
-  well-after (WriteInfo p) f = record { pair = stored-fits (s .pair) p (well .pair) f; readers = well .readers }
+  well-after (WriteInfo p) f = record {
+    pair = stored-fits (s .pair) p (well .pair) f;
+    readers = well
+        .readers;
+  }
   well-after (Fwd p) f = absurd f
   well-after (WriteAck c) f = absurd f
 
@@ -57,14 +65,19 @@ pub record Forwarded (readers : ℕ → Bool) (p : Pair) (x : Sent) : Type 0 whe
   pub reader : readers (x .to) ≡ true
   pub is : x .message ≡ Fwd p
 
-pub forwarded : (readers : ℕ → Bool) (p : Pair) (n : ℕ) (x : Sent) → Member x (forwards readers p n) → Forwarded readers p x
+pub forwarded : (readers : ℕ → Bool) (p : Pair) (n : ℕ) (x : Sent) → Member x (forwards readers p n)
+    → Forwarded readers p x
 unfolding forwards
 forwarded readers p zero x m = absurd m
 forwarded readers p (suc n) x m =
     by-either (member-cases x (forwards readers p n) _ m) (λ h. forwarded readers p n x h)
     (λ h. by-test (readers (suc n))
     (λ e. by-either (rw e at h)
-    (λ q. record { reader = ap (λ (y : Sent). readers (y .to)) q ∙ e; is = ap (λ (y : Sent). y .message) q }) (λ q. absurd q))
+    (λ q. record {
+      reader = ap (λ (y : Sent). readers (y .to)) q
+          ∙ e;
+      is = ap (λ (y : Sent). y .message) q;
+    }) (λ q. absurd q))
     (λ e. absurd (rw e at h)))
 
 module _ (S : Settings) (s : Server) (d : ℕ) (client : isClient S d ≡ true) (well : WellServer S s) where
@@ -75,7 +88,8 @@ module _ (S : Settings) (s : Server) (d : ℕ) (client : isClient S d ≡ true) 
   reader-client e r =
       by-test (isClient S e) (λ h. h) (λ h. absurd (true-or-false (s .readers e) r (well .readers e h)))
 
-  well-forward : (p : Pair) → p .0 < 2 ^ 64 → (x : Sent) → Member x (forwards (s .readers) p mostClients) → WellSent S x
+  well-forward : (p : Pair) → p .0 < 2 ^ 64 → (x : Sent) → Member x (forwards (s .readers) p mostClients)
+      → WellSent S x
   well-forward p f x h =
       let g = forwarded (s .readers) p mostClients x h in
       record { client = reader-client (x .to) (g .reader); kind = rw (g .is) f }
@@ -106,7 +120,8 @@ sent-there e [] m h = absurd h
 sent-there e (x ∷ l) m h =
     by-test (eqb (x .to) e)
     (λ t. by-either (rw t at h)
-    (λ q. record { one = x; member = inl refl; to = eqb-true (x .to) e t; is = q }) (λ g. later (sent-there e l m g)))
+    (λ q. record { one = x; member = inl refl; to = eqb-true (x .to) e t; is = q }) (λ g. later (sent-there e
+    l m g)))
     (λ t. later (sent-there e l m (rw t at h)))
   where
     later : SentThere e l m → SentThere e (x ∷ l) m

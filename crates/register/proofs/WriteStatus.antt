@@ -118,7 +118,8 @@ module _ (r : Run) where
         decides = u .decides;
         phase = same ∙ u .phase;
         puts = u .puts;
-        only = one-more (λ (j : ℕ). (p : Pair) → PutsAt j d p → j ≡ u .at) b n (λ p h. absurd (quiet p h)) (u .only);
+        only = one-more (λ (j : ℕ). (p : Pair) → PutsAt j d p
+            → j ≡ u .at) b n (λ p h. absurd (quiet p h)) (u .only);
       }
 
   write-step : (b d : ℕ) (entry : Entry) (n : ℕ) → b < n → OpenWrite b d entry n → TurnAt n d
@@ -178,7 +179,8 @@ module _ (r : Run) where
             inr (u, record { takes = t; message = rw z at i; phase = u .phase; many = m }));
       })
 
-  pub write-status : (b d : ℕ) (entry : Entry) → event r b ≡ begins d (ReadingForWrite entry) → (i : ℕ) → b < i
+  pub write-status : (b d : ℕ) (entry : Entry) → event r b ≡ begins d (ReadingForWrite entry) → (i : ℕ)
+      → b < i
       → OpenWrite b d entry i ⊎ EndedWrite b d entry i
   write-status b d entry h zero lt = absurd (not-suc-le-zero lt)
   write-status b d entry h (suc n) lt =

@@ -1,9 +1,14 @@
--- Four servers, of which server 4 is faulty, and two clients: a read overlaps a write, server 4 lies to both, a
--- client stops, and steps are refused, with each of the numbers 4 to 10. A ninth message on a channel is refused 12.
+-- Four servers, of which server 4 is faulty, and two clients: a read overlaps a write, server 4 lies to both,
+-- a
+-- client stops, and steps are refused, with each of the numbers 4 to 10. A ninth message on a channel is
+-- refused 12.
 --
--- Client 1 writes while client 2 reads. Server 4 tells client 1 a pair that nobody wrote: it is in one set only, so
--- it does not count, and it hides that two honest servers are enough, so the client waits for the third. Client 2 has
--- the initial pair of server 1, then the new pair by FWD; with the new pair from servers 2 and 4 it shows it, before
+-- Client 1 writes while client 2 reads. Server 4 tells client 1 a pair that nobody wrote: it is in one set
+-- only, so
+-- it does not count, and it hides that two honest servers are enough, so the client waits for the third.
+-- Client 2 has
+-- the initial pair of server 1, then the new pair by FWD; with the new pair from servers 2 and 4 it shows it,
+-- before
 -- the write has ended.
 -- Assumes nothing.
 use mathlib.Core.Path.{_≡_, refl}
@@ -47,11 +52,14 @@ stored-by-all = K 3 1 ∷ K 3 1 ∷ D 1 1 ∷ D 1 2 ∷ D 1 3 ∷ []
 -- client 1 stops; what is refused
 abbrev refused : List Step
 refused =
-    C 1 ∷ R 1 ∷ R 3 ∷ K 4 2 ∷ L 1 2 (info 1 1) ∷ W 2 (record { 0 = 1 }) ∷ L 4 2 (0x20 ∷ []) ∷ D 2 3 ∷ R 2 ∷ R 2 ∷ []
+    C 1 ∷ R 1 ∷ R 3 ∷ K 4 2 ∷ L 1 2 (info 1 1) ∷ W 2 (record { 0 = 1 }) ∷ L 4 2 (0x20 ∷ []) ∷ D 2 3 ∷ R 2
+    ∷ R 2 ∷ []
 
 overlap : answers four formats (begun ++ shown ++ stored-by-all ++ refused)
-    ≡ went 20 ++ Read (pairBy 1 1) ∷ went 4 ++ Wrote (pairBy 1 1) ∷ Went ∷ Refused no.Stopped ∷ Refused no.NoSuchProcess
-    ∷ Refused no.WrongRole ∷ Refused no.WrongRole ∷ Refused no.NoEntry ∷ Refused no.Malformed ∷ Refused no.EmptyChannel ∷ Went
+    ≡ went 20 ++ Read (pairBy 1 1) ∷ went 4 ++ Wrote (pairBy 1 1) ∷ Went ∷ Refused no.Stopped
+    ∷ Refused no.NoSuchProcess
+    ∷ Refused no.WrongRole ∷ Refused no.WrongRole ∷ Refused no.NoEntry ∷ Refused no.Malformed
+    ∷ Refused no.EmptyChannel ∷ Went
     ∷ Refused no.Busy ∷ []
 unfolding answers
 overlap = refl

@@ -1,7 +1,9 @@
--- In the run of `Disagree` no rows of the two reads agree on its two writes: the first row has the write of step 0 before that of
+-- In the run of `Disagree` no rows of the two reads agree on its two writes: the first row has the write of
+-- step 0 before that of
 -- step 16, the second has them the other way round. So 01 cannot ask for agreement on all writes.
 --
--- Why: both reads show the pair of the write of step 0, so each stands right after it. The first read ended before the write of step
+-- Why: both reads show the pair of the write of step 0, so each stands right after it. The first read ended
+-- before the write of step
 -- 16 began, and this write ended before the second read began.
 -- In order: what the run answers; its operations; places in a row; the two rows.
 -- Assumes nothing.
@@ -22,7 +24,8 @@ use Rattle.message.specs.declared.Pair.{Pair}
 use Rattle.register.specs.declared.Answer.{Answer}
 use Rattle.register.specs.declared.Answer.the-variants.{Went, Read, Wrote, Spent, Refused}
 use Rattle.register.specs.Steps.{Step}
-use Rattle.register.specs.History.{answerAt, WriteBegins, AnswersRead, AnswersWrite, ReadEnds, WriteEnds}
+use Rattle.register.specs.History.{answerAt, WriteBegins, AnswersRead, AnswersWrite, ReadEnds}
+use Rattle.register.specs.History.{WriteEnds}
 use Rattle.register.specs.History.{Sends}
 use Rattle.register.specs.DemandThree.{Earlier, Row}
 use Rattle.register.specs.Formats.{formats}
@@ -71,20 +74,24 @@ shown = pairBy 1 2
 abbrev lower : Pair
 lower = pairBy 1 1
 
-read-answer : (i : ℕ) (q : Pair) → answerAt four formats steps i ≡ Read q → isRead (answerAt four formats steps i) ≡ true
+read-answer : (i : ℕ) (q : Pair) → answerAt four formats steps i ≡ Read q
+    → isRead (answerAt four formats steps i) ≡ true
 unfolding isRead
 read-answer i q e = rw e refl
 
-end-answer : (i : ℕ) → ((q : Pair) × (answerAt four formats steps i ≡ Wrote q)) ⊎ (answerAt four formats steps i ≡ Spent)
+end-answer : (i : ℕ) → ((q : Pair) × (answerAt four formats steps i ≡ Wrote q)) ⊎ (answerAt four formats
+    steps i ≡ Spent)
     → isEnd (answerAt four formats steps i) ≡ true
 unfolding isEnd
 end-answer i (inl (q, e)) = rw e refl
 end-answer i (inr e) = rw e refl
 
-read-once : (b j : ℕ) → none isRead b j ≡ true → (i : ℕ) → b < i → i < j → (q : Pair) → AnswersRead four formats steps i 3 q → ⊥
+read-once : (b j : ℕ) → none isRead b j ≡ true → (i : ℕ) → b < i → i < j → (q : Pair)
+    → AnswersRead four formats steps i 3 q → ⊥
 read-once b j h i low high q x = no-answer isRead b j h i low high (read-answer i q (x .answer))
 
-write-once : (b j d : ℕ) → none isEnd b j ≡ true → (i : ℕ) → b < i → i < j → AnswersWrite four formats steps i d → ⊥
+write-once : (b j d : ℕ) → none isEnd b j ≡ true → (i : ℕ) → b < i → i < j
+    → AnswersWrite four formats steps i d → ⊥
 write-once b j d h i low high x = no-answer isEnd b j h i low high (end-answer i (x .answer))
 
 first-read : ReadEnds four formats steps 7 3 15 shown
@@ -165,11 +172,18 @@ right-after b j row h =
     record { place = q .1; write = subst (λ (w : ℕ). At row w (q .1)) (sym is) (q .4); read = q .5 })
 
 later-member : (b j : ℕ) (row : List ℕ) → Row four formats steps b j shown row → Member 16 row
-later-member b j row h = h .members 16 .1 (inr (record { client = 1; at = 22; pair = lower; sends = later-sends }))
+later-member b j row h = h .members 16 .1 (inr (record {
+  client = 1;
+  at = 22;
+  pair = lower;
+  sends =
+      later-sends;
+}))
 
 -- ---- the two rows
 
-pub rows-disagree : (row₁ row₂ : List ℕ) → Row four formats steps 7 15 shown row₁ → Row four formats steps 31 40 shown row₂
+pub rows-disagree : (row₁ row₂ : List ℕ) → Row four formats steps 7 15 shown row₁
+    → Row four formats steps 31 40 shown row₂
     → Earlier row₁ 0 16 × Earlier row₂ 16 0
 rows-disagree row₁ row₂ h₁ h₂ = (before, after)
   where
@@ -177,7 +191,11 @@ rows-disagree row₁ row₂ h₁ h₂ = (before, after)
     before =
         let a = right-after 7 15 row₁ h₁ in
         let e =
-        h₁ .order 7 16 15 (h₁ .members 7 .1 (inl refl)) (later-member 7 15 row₁ h₁) (inl (3, shown, first-read)) (omega arith) in
+        h₁ .order 7 16 15 (h₁ .members 7 .1 (inl refl)) (later-member 7 15 row₁ h₁) (inl (
+          3,
+          shown,
+          first-read,
+        )) (omega arith) in
         let same : e .one ≡ suc (a .place) = h₁ .once 7 (e .one) (suc (a .place)) (e .first) (a .read) in
         record {
           one = a .place;
@@ -191,10 +209,12 @@ rows-disagree row₁ row₂ h₁ h₂ = (before, after)
     after =
         let a = right-after 31 40 row₂ h₂ in
         let e =
-        h₂ .order 16 31 30 (later-member 31 40 row₂ h₂) (h₂ .members 31 .1 (inl refl)) (inr (1, later-write)) (omega arith) in
+        h₂ .order 16 31 30 (later-member 31 40 row₂ h₂) (h₂ .members 31 .1 (inl refl)) (inr (1, later-write))
+        (omega arith) in
         let same : e .two ≡ suc (a .place) = h₂ .once 31 (e .two) (suc (a .place)) (e .second) (a .read) in
         let other : e .one ≡ a .place → ⊥ = λ q.
-        let z : _≡_ {A = ℕ} 16 0 = sym (e .first .is) ∙ ap (λ (i : ℕ). getD row₂ i 0) q ∙ a .write .is in omega arith in
+        let z : _≡_ {A = ℕ} 16 0 = sym (e .first .is) ∙ ap (λ (i : ℕ). getD row₂ i 0) q
+        ∙ a .write .is in omega arith in
         record {
           one = e .one;
           two = a .place;
