@@ -5,7 +5,8 @@
   exchange_oracle.py --check    fail if crates/exchange/stdout is not what this script works out
 
 Nothing here is taken from the crates: keepers and desks are 01's sentences, and every message goes over a wire of its own,
-first in first out. A line for each message when it is put on a wire, and a line for each outcome.
+first in first out. A line for each message when it is put on a wire, and a line for each outcome. First one desk writes,
+reads, writes and reads, and then two desks work at once, each with f = 0 and with f = 1.
 """
 import collections
 import pathlib
@@ -115,8 +116,8 @@ class Desk:
 
 
 class Exchange:
-    def __init__(self, f):
-        self.lines = [f"f = {f}"]
+    def __init__(self, title, f):
+        self.lines = [f"{title}, f = {f}"]
         self.keepers = {k: Keeper() for k in range(1, 3 * f + 2)}
         self.desks = {d: Desk(d, f) for d in range(1, DESKS + 1)}
         self.up, self.down = collections.defaultdict(collections.deque), collections.defaultdict(collections.deque)
@@ -150,33 +151,45 @@ class Exchange:
             self.lines.append(f"client {desk} {word} {pair.counter} {pair.desk} {pair.entry:010X}")
 
 
-def scenario(f):
-    """With f = 1 keeper 4 takes nothing: 2f + 1 = n - f keepers work."""
-    x, working = Exchange(f), range(1, 2 * f + 2)
-
-    def each(desk, keepers=working, times=1):
+    def each(self, desk, keepers, times=1):
+        """Each of the keepers takes a message of the desk, one keeper after the other; as often as said."""
         for _ in range(times):
             for k in keepers:
-                x.keeper_takes(k, desk)
+                self.keeper_takes(k, desk)
 
+
+def one_desk(f):
+    """Desk 1 alone; every keeper takes every message."""
+    x = Exchange("one client", f)
+    for year in (2024, 2028):
+        x.write(1, licence(year, 2, 29, 40, 1))
+        x.each(1, x.keepers, times=3)  # GET_INFO, DONE, WRITE_INFO
+        x.read(1)
+        x.each(1, x.keepers, times=2)  # GET_INFO, DONE
+    return x.lines
+
+
+def two_desks(f):
+    """With f = 1 keeper 4 takes nothing: 2f + 1 = n - f keepers work."""
+    x, working = Exchange("two clients", f), range(1, 2 * f + 2)
     x.write(1, licence(2024, 2, 29, 40, 1))
-    each(1, times=3)  # GET_INFO, DONE, WRITE_INFO
+    x.each(1, working, times=3)  # GET_INFO, DONE, WRITE_INFO
     x.read(1)
-    each(1, times=2)  # GET_INFO, DONE
+    x.each(1, working, times=2)  # GET_INFO, DONE
     x.read(2)
-    each(2)  # GET_INFO; its DONE stays on the wires
+    x.each(2, working)  # GET_INFO; its DONE stays on the wires
     x.write(1, licence(2028, 2, 29, 40, 1))
-    each(1, times=2)  # GET_INFO, DONE
+    x.each(1, working, times=2)  # GET_INFO, DONE
     x.read(2)
-    each(1, [1])  # WRITE_INFO reaches keeper 1, which forwards it
-    each(2, times=2)  # the late DONE, GET_INFO
-    each(1, working[1:])  # WRITE_INFO reaches the others
-    each(2)  # DONE
+    x.each(1, [1])  # WRITE_INFO reaches keeper 1, which forwards it
+    x.each(2, working, times=2)  # the late DONE, GET_INFO
+    x.each(1, working[1:])  # WRITE_INFO reaches the others
+    x.each(2, working)  # DONE
     return x.lines
 
 
 def main():
-    text = "".join(line + "\n" for f in (0, 1) for line in scenario(f))
+    text = "".join(line + "\n" for scenario in (one_desk, two_desks) for f in (0, 1) for line in scenario(f))
     if sys.argv[1:] == ["--check"]:
         if STDOUT.read_text() != text:
             sys.exit("exchange_oracle: crates/exchange/stdout is not what 01 gives")

@@ -5,12 +5,11 @@
 -- passes (`found`); more passes in a longer range (`count-longer`).
 -- Assumes nothing.
 use mathlib.Core.Path.{_≡_, refl}
-use mathlib.Core.Bool.{Bool, true, false, not, _&&_}
+use mathlib.Core.Bool.{Bool, true, not, _&&_}
 use Prim.Native.Nat.{ℕ, zero, suc, _+_, _≤_, _<_}
 use native.Mathlib.Nat.{not-suc-le-zero, le-refl}
 use native.Mathlib.Omega.{arith}
 use lib.Dec.{leb}
-use mir.Val.{boolByte}
 use borrow.Author.Tests.{leb-true, leb-false}
 use Rattle.basics.specs.Counting.{count}
 use Rattle.basics.proofs.Cases.{by-test}

@@ -2,7 +2,7 @@
 -- Assumes nothing.
 use mathlib.Core.Path.{_≡_, refl}
 use mathlib.Core.Bool.{true, false}
-use mathlib.Core.List.{[], _∷_}
+use mathlib.Core.List.{List, [], _∷_}
 use Prim.Native.Nat.{ℕ}
 use types.Run.{OneOf, miss}
 use denote.Enum.Declared.{tagOf}
@@ -14,9 +14,9 @@ use Rattle.message.proofs.Message as M
 use Rattle.register.specs.declared.Phase.{Phase}
 use Rattle.register.specs.declared.Phase.the-variants.{Idle, Reading, ReadingForWrite, Storing}
 use Rattle.register.proofs.Phase as P
-use Rattle.register.specs.Client.{isStoring, goesOn, clientTakes}
-use Rattle.register.specs.Client as model
-use Rattle.client.specs.Kinds.{isInfo, isFwd}
+use Rattle.register.specs.Client.{isStoring}
+use Rattle.client.specs.declared.Client.{Client}
+use Rattle.client.specs.Collecting.{isInfo, isAck, isCollected}
 
 pub not-info : (m : Message) → OneOf (0 ∷ 2 ∷ 3 ∷ 4 ∷ 5 ∷ []) (tagOf M.the-type m) → isInfo m ≡ false
 unfolding isInfo
@@ -27,25 +27,25 @@ not-info (WriteInfo p) k = refl
 not-info (Fwd p) k = refl
 not-info (WriteAck c) k = refl
 
-pub not-fwd : (m : Message) → OneOf (0 ∷ 1 ∷ 2 ∷ 3 ∷ 5 ∷ []) (tagOf M.the-type m) → isFwd m ≡ false
-unfolding isFwd
-not-fwd (GetInfo t) k = refl
-not-fwd (Info t p) k = refl
-not-fwd Done k = refl
-not-fwd (WriteInfo p) k = refl
-not-fwd (Fwd p) k = absurd (miss (0 ∷ 1 ∷ 2 ∷ 3 ∷ 5 ∷ []) 4 tt k)
-not-fwd (WriteAck c) k = refl
+pub not-ack : (m : Message) → OneOf (0 ∷ 1 ∷ 2 ∷ 3 ∷ 4 ∷ []) (tagOf M.the-type m) → isAck m ≡ false
+unfolding isAck
+not-ack (GetInfo t) k = refl
+not-ack (Info t p) k = refl
+not-ack Done k = refl
+not-ack (WriteInfo p) k = refl
+not-ack (Fwd p) k = refl
+not-ack (WriteAck c) k = absurd (miss (0 ∷ 1 ∷ 2 ∷ 3 ∷ 4 ∷ []) 5 tt k)
 
--- a message that is none of the three is dropped
-pub dropped : (n f d : ℕ) (x : model.Client) (k : ℕ) (m : Message) → OneOf (0 ∷ 1 ∷ 2 ∷ 3 ∷ 4 ∷ []) (tagOf M.the-type m)
-    → isInfo m ≡ false → isFwd m ≡ false → clientTakes n f d x k m ≡ goesOn x
-unfolding clientTakes isInfo isFwd
-dropped n f d x k (GetInfo t) o i w = refl
-dropped n f d x k (Info t p) o i w = absurd (true-or-false true refl i)
-dropped n f d x k Done o i w = refl
-dropped n f d x k (WriteInfo p) o i w = refl
-dropped n f d x k (Fwd p) o i w = absurd (true-or-false true refl w)
-dropped n f d x k (WriteAck c) o i w = absurd (miss (0 ∷ 1 ∷ 2 ∷ 3 ∷ 4 ∷ []) 5 tt o)
+-- a message that is neither INFO nor FWD is not collected
+pub no-pair : (c : Client) (r : List ℕ) (k : ℕ) (m : Message)
+    → OneOf (0 ∷ 1 ∷ 2 ∷ 3 ∷ 5 ∷ []) (tagOf M.the-type m) → isInfo m ≡ false → isCollected c r k m ≡ false
+unfolding isCollected isInfo
+no-pair c r k (GetInfo t) o i = refl
+no-pair c r k (Info t p) o i = absurd (true-or-false true refl i)
+no-pair c r k Done o i = refl
+no-pair c r k (WriteInfo p) o i = refl
+no-pair c r k (Fwd p) o i = absurd (miss (0 ∷ 1 ∷ 2 ∷ 3 ∷ 5 ∷ []) 4 tt o)
+no-pair c r k (WriteAck a) o i = refl
 
 pub not-storing : (ph : Phase) (c : WriteCounter) → OneOf (0 ∷ 1 ∷ 2 ∷ []) (tagOf P.the-type ph)
     → isStoring ph c ≡ false

@@ -2,4 +2,4 @@ pub mod State
 pub mod Sound
 pub mod Sends
 pub mod Entry
-pub mod Kinds
+pub mod Collecting

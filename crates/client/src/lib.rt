@@ -12,7 +12,7 @@ ghost use Rattle.client.specs.State.{storeClient};
 ghost use Rattle.client.specs.Sound.{isSoundPhase, stores, isSoundClient, isSound};
 ghost use Rattle.client.specs.Sends.{messagesOf, after, endsWith, startedOf, concludedOf, lookedOf, takenOf};
 ghost use Rattle.client.specs.Entry.{newOf, newLeaves, readOf, writeOf, takeOf};
-ghost use Rattle.client.specs.Kinds.{isInfo, isFwd};
+ghost use Rattle.client.specs.Collecting.{isInfo, isAck, Collected};
 use message::Entry;
 use message::Message;
 use message::Pair;
@@ -38,10 +38,10 @@ const MOST_FAULTY: u8 = 4;
 
 // A client by its number, for f faulty servers. What the servers replied is not here: it stands in lent memory.
 pub struct Client {
-    pub number: u8,
-    pub f: u8,
     pub phase: Phase,
     pub reads: ReadNumber,
+    pub number: u8,
+    pub f: u8,
 }
 
 // What goes on the channels to all servers.
@@ -61,7 +61,7 @@ pub struct Took {
 
 // ---- phases
 
-fn is_idle(ph: Phase) -> bool
+pub fn is_idle(ph: Phase) -> bool
     ensures { λ b. ⌜ b ≡ isIdle ph ⌝ }
 {
     match ph {
@@ -86,12 +86,10 @@ fn is_reading(ph: Phase) -> bool
 fn is_storing(ph: Phase) -> bool
     ensures { λ b. ⌜ b ≡ stores ph ⌝ }
 {
-    match ph {
-        Phase::Idle => false,
-        Phase::Reading => false,
-        Phase::ReadingForWrite(_) => false,
-        Phase::Storing(_, _) => true,
+    if is_idle(ph) {
+        return false;
     }
+    !is_reading(ph)
 }
 
 // ---- a client in another phase
@@ -178,36 +176,59 @@ fn look(c: Client, r: &mut [u64]) -> Took
 
 // ---- one message of server k
 
-fn info(c: Client, k: u8, t: ReadNumber, p: Pair, r: &mut [u64]) -> Took
+// Collects an INFO: whether it is taken.
+fn info(c: Client, k: u8, t: ReadNumber, p: Pair, r: &mut [u64]) -> bool
     requires { ⌜ (isSound c (now r) ≡ true) × (1 ≤ k) × (k ≤ size (c .f)) ⌝ }
-    ensures { λ z. ⌜ after z (now (r .exit)) ≡ takenOf c (now (r .entry)) k (Message.Info t p) ⌝ }
+    ensures { λ b. ⌜ Collected c (now (r .entry)) k (Message.Info t p) b (now (r .exit)) ⌝ }
 {
     let ph = c.phase;
     if !is_reading(ph) {
-        return goes_on(c);
+        return false;
     }
     if t.0 != c.reads.0 {
-        return goes_on(c);
+        return false;
     }
     let i = (k - 1) as usize;
     if replies::is_noted(r, i) {
-        return goes_on(c);
+        return false;
     }
     replies::note(r, i, message::stamp_of(p));
     replies::insert(r, i, p);
-    look(c, r)
+    true
 }
 
-fn forwarded(c: Client, k: u8, p: Pair, r: &mut [u64]) -> Took
+// Collects a FWD: whether it is taken.
+fn forwarded(c: Client, k: u8, p: Pair, r: &mut [u64]) -> bool
     requires { ⌜ (isSound c (now r) ≡ true) × (1 ≤ k) × (k ≤ size (c .f)) ⌝ }
-    ensures { λ z. ⌜ after z (now (r .exit)) ≡ takenOf c (now (r .entry)) k (Message.Fwd p) ⌝ }
+    ensures { λ b. ⌜ Collected c (now (r .entry)) k (Message.Fwd p) b (now (r .exit)) ⌝ }
 {
     let ph = c.phase;
     if !is_reading(ph) {
-        return goes_on(c);
+        return false;
     }
     replies::insert(r, (k - 1) as usize, p);
-    look(c, r)
+    true
+}
+
+fn collect_fwd(c: Client, k: u8, m: Message, r: &mut [u64]) -> bool
+    requires { ⌜ (isSound c (now r) ≡ true) × (1 ≤ k) × (k ≤ size (c .f)) × (isInfo m ≡ false) ⌝ }
+    ensures { λ b. ⌜ Collected c (now (r .entry)) k m b (now (r .exit)) ⌝ }
+{
+    let Message::Fwd(p) = m else {
+        return false;
+    };
+    forwarded(c, k, p, r)
+}
+
+// Collects an INFO or a FWD: whether it is taken. Another kind is not.
+fn collect(c: Client, k: u8, m: Message, r: &mut [u64]) -> bool
+    requires { ⌜ (isSound c (now r) ≡ true) × (1 ≤ k) × (k ≤ size (c .f)) ⌝ }
+    ensures { λ b. ⌜ Collected c (now (r .entry)) k m b (now (r .exit)) ⌝ }
+{
+    let Message::Info(t, p) = m else {
+        return collect_fwd(c, k, m, r);
+    };
+    info(c, k, t, p, r)
 }
 
 fn acknowledged(c: Client, k: u8, a: WriteCounter, r: &mut [u64]) -> Took
@@ -233,25 +254,15 @@ fn acknowledged(c: Client, k: u8, a: WriteCounter, r: &mut [u64]) -> Took
     )
 }
 
-// INFO, FWD, WRITE_ACK; another kind leaves through the last else.
-fn taken_ack(c: Client, k: u8, m: Message, r: &mut [u64]) -> Took
-    requires { ⌜ (isSound c (now r) ≡ true) × (1 ≤ k) × (k ≤ size (c .f)) × (isInfo m ≡ false) × (isFwd m ≡ false) ⌝ }
+// INFO and FWD; another kind is dropped.
+fn taken_pair(c: Client, k: u8, m: Message, r: &mut [u64]) -> Took
+    requires { ⌜ (isSound c (now r) ≡ true) × (1 ≤ k) × (k ≤ size (c .f)) × (isAck m ≡ false) ⌝ }
     ensures { λ z. ⌜ after z (now (r .exit)) ≡ takenOf c (now (r .entry)) k m ⌝ }
 {
-    let Message::WriteAck(a) = m else {
+    if !collect(c, k, m, r) {
         return goes_on(c);
-    };
-    acknowledged(c, k, a, r)
-}
-
-fn taken_fwd(c: Client, k: u8, m: Message, r: &mut [u64]) -> Took
-    requires { ⌜ (isSound c (now r) ≡ true) × (1 ≤ k) × (k ≤ size (c .f)) × (isInfo m ≡ false) ⌝ }
-    ensures { λ z. ⌜ after z (now (r .exit)) ≡ takenOf c (now (r .entry)) k m ⌝ }
-{
-    let Message::Fwd(p) = m else {
-        return taken_ack(c, k, m, r);
-    };
-    forwarded(c, k, p, r)
+    }
+    look(c, r)
 }
 
 // What a client does with one message of server k.
@@ -259,20 +270,26 @@ pub fn taken(c: Client, k: u8, m: Message, r: &mut [u64]) -> Took
     requires { ⌜ (isSound c (now r) ≡ true) × (1 ≤ k) × (k ≤ size (c .f)) ⌝ }
     ensures { λ z. ⌜ after z (now (r .exit)) ≡ takenOf c (now (r .entry)) k m ⌝ }
 {
-    let Message::Info(t, p) = m else {
-        return taken_fwd(c, k, m, r);
+    let Message::WriteAck(a) = m else {
+        return taken_pair(c, k, m, r);
     };
-    info(c, k, t, p, r)
+    acknowledged(c, k, a, r)
 }
 
-// What the message would have the client send. The lent memory is not touched: the message is taken on a copy.
+// What the message would have the client send. The lent memory is not touched: the message is collected in a copy.
 pub fn would_send(c: Client, k: u8, m: Message, r: &[u64]) -> Sends
     requires { ⌜ (isSound c (now r) ≡ true) × (1 ≤ k) × (k ≤ size (c .f)) ⌝ }
     ensures { λ s. ⌜ messagesOf s ≡ takenOf c (now (r .entry)) k m .sends ⌝ }
 {
     let mut trial = replies::copied(r);
-    let t = taken(c, k, m, &mut trial);
-    t.sends
+    if !collect(c, k, m, &mut trial) {
+        return Sends::Nothing;
+    }
+    let Choice::Found(p) = replies::choose(&trial, c.f) else {
+        return Sends::Nothing;
+    };
+    let z = conclude(c, p);
+    z.sends
 }
 
 // ---- a start
@@ -432,7 +449,7 @@ pub fn write(c: Client, e: Entry, r: &[u64]) -> Took
 }
 
 // Whether a message is of a kind that a server sends.
-fn is_reply(m: Message) -> bool
+pub fn is_reply(m: Message) -> bool
     ensures { λ b. ⌜ b ≡ isReply (Unpacked.Good m) ⌝ }
 {
     match m {

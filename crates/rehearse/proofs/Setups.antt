@@ -1,4 +1,5 @@
--- The settings of an accepted setup are allowed, and so are those that the program starts with. The same system is of the same run.
+-- The settings of an accepted setup are allowed, and so are those that the program starts with; a state at
+-- setup is sound.
 -- Assumes nothing.
 use mathlib.Core.Path.{_≡_, refl, sym, subst}
 use mathlib.Core.Bool.{true}
@@ -6,16 +7,21 @@ use mathlib.Core.List.{List}
 use Prim.Native.Nat.{ℕ}
 use Rattle.basics.specs.Counting.{count}
 use Rattle.basics.specs.Tests.{allBelow}
+use Rattle.register.specs.Formats.{formats}
 use Rattle.register.specs.Settings.{setupRefusal, inRange}
+use Rattle.register.specs.World.{newWorld}
+use Rattle.register.proofs.Reachable.{well-new}
 use Rattle.server.specs.State.{contains}
+use Rattle.state.specs.declared.Settings.{Settings}
 use Rattle.state.specs.declared.System.{System}
-use Rattle.state.specs.Sound.{areAllowed}
-use Rattle.state.specs.State.{settingsOf}
-use Rattle.state.proofs.SoundFacts.{allowed-of}
+use Rattle.state.specs.Sound.{areAllowed, isSound}
+use Rattle.state.specs.State.{settingsOf, storeSystem, storeSlots}
+use Rattle.state.proofs.SoundFacts.{allowed-facts, allowed-of}
+use Rattle.state.proofs.StoredSound.{stored-state}
 use Rattle.system.specs.declared.setup.Setup.{Setup}
 use Rattle.system.specs.declared.setup.Setup.the-variants.{Set, Refused}
 use Rattle.system.specs.Setup.{settingsBy, setupOf}
-use Rattle.system.specs.Stored.{OnRun}
+use Rattle.system.specs.Stored.{Stored}
 use Rattle.system.proofs.SetupLaws.{allowed-set}
 use Rattle.rehearse.specs.Turns.{Allowed}
 
@@ -27,5 +33,14 @@ pub first-allowed : areAllowed (settingsBy 0 1 0) ≡ true
 unfolding areAllowed setupRefusal inRange settingsOf allBelow count contains
 first-allowed = refl
 
-pub same-run : (s u : System) (b r : List ℕ) → s ≡ u → OnRun u b r → OnRun s b r
-same-run s u b r e on = subst (λ (z : System). OnRun z b r) (sym e) on
+pub setup-sound : (t : Settings) → areAllowed t ≡ true → (s : System) (b r : List ℕ) → Stored t newWorld s b r
+    → isSound s b r ≡ true
+setup-sound t allowed s b r st =
+    subst (λ (u : System). isSound u b r ≡ true) (sym (st .system))
+    (subst (λ (l : List ℕ). isSound (storeSystem t newWorld) l r ≡ true) (sym (st .slots))
+    (subst (λ (l : List ℕ). isSound (storeSystem t newWorld) (storeSlots newWorld) l ≡ true)
+    (sym (st .replies))
+    (stored-state t (allowed-facts t allowed) newWorld (well-new (settingsOf t) formats))))
+
+pub same-sound : (s u : System) (b r : List ℕ) → s ≡ u → isSound u b r ≡ true → isSound s b r ≡ true
+same-sound s u b r e h = subst (λ (z : System). isSound z b r ≡ true) (sym e) h

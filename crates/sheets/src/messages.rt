@@ -1,7 +1,6 @@
 // Digests of packing and unpacking messages at the edges of every field.
 ghost use mathlib.Core.Path.{_≡_};
 ghost use Prim.Native.Nat.{_≤_, _<_};
-ghost use lib.ListN.{length};
 ghost use Rattle.message.specs.Packing.{packLeaves};
 ghost use Rattle.sheets.specs.Messages.{withPair, withMessage, withBytes, withUnpacked, withPacked};
 ghost use Rattle.sheets.specs.Messages.{withLengths, edgeOf, patternOf, kindDigest, sampleOf, withBuffers, packDigest};

@@ -1,8 +1,9 @@
--- The slots of the channels are two tables of messages, one up and one down: what an operation does at the index of a channel it
--- does to one entry of a table.
+-- The slots of the channels are two tables of messages, one up and one down: what an operation does at the
+-- index of a channel it does to one entry of a table.
 --
--- Channel c is the entry that c / 13 and c % 13 name, and the index of an entry leads back to it (`place-is`), so the laws of the
--- channels' memory hold entry by entry. All is for clients 1 to 6 and servers 1 to 13.
+-- Channel c is the entry that c / 13 and c % 13 name, and the index of an entry leads back to it
+-- (`place-is`), so the laws of the channels' memory hold entry by entry. All is for clients 1 to 6 and
+-- servers 1 to 13.
 -- Assumes nothing.
 use mathlib.Core.Path.{_≡_, refl, ap, _∙_}
 use mathlib.Core.Bool.{true, cond, _&&_}
@@ -20,7 +21,8 @@ use Rattle.message.specs.Layout.{bytesOf, messageOf, wellFormed, words, wordsNu
 use Rattle.message.proofs.RoundTrip.{packed-length, packing-spells, of-words-of}
 use Rattle.channel.specs.Memory.{countAt, putOn, oldestOn, taken, cleared}
 use Rattle.channel.specs.Layout.{Fitting, layout}
-use Rattle.channel.proofs.Laws.{layout-same, layout-count, layout-put, layout-take, layout-clear, layout-oldest}
+use Rattle.channel.proofs.Laws.{layout-same, layout-count, layout-put, layout-take, layout-clear}
+use Rattle.channel.proofs.Laws.{layout-oldest}
 use Rattle.register.specs.World.{World}
 use Rattle.state.specs.State.{upIndex, downIndex, channelOf, storeSlots, messageIn, messageAt}
 
@@ -41,7 +43,8 @@ pub store-slots : (w : World) → storeSlots w ≡ slotsOf (w .up) (w .down)
 unfolding storeSlots channelOf slotsOf
 store-slots w = refl
 
-pub slots-same : (u v n o : Table) → ((d k : ℕ) → u d k ≡ v d k) → ((d k : ℕ) → n d k ≡ o d k) → slotsOf u n ≡ slotsOf v o
+pub slots-same : (u v n o : Table) → ((d k : ℕ) → u d k ≡ v d k) → ((d k : ℕ) → n d k ≡ o d k)
+    → slotsOf u n ≡ slotsOf v o
 slots-same u v n o p q = λ i. slotsOf (λ d k. p d k i) (λ d k. q d k i)
 
 -- one entry changed
@@ -52,7 +55,8 @@ changed u d k l e j = cond (eqb k j && eqb d e) l (u e j)
 abbrev pub Short : Table → Type 0
 Short u = (d k : ℕ) → length (u d k) ≤ 8
 
-pub short-changed : (u : Table) (d k : ℕ) (l : List Message) → Short u → length l ≤ 8 → Short (changed u d k l)
+pub short-changed : (u : Table) (d k : ℕ) (l : List Message) → Short u → length l ≤ 8
+    → Short (changed u d k l)
 unfolding changed
 short-changed u d k l h g e j = by-test (eqb k j && eqb d e) (λ q. rw q g) (λ q. rw q (h e j))
 
@@ -90,7 +94,8 @@ back-one k h = omega arith
 -- a place behind the first 78
 behind : (x c : ℕ) → 78 ≤ c → eqb (78 + x) c ≡ eqb x (c - 78)
 behind x c h =
-    by-test (eqb (78 + x) c) (λ e. let q : 78 + x ≡ c = eqb-true _ _ e in rw (e, eq-eqb x (c - 78) (omega arith)))
+    by-test (eqb (78 + x) c)
+    (λ e. let q : 78 + x ≡ c = eqb-true _ _ e in rw (e, eq-eqb x (c - 78) (omega arith)))
     (λ e. let q = eqb-false (78 + x) c e in rw (e, ne-eqb x (c - 78) (λ z. q (omega arith))))
 
 -- ---- one channel of tables that fit
@@ -138,7 +143,8 @@ module _ (u n : Table) (d k : ℕ) (i : Inside d k) where
       )
 
   here : (c : ℕ) → eqb up c ≡ eqb k (suc (c % 13)) && eqb d (suc (c / 13))
-  here c = rw (less-one k (c % 13) (i .first), less-one d (c / 13) (i .low)) (place-is (d - 1) (k - 1) c inner)
+  here c =
+      rw (less-one k (c % 13) (i .first), less-one d (c / 13) (i .low)) (place-is (d - 1) (k - 1) c inner)
 
   up-changed : (l : List Message) → layout bytesOf (update (tableAt u n) up l) ≡ slotsOf (changed u d k l) n
   unfolding slotsOf changed update
@@ -147,7 +153,8 @@ module _ (u n : Table) (d k : ℕ) (i : Inside d k) where
       (λ c less. by-test (ltb c 78) (λ e. rw (e, here c))
       (λ e. rw (e, ne-eqb up c (λ z. omega (arith, up-less, ltb-false c 78 e)))))
 
-  down-changed : (l : List Message) → layout bytesOf (update (tableAt u n) down l) ≡ slotsOf u (changed n d k l)
+  down-changed : (l : List Message)
+      → layout bytesOf (update (tableAt u n) down l) ≡ slotsOf u (changed n d k l)
   unfolding slotsOf changed update
   down-changed l =
       layout-same bytesOf packed-length (update (tableAt u n) down l) (tableAt u (changed n d k l))
@@ -198,15 +205,18 @@ module _ (u n : Table) (d k : ℕ) (i : Inside d k) where
       pub up-take : u d k ≡ m ∷ ms → taken (slotsOf u n) up ≡ slotsOf (changed u d k ms) n
       unfolding slotsOf
       up-take e =
-          layout-take bytesOf packed-length (tableAt u n) fits up up-inside m ms (up-entry ∙ e) ∙ up-changed ms
+          layout-take bytesOf packed-length (tableAt u n) fits up up-inside m ms (up-entry ∙ e)
+          ∙ up-changed ms
 
       pub down-take : n d k ≡ m ∷ ms → taken (slotsOf u n) down ≡ slotsOf u (changed n d k ms)
       unfolding slotsOf
       down-take e =
-          layout-take bytesOf packed-length (tableAt u n) fits down down-inside m ms (down-entry ∙ e) ∙ down-changed ms
+          layout-take bytesOf packed-length (tableAt u n) fits down down-inside m ms (down-entry ∙ e)
+          ∙ down-changed ms
 
       -- the oldest read
-      message-read : (c : ℕ) → c < 156 → tableAt u n c ≡ m ∷ ms → wellFormed m ≡ true → messageAt (slotsOf u n) c ≡ m
+      message-read : (c : ℕ) → c < 156 → tableAt u n c ≡ m ∷ ms → wellFormed m ≡ true
+          → messageAt (slotsOf u n) c ≡ m
       unfolding slotsOf oldestOn wordsOf
       message-read c less e well =
           ap (λ (l : List ℕ). messageIn (messageOf (wordsNumber (words (spelt 0 l)))))

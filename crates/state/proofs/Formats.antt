@@ -1,4 +1,6 @@
 -- A message of a kind that clients or servers send, with its fields in their widths, is well formed.
+--
+-- Why: kind by kind, the bounds of the fields are the widths of the format; the other kinds are not sent.
 -- Assumes nothing.
 use mathlib.Core.Path.{_≡_, refl}
 use mathlib.Core.Bool.{true}
@@ -24,7 +26,8 @@ pub server-message : (m : Message) → FromServer m → wellFormed m ≡ true
 unfolding wellFormed
 server-message (GetInfo t) h = absurd h
 server-message (Info t p) h =
-    both-of (ltb (t .0) (2 ^ 20)) (ltb (p .0) (2 ^ 64)) (lt-ltb (t .0) (2 ^ 20) (h .0)) (lt-ltb (p .0) (2 ^ 64) (h .1))
+    both-of (ltb (t .0) (2 ^ 20)) (ltb (p .0) (2 ^ 64)) (lt-ltb (t .0) (2 ^ 20) (h .0))
+    (lt-ltb (p .0) (2 ^ 64) (h .1))
 server-message Done h = absurd h
 server-message (WriteInfo p) h = absurd h
 server-message (Fwd p) h = lt-ltb (p .0) (2 ^ 64) h

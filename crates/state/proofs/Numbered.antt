@@ -24,9 +24,11 @@ module _ {A : Type 0} where
   pub numbered-length : (f : ℕ → A) (n : ℕ) → length (numbered f n) ≡ n
   unfolding numbered
   numbered-length f zero = refl
-  numbered-length f (suc n) = length-append (numbered f n) (f (suc n) ∷ []) ∙ rw (numbered-length f n) (omega arith)
+  numbered-length f (suc n) =
+      length-append (numbered f n) (f (suc n) ∷ []) ∙ rw (numbered-length f n) (omega arith)
 
-  numbered-same : (f g : ℕ → A) (n : ℕ) → ((j : ℕ) → j < n → g (suc j) ≡ f (suc j)) → numbered g n ≡ numbered f n
+  numbered-same : (f g : ℕ → A) (n : ℕ) → ((j : ℕ) → j < n → g (suc j) ≡ f (suc j))
+      → numbered g n ≡ numbered f n
   unfolding numbered
   numbered-same f g zero h = refl
   numbered-same f g (suc n) h = rw (numbered-same f g n (λ j less. h j (omega arith)), h n (omega arith))
@@ -40,14 +42,16 @@ module _ {A : Type 0} where
       rw q (getD-at (numbered f n) (f (suc n)) [] z n (numbered-length f n)))
       (λ e. let q = eqb-false i n e in
       let less : i < n = omega arith in
-      List·getD-append (numbered f n) (f (suc n) ∷ []) z i (rw (numbered-length f n) less) ∙ at-place f z n i less)
+      List·getD-append (numbered f n) (f (suc n) ∷ []) z i (rw (numbered-length f n) less)
+      ∙ at-place f z n i less)
 
   -- a list is numbered by its elements
   pub numbered-is : (f : ℕ → A) (n : ℕ) (l : List A) (z : A) → length l ≡ n
       → ((j : ℕ) → j < n → f (suc j) ≡ getD l j z) → numbered f n ≡ l
   numbered-is f n l z long same =
       ext-getD z (numbered f n) l (numbered-length f n ∙ sym long)
-      (λ j less. let inside : j < n = omega (arith, numbered-length f n) in at-place f z n j inside ∙ same j inside)
+      (λ j less. let inside : j < n = omega (arith, numbered-length f n) in
+      at-place f z n j inside ∙ same j inside)
 
   set-place : (f g : ℕ → A) (n i : ℕ) → i < n → ((j : ℕ) → suc i ≢ j → g j ≡ f j)
       → numbered g n ≡ set (numbered f n) i (g (suc i))
@@ -61,14 +65,18 @@ module _ {A : Type 0} where
       (λ e. let q = eqb-false i n e in
       let less : i < n = omega arith in
       let inside : i < length (numbered f n) = rw (numbered-length f n) less in
-      rw (set-append-left (numbered f n) (f (suc n) ∷ []) i (g (suc i)) inside, same (suc n) (λ z. omega arith))
+      rw (
+        set-append-left (numbered f n) (f (suc n) ∷ []) i (g (suc i)) inside,
+        same (suc n) (λ z. omega arith),
+      )
       (ap (λ (l : List A). l ++ f (suc n) ∷ []) (set-place f g n i less same)))
 
   module _ (n k : ℕ) (low : 1 ≤ k) (high : k ≤ n) where
     pub numbered-at : (f : ℕ → A) (z : A) → getD (numbered f n) (k - 1) z ≡ f k
     numbered-at f z = at-place f z n (k - 1) (omega arith) ∙ ap f (number k low)
 
-    pub numbered-set : (f g : ℕ → A) → ((j : ℕ) → k ≢ j → g j ≡ f j) → numbered g n ≡ set (numbered f n) (k - 1) (g k)
+    pub numbered-set : (f g : ℕ → A) → ((j : ℕ) → k ≢ j → g j ≡ f j)
+        → numbered g n ≡ set (numbered f n) (k - 1) (g k)
     numbered-set f g same =
         set-place f g n (k - 1) (omega arith) (λ j other. same j (λ e. other (number k low ∙ e)))
         ∙ ap (λ (j : ℕ). set (numbered f n) (k - 1) (g j)) (number k low)

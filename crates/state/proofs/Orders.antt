@@ -1,5 +1,5 @@
--- Sets of pairs in strict order: the test of neighbours says the same as the order of all. And a fact of every element of a
--- list, by its place.
+-- Sets of pairs in strict order: the test of neighbours says the same as the order of all, since the order is
+-- transitive. And a fact of every element of a list, by its place.
 -- Assumes nothing.
 use mathlib.Core.Path.{_≡_, refl}
 use mathlib.Core.Bool.{true}
@@ -36,7 +36,8 @@ first-of p (q ∷ qs) h = lt-ltb (p .0) (q .0) (h .0)
 pub ordered-rising : (l : List Pair) → Ordered l → isRising l ≡ true
 unfolding isRising
 ordered-rising [] o = refl
-ordered-rising (p ∷ ps) o = both-of (isFirst p ps) (isRising ps) (first-of p ps (o .0)) (ordered-rising ps (o .1))
+ordered-rising (p ∷ ps) o =
+    both-of (isFirst p ps) (isRising ps) (first-of p ps (o .0)) (ordered-rising ps (o .1))
 
 -- every element by its place
 module _ {A : Type 0} (P : A → Type 0) (d : A) where

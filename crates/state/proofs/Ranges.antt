@@ -1,4 +1,4 @@
--- The numbers from 1 to n: none for 0, and one more for n + 1.
+-- The numbers from 1 to n: none for 0, and one more for n + 1. The test of them as two bounds, and back.
 -- Assumes nothing.
 use mathlib.Core.Path.{_≡_, refl}
 use mathlib.Core.Bool.{Bool, true, false, _&&_, _||_}

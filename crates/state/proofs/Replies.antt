@@ -19,7 +19,8 @@ use Rattle.replies.specs.Replies.{storeReplies}
 use Rattle.state.specs.State.{repliesAt, putReplies, allReplies}
 use Rattle.state.proofs.StoredClient.{stored-length}
 
-pub all-same : (x y : ℕ → Client) (n : ℕ) → ((j : ℕ) → j < n → storeReplies (x (suc j)) ≡ storeReplies (y (suc j)))
+pub all-same : (x y : ℕ → Client) (n : ℕ)
+    → ((j : ℕ) → j < n → storeReplies (x (suc j)) ≡ storeReplies (y (suc j)))
     → allReplies x n ≡ allReplies y n
 unfolding allReplies
 all-same x y zero h = refl
@@ -29,7 +30,8 @@ pub all-length : (x : ℕ → Client) (n : ℕ) → length (allReplies x n) ≡ 
 unfolding allReplies
 all-length x zero = refl
 all-length x (suc n) =
-    length-append (allReplies x n) (storeReplies (x (suc n))) ∙ rw (all-length x n, stored-length (x (suc n))) (omega arith)
+    length-append (allReplies x n) (storeReplies (x (suc n)))
+    ∙ rw (all-length x n, stored-length (x (suc n))) (omega arith)
 
 pub read-at : (x : ℕ → Client) (n i : ℕ) → i < n → repliesAt (allReplies x n) i ≡ storeReplies (x (suc i))
 unfolding allReplies
@@ -86,12 +88,14 @@ module _ (x : ℕ → Client) (d : ℕ) (low : 1 ≤ d) (high : d ≤ 6) where
   pub replies-read : repliesAt (allReplies x 6) (d - 1) ≡ storeReplies (x d)
   replies-read = read-at x 6 (d - 1) (omega arith) ∙ ap (λ (k : ℕ). storeReplies (x k)) number
 
-  pub replies-put : (y : Client) → putReplies (allReplies x 6) (d - 1) (storeReplies y) ≡ allReplies (update x d y) 6
+  pub replies-put : (y : Client)
+      → putReplies (allReplies x 6) (d - 1) (storeReplies y) ≡ allReplies (update x d y) 6
   replies-put y =
       put-at x y 6 (d - 1) (omega arith) ∙ ap (λ (k : ℕ). allReplies (update x k y) 6) number
 
   -- a client whose replies are the same
-  pub replies-kept : (y : Client) → storeReplies y ≡ storeReplies (x d) → allReplies (update x d y) 6 ≡ allReplies x 6
+  pub replies-kept : (y : Client) → storeReplies y ≡ storeReplies (x d)
+      → allReplies (update x d y) 6 ≡ allReplies x 6
   replies-kept y e =
       all-same (update x d y) x 6
       (λ j less. by-test (eqb d (suc j))

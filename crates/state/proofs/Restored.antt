@@ -1,7 +1,7 @@
 -- A sound state is the stored form of the world that it stands for.
 --
--- Part by part: bits, servers and sessions are listed by their places, the slots are the layout of their messages, and the
--- replies are joined of six pieces.
+-- Part by part: bits, servers and sessions are listed by their places, the slots are the layout of their
+-- messages, and the replies are joined of six pieces.
 -- Assumes nothing.
 use mathlib.Core.Path.{_≡_, refl, sym, ap, _∙_}
 use mathlib.Core.Bool.{true, _&&_}
@@ -25,8 +25,10 @@ use Rattle.server.specs.State as server
 use Rattle.server.proofs.Sets.{set-back}
 use Rattle.replies.specs.Replies.{storeReplies}
 use Rattle.state.specs.declared.System.{System}
-use Rattle.state.specs.State.{upIndex, downIndex, repliesAt, clientIn, sessionOf, isOf, emptyServer, emptySession}
-use Rattle.state.specs.State.{numbered, channelOf, allReplies, storeStopped, storeSlots, storeAllReplies, storeSystem}
+use Rattle.state.specs.State.{upIndex, downIndex, repliesAt, clientIn, sessionOf, isOf, emptyServer}
+use Rattle.state.specs.State.{emptySession}
+use Rattle.state.specs.State.{numbered, channelOf, allReplies, storeStopped, storeSlots}
+use Rattle.state.specs.State.{storeAllReplies, storeSystem}
 use Rattle.state.specs.State.{view}
 use Rattle.state.proofs.Numbered.{numbered-is}
 use Rattle.state.proofs.Ranges.{of-range}
@@ -44,7 +46,8 @@ less-one j = omega arith
 module _ (s : System) (b r : List ℕ) (f : Facts s b r) where
   stopped-back : storeStopped (view s b r) ≡ s .stopped
   unfolding storeStopped view
-  stopped-back = set-back (s .stopped) 6 (below-six (s .settings .clients) (s .stopped) (six s b r f) (f .stopped))
+  stopped-back =
+      set-back (s .stopped) 6 (below-six (s .settings .clients) (s .stopped) (six s b r f) (f .stopped))
 
   servers-back : numbered (λ k. server.store (view s b r .servers k)) 13 ≡ s .servers
   unfolding view
@@ -70,7 +73,12 @@ module _ (s : System) (b r : List ℕ) (f : Facts s b r) where
   pub system-back : storeSystem (s .settings) (view s b r) ≡ s
   unfolding storeSystem
   system-back =
-      λ q. record { settings = s .settings; stopped = stopped-back q; servers = servers-back q; clients = clients-back q }
+      λ q. record {
+        settings = s .settings;
+        stopped = stopped-back q;
+        servers = servers-back q;
+        clients = clients-back q;
+      }
 
   -- ---- slots
 
@@ -94,7 +102,8 @@ module _ (s : System) (b r : List ℕ) (f : Facts s b r) where
     where
       placed : (i j : ℕ) → i < 6 → j < 13 → isOf 6 (suc i) && isOf 13 (suc j) ≡ true
       placed i j a e =
-          both-of (isOf 6 (suc i)) (isOf 13 (suc j)) (of-range 6 (suc i) (omega arith) a) (of-range 13 (suc j) (omega arith) e)
+          both-of (isOf 6 (suc i)) (isOf 13 (suc j)) (of-range 6 (suc i) (omega arith) a)
+          (of-range 13 (suc j) (omega arith) e)
 
   pub slots-back : storeSlots (view s b r) ≡ b
   unfolding storeSlots
@@ -109,7 +118,8 @@ module _ (s : System) (b r : List ℕ) (f : Facts s b r) where
   reply-back i less =
       pick (λ x. storeReplies x ≡ repliesAt r i) (isOf 6 (suc i))
       (clientIn (getD (s .clients) (suc i - 1) emptySession) (repliesAt r (suc i - 1))) client.newClient
-      (λ e. ap (λ (n : ℕ). storeReplies (clientIn (getD (s .clients) n emptySession) (repliesAt r n))) (less-one i)
+      (λ e. ap (λ (n : ℕ). storeReplies (clientIn (getD (s .clients) n emptySession) (repliesAt r n)))
+      (less-one i)
       ∙ replies-back (s .settings) i (getD (s .clients) i emptySession) (repliesAt r i) (f .client i less))
       (λ e. absurd (true-or-false (isOf 6 (suc i)) (of-range 6 (suc i) (omega arith) less) e))
 

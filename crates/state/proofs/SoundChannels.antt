@@ -1,4 +1,7 @@
 -- Sound channels hold messages that go their way, and messages that go their way are sound when they are stored.
+--
+-- Why: the channels' own test asks of each message that it is well formed and goes its way. Kind by kind that is
+-- what a client or a server sends (`goes-up`, `goes-down`), and back (`client-goes`, `server-goes`).
 -- Assumes nothing.
 use mathlib.Core.Path.{_≡_, refl, sym, ap, _∙_}
 use mathlib.Core.Bool.{Bool, true, false}
@@ -62,13 +65,16 @@ server-goes (WriteAck c) h = refl
 
 -- ---- a test of all elements, member by member
 
-all-member : {A : Type 0} (p : A → Bool) (l : List A) → all (map p l) ≡ true → (m : A) → Member m l → p m ≡ true
+all-member : {A : Type 0} (p : A → Bool) (l : List A) → all (map p l) ≡ true → (m : A) → Member m l
+    → p m ≡ true
 all-member p (x ∷ xs) h m (inl e) = ap p e ∙ both (p x) (all (map p xs)) h .0
 all-member p (x ∷ xs) h m (inr n) = all-member p xs (both (p x) (all (map p xs)) h .1) m n
 
-member-all : {A : Type 0} (p : A → Bool) (l : List A) → ((m : A) → Member m l → p m ≡ true) → all (map p l) ≡ true
+member-all : {A : Type 0} (p : A → Bool) (l : List A) → ((m : A) → Member m l → p m ≡ true)
+    → all (map p l) ≡ true
 member-all p [] h = refl
-member-all p (x ∷ xs) h = both-of (p x) (all (map p xs)) (h x (inl refl)) (member-all p xs (λ m n. h m (inr n)))
+member-all p (x ∷ xs) h =
+    both-of (p x) (all (map p xs)) (h x (inl refl)) (member-all p xs (λ m n. h m (inr n)))
 
 -- ---- a channel of sound memory
 

@@ -1,5 +1,5 @@
--- A sound client's place: its session and its replies hold a well-formed client, the client at setup where there is none, and
--- storing what they hold gives the replies back.
+-- A sound client's place: its session and its replies hold a well-formed client, the client at setup where
+-- there is none, and storing what they hold gives the replies back.
 --
 -- The client's own test speaks of numbers in memory; here each is read as what it says of the client.
 -- Assumes nothing.
@@ -37,6 +37,7 @@ use Rattle.state.specs.declared.Settings.{Settings}
 use Rattle.register.specs.Formats.{formats}
 use Rattle.state.specs.State.{settingsOf, clientIn}
 use Rattle.state.specs.Sound.{clientEnd, isClientSound}
+use Rattle.state.proofs.Ranges.{and-false}
 use Rattle.state.proofs.Orders.{rising-ordered, every-place}
 use Rattle.state.proofs.SoundServer.{server-place}
 
@@ -49,10 +50,6 @@ or-else false b h e = h
 pub or-first : (a b : Bool) → a || b ≡ true → b ≡ false → a ≡ true
 or-first true b h e = refl
 or-first false b h e = absurd (true-or-false b h e)
-
-pub and-false : (a : Bool) → a && false ≡ false
-and-false true = refl
-and-false false = refl
 
 idle-is : (p : Phase) → isIdle p ≡ true → p ≡ Idle
 unfolding isIdle
@@ -94,19 +91,22 @@ module _ (t : Settings) (i : ℕ) (c : Session) (l : List ℕ) (h : isClientSoun
   pub end-sound : isSound (clientEnd t i c) l ≡ true
   unfolding isClientSound
   end-sound =
-      both (isSound (clientEnd t i c) l) (ltb i (t .clients) || (isIdle (c .phase) && eqb (c .reads .0) 0)) h .0
+      both (isSound (clientEnd t i c) l) (ltb i (t .clients) || (isIdle (c .phase) && eqb (c .reads .0) 0))
+      h .0
 
   both-sound : (isSoundClient (clientEnd t i c) ≡ true)
       × (areSound (3 * t .f + 1) (isReading (c .phase)) (stores (c .phase)) l ≡ true)
   unfolding isSound
   both-sound =
-      both (isSoundClient (clientEnd t i c)) (areSound (3 * t .f + 1) (isReading (c .phase)) (stores (c .phase)) l) end-sound
+      both (isSoundClient (clientEnd t i c))
+      (areSound (3 * t .f + 1) (isReading (c .phase)) (stores (c .phase)) l) end-sound
 
   -- a place that is not used
   at-rest : ltb i (t .clients) ≡ false → (c .phase ≡ Idle) × (c .reads .0 ≡ 0)
   unfolding isClientSound
   at-rest e =
-      let a = both (isSound (clientEnd t i c) l) (ltb i (t .clients) || (isIdle (c .phase) && eqb (c .reads .0) 0)) h in
+      let a = both (isSound (clientEnd t i c) l)
+      (ltb i (t .clients) || (isIdle (c .phase) && eqb (c .reads .0) 0)) h in
       let b = both (isIdle (c .phase)) (eqb (c .reads .0) 0)
       (or-else (ltb i (t .clients)) (isIdle (c .phase) && eqb (c .reads .0) 0) (a .1) e) in
       (idle-is (c .phase) (b .0), eqb-true (c .reads .0) 0 (b .1))
@@ -116,7 +116,8 @@ module _ (t : Settings) (i : ℕ) (c : Session) (l : List ℕ) (h : isClientSoun
   unfolding isSoundClient
   own =
       let q = each
-      (leb 1 (suc i) ∷ leb (suc i) 6 ∷ leb (t .f) 4 ∷ ltb (c .reads .0) (2 ^ 20) ∷ isSoundPhase (c .phase) ∷ [])
+      (leb 1 (suc i) ∷ leb (suc i) 6 ∷ leb (t .f) 4
+      ∷ ltb (c .reads .0) (2 ^ 20) ∷ isSoundPhase (c .phase) ∷ [])
       (both-sound .0) in
       (ltb-true (c .reads .0) (2 ^ 20) (q .1 .1 .1 .0), well-phase (c .phase) (q .1 .1 .1 .1 .0))
 
@@ -188,7 +189,8 @@ module _ (t : Settings) (i : ℕ) (c : Session) (l : List ℕ) (h : isClientSoun
   acks-idle apart zero = refl
   acks-idle apart (suc j) =
       ack-none j
-      (ap (λ (b : Bool). ltb j (3 * t .f + 1) && b) (no-store (c .phase) apart) ∙ and-false (ltb j (3 * t .f + 1)))
+      (ap (λ (b : Bool). ltb j (3 * t .f + 1) && b) (no-store (c .phase) apart)
+      ∙ and-false (ltb j (3 * t .f + 1)) false refl)
 
   module _ (words : (x : ℕ) → x < 91 → getD l x 0 < 2 ^ 64) where
     set-pairs : (j : ℕ) → j < 13 → (p : Pair) → Member p (setIn l (suc j)) → p .0 < 2 ^ 64
@@ -229,7 +231,8 @@ module _ (t : Settings) (i : ℕ) (c : Session) (l : List ℕ) (h : isClientSoun
   unused-client e =
       let p = at-rest e in
       let quiet : (k : ℕ) → isServer (settingsOf t) k && isReading (c .phase) ≡ false =
-      λ k. ap (λ (ph : Phase). isServer (settingsOf t) k && isReading ph) (p .0) ∙ and-false (isServer (settingsOf t) k) in
+      λ k. ap (λ (ph : Phase). isServer (settingsOf t) k && isReading ph) (p .0)
+      ∙ and-false (isServer (settingsOf t) k) false refl in
       let apart : (x : Entry) (w : WriteCounter) → c .phase ≡ Storing x w → ⊥ =
       λ x w z. let q : Idle ≡ Storing x w = sym (p .0) ∙ z in clash (cc) in
       let notes : notedIn l ≡ (λ (k : ℕ). none) = fun-ext (λ k. noted-unused k (quiet k)) in

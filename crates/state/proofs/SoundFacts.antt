@@ -1,4 +1,7 @@
 -- The tests of soundness as facts, and back.
+--
+-- Why: a list of tests passes where each does (`each`, `all-of`), and a test of all places below n where it
+-- passes at each place (`below`, `below-of`).
 -- Assumes nothing.
 use mathlib.Core.Path.{_≡_, refl, ap}
 use mathlib.Core.Bool.{Bool, true, false, _&&_}
@@ -19,8 +22,10 @@ use Rattle.state.specs.declared.Settings.{Settings}
 use Rattle.state.specs.declared.System.{System}
 use Rattle.state.specs.State.{settingsOf, repliesAt, emptyServer, emptySession}
 use Rattle.state.specs.Sound.{isNone, areAllowed, lengthTests, areLong, isServerSound, areServersSound}
-use Rattle.state.specs.Sound.{isClientSound, areWords, areClientsSound, isLinkSound, areLinksSound, areChannelsSound}
+use Rattle.state.specs.Sound.{isClientSound, areWords, areClientsSound, isLinkSound, areLinksSound}
+use Rattle.state.specs.Sound.{areChannelsSound}
 use Rattle.state.specs.Sound.{soundTests, isSound}
+use Rattle.state.proofs.Ranges.{and-false}
 
 pub record Allowed (t : Settings) : Type 0 where
   pub accepted : Accepted (settingsOf t)
@@ -48,7 +53,10 @@ pub allowed-facts : (t : Settings) → areAllowed t ≡ true → Allowed t
 unfolding areAllowed
 allowed-facts t h =
     let p = both (isNone (setupRefusal (settingsOf t))) (ltb (t .faulty) (2 ^ 13)) h in
-    record { accepted = none-is (setupRefusal (settingsOf t)) (p .0); marked = ltb-true (t .faulty) (2 ^ 13) (p .1) }
+    record {
+      accepted = none-is (setupRefusal (settingsOf t)) (p .0);
+      marked = ltb-true (t .faulty) (2 ^ 13) (p .1);
+    }
 
 pub allowed-of : (t : Settings) → Allowed t → areAllowed t ≡ true
 unfolding areAllowed
@@ -65,11 +73,7 @@ allowed-six t h = bounds (settingsOf t) (allowed-facts t h .accepted) .sixClient
 pub one-false : (bs : List Bool) (k : ℕ) → getD bs k true ≡ false → all bs ≡ false
 one-false [] k e = absurd (true-or-false true refl e)
 one-false (x ∷ bs) zero e = rw e
-one-false (x ∷ bs) (suc k) e = rw (one-false bs k e) (neither x)
-  where
-    neither : (a : Bool) → a && false ≡ false
-    neither true = refl
-    neither false = refl
+one-false (x ∷ bs) (suc k) e = rw (one-false bs k e) (and-false x false refl)
 
 -- five tests that pass before the last
 pub all-six : {a b c d e x : Bool} → a ≡ true → b ≡ true → c ≡ true → d ≡ true → e ≡ true
@@ -81,7 +85,8 @@ all-six {a} {b} {c} {d} {e} {x} p q r s t = rw (p, q, r, s, t) (alone x)
     alone false = refl
 
 module _ (s : System) (b r : List ℕ) where
-  pub lengths-of : length (s .servers) ≡ 13 → length (s .clients) ≡ 6 → length b ≡ 13884 → length r ≡ 546 → areLong s b r ≡ true
+  pub lengths-of : length (s .servers) ≡ 13 → length (s .clients) ≡ 6 → length b ≡ 13884 → length r ≡ 546
+      → areLong s b r ≡ true
   unfolding areLong
   lengths-of v c n m =
       all-of (lengthTests s b r) (
@@ -148,7 +153,8 @@ module _ (s : System) (b r : List ℕ) where
                     (below-of client-test 6 (f .client)),
                 (
                   both-of (allBelow row-test 6) (sound b)
-                      (below-of row-test 6 (λ i a. below-of (link-test i) 13 (λ j e. f .link i j a e))) (f .channels),
+                      (below-of row-test 6 (λ i a. below-of (link-test i) 13 (λ j e. f .link i j a e)))
+                      (f .channels),
                   tt,
                 ),
               ),

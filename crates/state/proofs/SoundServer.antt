@@ -1,7 +1,8 @@
--- A sound server's place: it holds a well-formed server, the server at setup where it is not used, and storing what is seen
--- there gives it back.
+-- A sound server's place: it holds a well-formed server, the server at setup where it is not used, and
+-- storing what is seen there gives it back.
 --
--- A set below 2 ^ n has no member above n (`outside`), and a set with no member above n is below 2 ^ n (`set-fits`).
+-- A set below 2 ^ n has no member above n (`outside`), and a set with no member above n is below 2 ^ n
+-- (`set-fits`).
 -- Assumes nothing.
 use mathlib.Core.Path.{_≡_, refl, ap, fun-ext, _∙_}
 use mathlib.Core.Bool.{Bool, true, false, not, _&&_}
@@ -65,12 +66,14 @@ module _ (t : Settings) where
   unfolding isClient settingsOf
   client-place i = rw (le-leb 1 (suc i) (omega arith))
 
-  pub honest-place : (j : ℕ) → isHonest (settingsOf t) (suc j) ≡ ltb j (3 * t .f + 1) && not (contains (t .faulty) (suc j))
+  pub honest-place : (j : ℕ)
+      → isHonest (settingsOf t) (suc j) ≡ ltb j (3 * t .f + 1) && not (contains (t .faulty) (suc j))
   unfolding isHonest settingsOf
   honest-place j = rw (server-place j)
 
   -- no one else is in a set below 2 ^ clients
-  pub no-client : (set : ℕ) → set < 2 ^ t .clients → (d : ℕ) → isClient (settingsOf t) d ≡ false → contains set d ≡ false
+  pub no-client : (set : ℕ) → set < 2 ^ t .clients → (d : ℕ) → isClient (settingsOf t) d ≡ false
+      → contains set d ≡ false
   unfolding isClient settingsOf
   no-client set small d e = outside (t .clients) set small d e
 
@@ -92,7 +95,10 @@ module _ (t : Settings) (j : ℕ) (v : Server) (h : isServerSound t j v ≡ true
   held =
       by-test (isHonest (settingsOf t) (suc j))
       (λ e. let p = both (ltb (v .pair .0) (2 ^ 64)) (ltb (v .readers) (2 ^ t .clients)) (rw e at h) in
-      record { pair = ltb-true (v .pair .0) (2 ^ 64) (p .0); readers = ltb-true (v .readers) (2 ^ t .clients) (p .1) })
+      record {
+        pair = ltb-true (v .pair .0) (2 ^ 64) (p .0);
+        readers = ltb-true (v .readers) (2 ^ t .clients) (p .1);
+      })
       (λ e. let p = unused e in
       let positive : 0 < 2 ^ t .clients = pow-pos (t .clients) in
       record { pair = omega (arith, p .0); readers = omega (arith, p .1, positive) })

@@ -1,7 +1,8 @@
 -- A client is found again in its phase, its read number and its stored replies.
 --
--- Its noted timestamps, the sizes of its sets, its acknowledgements and the pairs of its sets are the four rows of its replies.
--- What a memory shows of a server is read from these rows; of what is no server it shows nothing, and the client holds nothing.
+-- Its noted timestamps, the sizes of its sets, its acknowledgements and the pairs of its sets are the four
+-- rows of its replies. What a memory shows of a server is read from these rows; of what is no server it shows
+-- nothing, and the client holds nothing.
 -- Assumes nothing.
 use mathlib.Core.Path.{_≡_, refl, sym, ap, fun-ext, _∙_}
 use mathlib.Core.Bool.{Bool, true, false, not}
@@ -35,7 +36,8 @@ module _ (a b c d : List ℕ) (la : length a ≡ 13) (lb : length b ≡ 13) (lc 
 
   first : (i : ℕ) → i < 13 → getD (a ++ b ++ c ++ d) i 0 ≡ getD a i 0
   first i h =
-      List·getD-append (a ++ b ++ c) d 0 i (omega (arith, three)) ∙ List·getD-append (a ++ b) c 0 i (omega (arith, two))
+      List·getD-append (a ++ b ++ c) d 0 i (omega (arith, three))
+      ∙ List·getD-append (a ++ b) c 0 i (omega (arith, two))
       ∙ List·getD-append a b 0 i (omega arith)
 
   second : (i : ℕ) → i < 13 → getD (a ++ b ++ c ++ d) (13 + i) 0 ≡ getD b i 0
@@ -50,7 +52,8 @@ module _ (a b c d : List ℕ) (la : length a ≡ 13) (lb : length b ≡ 13) (lc 
       ∙ ap (λ (n : ℕ). getD (a ++ b ++ c) (n + i) 0) (sym two) ∙ getD-append-add (a ++ b) c i 0
 
   fourth : (i : ℕ) → getD (a ++ b ++ c ++ d) (39 + i) 0 ≡ getD d i 0
-  fourth i = ap (λ (n : ℕ). getD (a ++ b ++ c ++ d) (n + i) 0) (sym three) ∙ getD-append-add (a ++ b ++ c) d i 0
+  fourth i =
+      ap (λ (n : ℕ). getD (a ++ b ++ c ++ d) (n + i) 0) (sym three) ∙ getD-append-add (a ++ b ++ c) d i 0
 
 -- ---- a client
 
@@ -143,7 +146,8 @@ module _ (x : Client) where
         each : (k : ℕ) → notedIn (storeReplies x) k ≡ x .noted k
         each zero = sym (p .noted 0 refl)
         each (suc i) =
-            by-test (ltb i 13) (λ h. noted-found i (ltb-true i 13 h)) (λ h. rw (h, p .noted (suc i) (over i h)))
+            by-test (ltb i 13) (λ h. noted-found i (ltb-true i 13 h))
+            (λ h. rw (h, p .noted (suc i) (over i h)))
 
     sets-is : setIn (storeReplies x) ≡ x .sets
     unfolding setIn
@@ -152,7 +156,8 @@ module _ (x : Client) where
         each : (k : ℕ) → setIn (storeReplies x) k ≡ x .sets k
         each zero = sym (p .sets 0 refl)
         each (suc i) =
-            by-test (ltb i 13) (λ h. set-found i (ltb-true i 13 h) (p .few (suc i))) (λ h. rw (h, p .sets (suc i) (over i h)))
+            by-test (ltb i 13) (λ h. set-found i (ltb-true i 13 h) (p .few (suc i)))
+            (λ h. rw (h, p .sets (suc i) (over i h)))
 
     acks-is : ackIn (storeReplies x) ≡ x .acks
     unfolding ackIn
@@ -164,4 +169,11 @@ module _ (x : Client) where
             by-test (ltb i 13) (λ h. acks-found i (ltb-true i 13 h)) (λ h. rw (h, p .acks (suc i) (over i h)))
 
     pub held-client : held (x .phase) (x .reads) (storeReplies x) ≡ x
-    held-client = λ i. record { phase = x .phase; reads = x .reads; noted = noted-is i; sets = sets-is i; acks = acks-is i }
+    held-client =
+        λ i. record {
+          phase = x .phase;
+          reads = x .reads;
+          noted = noted-is i;
+          sets = sets-is i;
+          acks = acks-is i;
+        }

@@ -1,4 +1,7 @@
 -- The stored replies of a well-formed client are sound, and all their numbers have 64 bits.
+--
+-- Why: what a well-formed client holds of a server keeps the bounds that soundness asks, and is nothing where
+-- the server or the phase has no use for it. Each number of the four rows is one of these.
 -- Assumes nothing.
 use mathlib.Core.Path.{_≡_, refl, sym, ap, _∙_}
 use mathlib.Core.Bool.{Bool, true, false, cond, _&&_}
@@ -30,7 +33,8 @@ use Rattle.register.specs.Formats.{formats}
 use Rattle.state.specs.State.{settingsOf}
 use Rattle.state.proofs.Orders.{ordered-rising, place-every, every-join}
 use Rattle.state.proofs.SoundServer.{server-place}
-use Rattle.state.proofs.StoredClient.{stored-length, note-word, size-word, ack-word, word-at, set-found}
+use Rattle.state.proofs.StoredClient.{stored-length, note-word, size-word, ack-word, word-at}
+use Rattle.state.proofs.StoredClient.{set-found}
 
 not-storing : (p : Phase) → stores p ≡ false
     → (e : Entry) (c : WriteCounter)
@@ -53,7 +57,8 @@ module _ (t : Settings) (x : Client) (well : WellClient (settingsOf t) formats x
       → isServer (settingsOf t) (suc j) && isReading (x .phase) ≡ false
   reads-it j e = ap (λ (b : Bool). b && isReading (x .phase)) (server-place t j) ∙ e
 
-  noted : (j : ℕ) → noteWord (x .noted (suc j)) ≤ cond (ltb j (3 * t .f + 1) && isReading (x .phase)) (2 ^ 24) 0
+  noted : (j : ℕ) → noteWord (x .noted (suc j))
+      ≤ cond (ltb j (3 * t .f + 1) && isReading (x .phase)) (2 ^ 24) 0
   unfolding noteWord
   noted j =
       by-test (ltb j (3 * t .f + 1) && isReading (x .phase))
@@ -69,7 +74,8 @@ module _ (t : Settings) (x : Client) (well : WellClient (settingsOf t) formats x
   no-ack : (j : ℕ) → ltb j (3 * t .f + 1) && stores (x .phase) ≡ false → x .acks (suc j) ≡ false
   no-ack j e =
       by-either (one-fails (ltb j (3 * t .f + 1)) (stores (x .phase)) e)
-      (λ h. well .acksUnused (suc j) (server-place t j ∙ h)) (λ h. well .acksIdle (not-storing (x .phase) h) (suc j))
+      (λ h. well .acksUnused (suc j) (server-place t j ∙ h))
+      (λ h. well .acksIdle (not-storing (x .phase) h) (suc j))
 
   ack : (j : ℕ) → boolByte (x .acks (suc j)) ≤ cond (ltb j (3 * t .f + 1) && stores (x .phase)) 1 0
   ack j =
@@ -101,7 +107,8 @@ module _ (t : Settings) (x : Client) (well : WellClient (settingsOf t) formats x
   pair-small l k w =
       rw (pair-word l k)
       (by-test (ltb k (length l))
-      (λ e. place-every (λ p. p .0 < 2 ^ 64) initial l k (every-of (λ p. p .0 < 2 ^ 64) l (w .pairs)) (ltb-true k (length l) e))
+      (λ e. place-every (λ p. p .0 < 2 ^ 64) initial l k (every-of (λ p. p .0 < 2 ^ 64) l (w .pairs))
+      (ltb-true k (length l) e))
       (λ e. rw (List·getD-eq-default l initial {n = k} (ltb-false k (length l) e)) (omega arith)))
 
   every-row : (g : ℕ → ℕ) (m : ℕ) → ((i : ℕ) → g i < 2 ^ 64) → Every (λ y. y < 2 ^ 64) (row g m)
@@ -123,8 +130,11 @@ module _ (t : Settings) (x : Client) (well : WellClient (settingsOf t) formats x
       (every-join Small 0 (a ++ b) c
       (every-join Small 0 a b
       (every-row (λ i. noteWord (x .noted (suc i))) 13
-      (λ i. let h : noteWord (x .noted (suc i)) ≤ 2 ^ 24 = note-most (x .noted (suc i)) (well .noted (suc i)) in omega arith))
+      (λ i. let h : noteWord (x .noted (suc i)) ≤ 2 ^ 24 =
+      note-most (x .noted (suc i)) (well .noted (suc i)) in
+      omega arith))
       (every-row (λ i. length (x .sets (suc i))) 13 (λ i. let h = well .sets (suc i) .few in omega arith)))
-      (every-row (λ i. boolByte (x .acks (suc i))) 13 (λ i. let h = byte-most (x .acks (suc i)) in omega arith)))
+      (every-row (λ i. boolByte (x .acks (suc i))) 13
+      (λ i. let h = byte-most (x .acks (suc i)) in omega arith)))
       (every-row (λ i. pairWord (x .sets (suc (i / 4))) (i % 4)) 52
       (λ i. pair-small (x .sets (suc (i / 4))) (i % 4) (well .sets (suc (i / 4)))))

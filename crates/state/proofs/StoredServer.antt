@@ -1,7 +1,7 @@
 -- Sets of clients and servers are found again in what is stored of them.
 --
--- A set of clients 1 to 6 is its bits (`set-is`), so the stopped clients are, and a server's readers. A stored server then sends
--- what the server sends (`sends-is`).
+-- A set of clients 1 to 6 is its bits (`set-is`), so the stopped clients are, and a server's readers. A
+-- stored server then sends what the server sends (`sends-is`).
 -- Assumes nothing.
 use mathlib.Core.Path.{_≡_, refl, sym, ap, fun-ext, _∙_}
 use mathlib.Core.Bool.{Bool, false}
@@ -35,14 +35,16 @@ set-is p none-else = fun-ext each
     each (suc i) =
         by-test (ltb i 6) (λ h. set-of p 6 i (ltb-true i 6 h))
         (λ h. let over : 6 ≤ i = ltb-false i 6 h in
-        set-above (setOf p 6) 6 i (set-lt p 6) over ∙ sym (none-else (suc i) (over-range 6 (suc i) (omega arith))))
+        set-above (setOf p 6) 6 i (set-lt p 6) over
+        ∙ sym (none-else (suc i) (over-range 6 (suc i) (omega arith))))
 
 module _ (S : Settings) (accepted : Accepted S) where
   -- clients are among 1 to 6
   pub no-client : (d : ℕ) → isOf 6 d ≡ false → isClient S d ≡ false
   no-client d h =
       by-test (isClient S d)
-      (λ e. let r = client-small S accepted d e in absurd (true-or-false (isOf 6 d) (of-range 6 d (r .0) (r .1)) h)) (λ e. e)
+      (λ e. let r = client-small S accepted d e in absurd
+      (true-or-false (isOf 6 d) (of-range 6 d (r .0) (r .1)) h)) (λ e. e)
 
   pub stopped-is : (F : Formats) (w : World) → WellFormed S F w → contains (storeStopped w) ≡ w .stopped
   unfolding storeStopped

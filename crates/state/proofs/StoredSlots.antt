@@ -1,4 +1,7 @@
 -- The stored slots of a well-formed world: sound, and each channel is found again in them.
+--
+-- Why: a channel of a well-formed world has at most 8 messages, and they go its way (`fits`, `suit`). That is all
+-- that the laws of the layout ask.
 -- Assumes nothing.
 use mathlib.Core.Path.{_≡_}
 use mathlib.Core.Bool.{true}
@@ -27,14 +30,16 @@ module _ (S : Settings) (F : Formats) (w : World) (well : WellFormed S F w) wher
   unfolding channelOf
   fits c less =
       pick (λ l. length l ≤ 8) (ltb c 78) (w .up (suc (c / 13)) (suc (c % 13)))
-      (w .down (suc ((c - 78) / 13)) (suc ((c - 78) % 13))) (λ e. well .up _ _ .few) (λ e. well .down _ _ .few)
+      (w .down (suc ((c - 78) / 13)) (suc ((c - 78) % 13))) (λ e. well .up _ _ .few)
+      (λ e. well .down _ _ .few)
 
   suit : Suiting (channelOf w)
   unfolding channelOf
   suit c less =
       pick (λ l. all (map (suits c) l) ≡ true) (ltb c 78) (w .up (suc (c / 13)) (suc (c % 13)))
       (w .down (suc ((c - 78) / 13)) (suc ((c - 78) % 13)))
-      (λ e. suits-up c _ (ltb-true c 78 e) (well .up _ _)) (λ e. suits-down c _ (ltb-false c 78 e) (well .down _ _))
+      (λ e. suits-up c _ (ltb-true c 78 e) (well .up _ _))
+      (λ e. suits-down c _ (ltb-false c 78 e) (well .down _ _))
 
   pub slots-long : length (storeSlots w) ≡ 13884
   unfolding storeSlots

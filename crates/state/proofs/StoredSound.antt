@@ -30,8 +30,10 @@ use Rattle.replies.proofs.Soundness as replies
 use Rattle.client.specs.Sound.{isSoundPhase, stores, isSoundClient, isSound}
 use Rattle.state.specs.declared.Settings.{Settings}
 use Rattle.register.specs.Formats.{formats}
-use Rattle.state.specs.State.{settingsOf, upIndex, downIndex, repliesAt, sessionOf, numbered, allReplies}
-use Rattle.state.specs.State.{emptyServer, emptySession, storeStopped, storeSlots, storeAllReplies, storeSystem}
+use Rattle.state.specs.State.{settingsOf, upIndex, downIndex, repliesAt, sessionOf, numbered}
+use Rattle.state.specs.State.{allReplies}
+use Rattle.state.specs.State.{emptyServer, emptySession, storeStopped, storeSlots, storeAllReplies}
+use Rattle.state.specs.State.{storeSystem}
 use Rattle.state.specs.Sound.{clientEnd, isServerSound, isClientSound, usesUp, usesDown, isLinkSound}
 use Rattle.state.specs.Sound as state
 use Rattle.state.proofs.Channels.{store-slots, up-count, down-count}
@@ -97,7 +99,8 @@ module _ (t : Settings) (allowed : Allowed t) (w : World) (well : WellFormed (se
       let x = w .clients (suc i) in
       both-of (isSoundClient (clientEnd t i (sessionOf x)))
       (areSound (3 * t .f + 1) (isReading (x .phase)) (stores (x .phase)) (storeReplies x))
-      (all-of (leb 1 (suc i) ∷ leb (suc i) 6 ∷ leb (t .f) 4 ∷ ltb (x .reads .0) (2 ^ 20) ∷ isSoundPhase (x .phase) ∷ []) (
+      (all-of (leb 1 (suc i) ∷ leb (suc i) 6 ∷ leb (t .f) 4 ∷ ltb (x .reads .0) (2 ^ 20)
+      ∷ isSoundPhase (x .phase) ∷ []) (
         le-leb 1 (suc i) (omega arith),
         (
           le-leb (suc i) 6 less,
@@ -113,43 +116,51 @@ module _ (t : Settings) (allowed : Allowed t) (w : World) (well : WellFormed (se
       (replies.sound (3 * t .f + 1) (isReading (x .phase)) (stores (x .phase)) (storeReplies x)
       (stored-sound t x (well .client (suc i))))
 
-  place-sound : (i : ℕ) → i < 6 → isClientSound t i (sessionOf (w .clients (suc i))) (storeReplies (w .clients (suc i))) ≡ true
+  place-sound : (i : ℕ) → i < 6
+      → isClientSound t i (sessionOf (w .clients (suc i))) (storeReplies (w .clients (suc i))) ≡ true
   unfolding isClientSound isIdle
   place-sound i less =
       let x = w .clients (suc i) in
       both-of (isSound (clientEnd t i (sessionOf x)) (storeReplies x)) _ (end-sound i less)
       (or-of (ltb i (t .clients)) _
-      (λ e. ap (λ (y : Client). isIdle (y .phase) && eqb (y .reads .0) 0) (well .clientUnused (suc i) (client-place t i ∙ e))))
+      (λ e. ap (λ (y : Client). isIdle (y .phase) && eqb (y .reads .0) 0)
+      (well .clientUnused (suc i) (client-place t i ∙ e))))
 
   client-sound : (i : ℕ) → i < 6
-      → isClientSound t i (getD (numbered (λ d. sessionOf (w .clients d)) 6) i emptySession) (repliesAt (storeAllReplies w) i)
+      → isClientSound t i (getD (numbered (λ d. sessionOf (w .clients d)) 6) i emptySession)
+      (repliesAt (storeAllReplies w) i)
       ≡ true
   unfolding storeAllReplies
   client-sound i less =
-      rw (at-place (λ d. sessionOf (w .clients d)) emptySession 6 i less, read-at (w .clients) 6 i less) (place-sound i less)
+      rw (at-place (λ d. sessionOf (w .clients d)) emptySession 6 i less, read-at (w .clients) 6 i less)
+      (place-sound i less)
 
   every-word : (n : ℕ) → Every (λ y. y < 2 ^ 64) (allReplies (w .clients) n)
   unfolding allReplies
   every-word zero = tt
   every-word (suc n) =
-      every-join (λ y. y < 2 ^ 64) 0 (allReplies (w .clients) n) (storeReplies (w .clients (suc n))) (every-word n)
+      every-join (λ y. y < 2 ^ 64) 0 (allReplies (w .clients) n) (storeReplies (w .clients (suc n)))
+      (every-word n)
       (stored-words t (w .clients (suc n)) (well .client (suc n)))
 
   words-small : (i : ℕ) → i < 546 → getD (storeAllReplies w) i 0 < 2 ^ 64
   unfolding storeAllReplies
   words-small i less =
-      place-every (λ y. y < 2 ^ 64) 0 (allReplies (w .clients) 6) i (every-word 6) (omega (arith, all-length (w .clients) 6))
+      place-every (λ y. y < 2 ^ 64) 0 (allReplies (w .clients) 6) i (every-word 6)
+      (omega (arith, all-length (w .clients) 6))
 
   -- ---- the slots
 
   place : (i : ℕ) → suc i - 1 ≡ i
   place i = omega arith
 
-  up-none : (i j : ℕ) → i < 6 → j < 13 → usesUp t i j ≡ false → eqb (countAt (storeSlots w) (upIndex i j)) 0 ≡ true
+  up-none : (i j : ℕ) → i < 6 → j < 13 → usesUp t i j ≡ false
+      → eqb (countAt (storeSlots w) (upIndex i j)) 0 ≡ true
   up-none i j a e h =
       let count : countAt (storeSlots w) (upIndex (suc i - 1) (suc j - 1)) ≡ length (w .up (suc i) (suc j)) =
       ap (λ (b : List ℕ). countAt b (upIndex (suc i - 1) (suc j - 1))) (store-slots w)
-      ∙ up-count (w .up) (w .down) (suc i) (suc j) (record { low = omega arith; high = a; first = omega arith; last = e })
+      ∙ up-count (w .up) (w .down) (suc i) (suc j)
+      (record { low = omega arith; high = a; first = omega arith; last = e })
       (λ d k. well .up d k .few) (λ d k. well .down d k .few) in
       let empty : w .up (suc i) (suc j) ≡ [] =
       well .upUnused (suc i) (suc j) (ap (λ (x : Bool). x && isHonest S (suc j)) (client-place t i) ∙ h) in
@@ -159,9 +170,11 @@ module _ (t : Settings) (allowed : Allowed t) (w : World) (well : WellFormed (se
   down-none : (i j : ℕ) → i < 6 → j < 13 → usesDown t (storeStopped w) i j ≡ false
       → eqb (countAt (storeSlots w) (downIndex i j)) 0 ≡ true
   down-none i j a e h =
-      let count : countAt (storeSlots w) (downIndex (suc i - 1) (suc j - 1)) ≡ length (w .down (suc i) (suc j)) =
+      let count : countAt (storeSlots w) (downIndex (suc i - 1) (suc j - 1))
+      ≡ length (w .down (suc i) (suc j)) =
       ap (λ (b : List ℕ). countAt b (downIndex (suc i - 1) (suc j - 1))) (store-slots w)
-      ∙ down-count (w .up) (w .down) (suc i) (suc j) (record { low = omega arith; high = a; first = omega arith; last = e })
+      ∙ down-count (w .up) (w .down) (suc i) (suc j)
+      (record { low = omega arith; high = a; first = omega arith; last = e })
       (λ d k. well .up d k .few) (λ d k. well .down d k .few) in
       let empty : w .down (suc i) (suc j) ≡ [] =
       by-test (isClient S (suc i) && isServer S (suc j))
@@ -194,7 +207,8 @@ module _ (t : Settings) (allowed : Allowed t) (w : World) (well : WellFormed (se
         link = λ i j a e.
             both-of (eqb (countAt (storeSlots w) (upIndex i j)) 0 || usesUp t i j)
             (eqb (countAt (storeSlots w) (downIndex i j)) 0 || usesDown t (storeStopped w) i j)
-            (or-by _ (usesUp t i j) (up-none i j a e)) (or-by _ (usesDown t (storeStopped w) i j) (down-none i j a e));
+            (or-by _ (usesUp t i j) (up-none i j a e))
+            (or-by _ (usesDown t (storeStopped w) i j) (down-none i j a e));
       }
 
   pub stored-state : state.isSound (storeSystem t w) (storeSlots w) (storeAllReplies w) ≡ true

@@ -1,7 +1,7 @@
 -- A well-formed world is found again in what is stored of it: `view` undoes storing.
 --
--- Each part is: servers and stopped clients (`StoredServer`), clients (`StoredClient`), channels (`StoredSlots`). What has no
--- place was never used, and has its value at setup.
+-- Each part is: servers and stopped clients (`StoredServer`), clients (`StoredClient`), channels
+-- (`StoredSlots`). What has no place was never used, and has its value at setup.
 -- Assumes nothing.
 use mathlib.Core.Path.{_≡_, sym, ap, _∙_}
 use mathlib.Core.Bool.{true, false, _&&_}
@@ -17,7 +17,8 @@ use Rattle.register.proofs.WellFormed.{WellFormed}
 use Rattle.server.specs.State as server
 use Rattle.replies.specs.Replies.{held}
 use Rattle.state.specs.declared.Settings.{Settings}
-use Rattle.state.specs.State.{settingsOf, upIndex, downIndex, isOf, repliesAt, clientIn, sessionOf, channelOf}
+use Rattle.state.specs.State.{settingsOf, upIndex, downIndex, isOf, repliesAt, clientIn, sessionOf}
+use Rattle.state.specs.State.{channelOf}
 use Rattle.state.specs.State.{emptyServer, emptySession, storeSlots, storeAllReplies, storeSystem, view}
 use Rattle.state.proofs.Ranges.{and-false, in-range, of-range}
 use Rattle.state.proofs.Channels.{Inside, up-entry, down-entry, up-inside, down-inside}
@@ -27,7 +28,8 @@ use Rattle.state.proofs.StoredClient.{Placed, held-client}
 use Rattle.state.proofs.StoredServer.{no-client, stopped-is, server-is}
 use Rattle.state.proofs.StoredSlots.{channel-found}
 
-module _ (t : Settings) (accepted : Accepted (settingsOf t)) (w : World) (well : WellFormed (settingsOf t) formats w) where
+module _ (t : Settings) (accepted : Accepted (settingsOf t)) (w : World)
+    (well : WellFormed (settingsOf t) formats w) where
   -- ---- servers and clients
 
   pub no-server : (k : ℕ) → isOf 13 k ≡ false → isServer (settingsOf t) k ≡ false
@@ -52,7 +54,8 @@ module _ (t : Settings) (accepted : Accepted (settingsOf t)) (w : World) (well :
       → clientIn (sessionOf (w .clients d)) (repliesAt (storeAllReplies w) (d - 1)) ≡ w .clients d
   unfolding storeAllReplies
   client-is d low high =
-      ap (λ (l : List ℕ). held (w .clients d .phase) (w .clients d .reads) l) (replies-read (w .clients) d low high)
+      ap (λ (l : List ℕ). held (w .clients d .phase) (w .clients d .reads) l)
+      (replies-read (w .clients) d low high)
       ∙ held-client (w .clients d) (placed d)
 
   no-honest : (k : ℕ) → isServer (settingsOf t) k ≡ false → isHonest (settingsOf t) k ≡ false
@@ -60,7 +63,8 @@ module _ (t : Settings) (accepted : Accepted (settingsOf t)) (w : World) (well :
       by-test (isHonest (settingsOf t) k)
       (λ e. absurd (true-or-false (isServer (settingsOf t) k) (honest-server (settingsOf t) k e) h)) (λ e. e)
 
-  servers-found : (k : ℕ) → view (storeSystem t w) (storeSlots w) (storeAllReplies w) .servers k ≡ w .servers k
+  servers-found : (k : ℕ) → view (storeSystem t w) (storeSlots w) (storeAllReplies w) .servers k
+      ≡ w .servers k
   unfolding view storeSystem
   servers-found k =
       by-test (isOf 13 k)
@@ -69,7 +73,8 @@ module _ (t : Settings) (accepted : Accepted (settingsOf t)) (w : World) (well :
       (server-is (settingsOf t) accepted (w .servers k) (well .server k)))
       (λ e. rw e (sym (well .serverUnused k (no-honest k (no-server k e)))))
 
-  clients-found : (d : ℕ) → view (storeSystem t w) (storeSlots w) (storeAllReplies w) .clients d ≡ w .clients d
+  clients-found : (d : ℕ) → view (storeSystem t w) (storeSlots w) (storeAllReplies w) .clients d
+      ≡ w .clients d
   unfolding view storeSystem
   clients-found d =
       by-test (isOf 6 d)
@@ -94,11 +99,13 @@ module _ (t : Settings) (accepted : Accepted (settingsOf t)) (w : World) (well :
         by-test (isOf 6 d && isOf 13 k)
         (λ e. let i = inside-of e in
         rw e
-        (channel-found (settingsOf t) formats w well (upIndex (d - 1) (k - 1)) (up-inside (w .up) (w .down) d k i)
+        (channel-found (settingsOf t) formats w well (upIndex (d - 1) (k - 1))
+        (up-inside (w .up) (w .down) d k i)
         ∙ up-entry (w .up) (w .down) d k i))
         (λ e. rw e (sym (well .upUnused d k (unused e))))
       where
-        unused : isOf 6 d && isOf 13 k ≡ false → isClient (settingsOf t) d && isHonest (settingsOf t) k ≡ false
+        unused : isOf 6 d && isOf 13 k ≡ false
+            → isClient (settingsOf t) d && isHonest (settingsOf t) k ≡ false
         unused e =
             by-either (one-fails (isOf 6 d) (isOf 13 k) e)
             (λ a. rw (no-client (settingsOf t) accepted d a))
@@ -110,11 +117,13 @@ module _ (t : Settings) (accepted : Accepted (settingsOf t)) (w : World) (well :
         by-test (isOf 6 d && isOf 13 k)
         (λ e. let i = inside-of e in
         rw e
-        (channel-found (settingsOf t) formats w well (downIndex (d - 1) (k - 1)) (down-inside (w .up) (w .down) d k i)
+        (channel-found (settingsOf t) formats w well (downIndex (d - 1) (k - 1))
+        (down-inside (w .up) (w .down) d k i)
         ∙ down-entry (w .up) (w .down) d k i))
         (λ e. rw e (sym (well .downUnused d k (unused e))))
       where
-        unused : isOf 6 d && isOf 13 k ≡ false → isClient (settingsOf t) d && isServer (settingsOf t) k ≡ false
+        unused : isOf 6 d && isOf 13 k ≡ false
+            → isClient (settingsOf t) d && isServer (settingsOf t) k ≡ false
         unused e =
             by-either (one-fails (isOf 6 d) (isOf 13 k) e)
             (λ a. rw (no-client (settingsOf t) accepted d a))

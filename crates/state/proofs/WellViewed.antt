@@ -1,7 +1,7 @@
 -- A sound state stands for a well-formed world.
 --
--- Each place of the world that there is in memory is well formed by its own test, or at setup where it is not used; every other
--- place is at setup by the view.
+-- Each place of the world that there is in memory is well formed by its own test, or at setup where it is not
+-- used; every other place is at setup by the view.
 -- Assumes nothing.
 use mathlib.Core.Path.{_≡_, refl, sym, ap, _∙_}
 use mathlib.Core.Bool.{Bool, true, false, cond, not, _&&_, _||_}
@@ -19,7 +19,8 @@ use Rattle.register.specs.Settings as register
 use Rattle.register.specs.Settings.{isClient, isServer, isHonest}
 use Rattle.register.specs.World.{newWorld}
 use Rattle.register.proofs.Reachable.{well-new}
-use Rattle.register.proofs.WellFormed.{FromClient, FromServer, WellChannel, WellServer, WellClient, WellFormed}
+use Rattle.register.proofs.WellFormed.{FromClient, FromServer, WellChannel, WellServer, WellClient}
+use Rattle.register.proofs.WellFormed.{WellFormed}
 use Rattle.channel.specs.Memory.{countAt}
 use Rattle.channel.specs.Sound.{messages}
 use Rattle.server.specs.State.{contains}
@@ -27,16 +28,18 @@ use Rattle.server.specs.State as server
 use Rattle.state.specs.declared.Settings.{Settings}
 use Rattle.state.specs.declared.System.{System}
 use Rattle.register.specs.Formats.{formats}
-use Rattle.state.specs.State.{settingsOf, upIndex, downIndex, repliesAt, clientIn, isOf, emptyServer, emptySession, view}
+use Rattle.state.specs.State.{settingsOf, upIndex, downIndex, repliesAt, clientIn, isOf, emptyServer}
+use Rattle.state.specs.State.{emptySession, view}
 use Rattle.state.specs.Sound.{usesUp, usesDown, isLinkSound}
-use Rattle.state.proofs.Ranges.{in-range}
+use Rattle.state.proofs.Ranges.{and-false, in-range}
 use Rattle.state.proofs.SoundFacts.{Facts}
 use Rattle.state.proofs.SoundServer.{client-place, no-client, well-server, unused-server}
-use Rattle.state.proofs.SoundClient.{or-first, and-false, well-client, unused-client}
+use Rattle.state.proofs.SoundClient.{or-first, well-client, unused-client}
 use Rattle.state.proofs.SoundChannels.{well-up, well-down, no-messages}
 
 -- one of two, by a test
-pub pick : {A : Type 0} (P : A → Type 0) (t : Bool) (x y : A) → (t ≡ true → P x) → (t ≡ false → P y) → P (cond t x y)
+pub pick : {A : Type 0} (P : A → Type 0) (t : Bool) (x y : A) → (t ≡ true → P x) → (t ≡ false → P y)
+    → P (cond t x y)
 pick P true x y f g = f refl
 pick P false x y f g = g refl
 
@@ -130,7 +133,8 @@ module _ (s : System) (b r : List ℕ) (f : Facts s b r) where
       × (eqb (countAt b (downIndex i j)) 0 || usesDown t (s .stopped) i j ≡ true)
   unfolding isLinkSound
   link i j a e =
-      both (eqb (countAt b (upIndex i j)) 0 || usesUp t i j) (eqb (countAt b (downIndex i j)) 0 || usesDown t (s .stopped) i j)
+      both (eqb (countAt b (upIndex i j)) 0 || usesUp t i j)
+      (eqb (countAt b (downIndex i j)) 0 || usesDown t (s .stopped) i j)
       (f .link i j a e)
 
   up-unused : (d k : ℕ) → isClient S d && isHonest S k ≡ false → view s b r .up d k ≡ []
@@ -142,10 +146,12 @@ module _ (s : System) (b r : List ℕ) (f : Facts s b r) where
       rw (← (client-place t (d - 1)), back-one d (q .0), back-one k (q .2)) h in
       no-messages b (upIndex (d - 1) (k - 1))
       (eqb-true _ 0
-      (or-first _ (usesUp t (d - 1) (k - 1)) (link (d - 1) (k - 1) (omega (arith, q)) (omega (arith, q)) .0) not-used)))
+      (or-first _ (usesUp t (d - 1) (k - 1)) (link (d - 1) (k - 1) (omega (arith, q)) (omega (arith, q)) .0)
+      not-used)))
       (λ e. refl)
 
-  down-none : (d k : ℕ) → (isClient S d && isServer S k) && not (contains (s .stopped) d) ≡ false → view s b r .down d k ≡ []
+  down-none : (d k : ℕ) → (isClient S d && isServer S k) && not (contains (s .stopped) d) ≡ false
+      → view s b r .down d k ≡ []
   unfolding view
   down-none d k h =
       pick (λ x. x ≡ []) (isOf 6 d && isOf 13 k) (messages b (downIndex (d - 1) (k - 1))) []
@@ -171,5 +177,5 @@ module _ (s : System) (b r : List ℕ) (f : Facts s b r) where
         stoppedUnused = no-client t (s .stopped) (f .stopped);
         upUnused = up-unused;
         downUnused = λ d k h. down-none d k (rw h);
-        downDrops = λ d k h. down-none d k (rw h (and-false (isClient S d && isServer S k)));
+        downDrops = λ d k h. down-none d k (rw h (and-false (isClient S d && isServer S k) false refl));
       }

@@ -148,7 +148,8 @@ view s b r =
     record {
       servers = λ k. cond (isOf marks k) (server.view (getD (s .servers) (k - 1) emptyServer)) model.newServer;
       clients =
-          λ d. cond (isOf mostClients d) (clientIn (getD (s .clients) (d - 1) emptySession) (repliesAt r (d - 1))) client.newClient;
+          λ d. cond (isOf mostClients d) (clientIn (getD (s .clients) (d - 1) emptySession) (repliesAt r (d - 1)))
+          client.newClient;
       stopped = contains (s .stopped);
       up = λ d k. cond (isOf mostClients d && isOf marks k) (channelIn b (upIndex (d - 1) (k - 1))) [];
       down = λ d k. cond (isOf mostClients d && isOf marks k) (channelIn b (downIndex (d - 1) (k - 1))) [];

@@ -57,6 +57,7 @@ fn is_mark_fine(t: Settings, i: usize) -> bool
     !is_in(t.faulty, i)
 }
 
+// Whether no server beyond n is marked.
 fn are_marks_fine(t: Settings) -> bool
     ensures { λ r. ⌜ r ≡ allBelow (λ i. leb (suc i) (size (t .f)) || not (contains (t .faulty) (suc i))) 13 ⌝ }
 {
@@ -70,7 +71,7 @@ fn are_marks_fine(t: Settings) -> bool
     true
 }
 
-// Whether f and the clients are in range, and no server beyond n is marked.
+// Whether f and the number of clients are in range, and no server beyond n is marked.
 pub fn is_in_range(t: Settings) -> bool
     ensures { λ r. ⌜ r ≡ inRange (settingsOf t) ⌝ }
 {

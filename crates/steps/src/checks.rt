@@ -5,7 +5,6 @@ ghost use mathlib.Core.Path.{_≡_};
 ghost use Prim.Native.Nat.{_<_, _≤_};
 ghost use Rattle.message.specs.Layout.{unpackOf};
 ghost use Rattle.refusal.specs.Ladder.{lowest};
-ghost use Rattle.register.specs.Client.{isIdle};
 ghost use Rattle.register.specs.Settings.{isClient, isServer};
 ghost use Rattle.register.specs.Steps.{isReply};
 ghost use Rattle.server.specs.State.{contains};
@@ -14,11 +13,9 @@ ghost use Rattle.steps.specs.Checks as checks;
 use crate::transport::down;
 use crate::transport::up;
 use channel::Slots;
-use message::Message;
 use message::Unpacked;
 use message::Words;
 use refusal::Refusal;
-use register::Phase;
 use state::Session;
 use state::Settings;
 use state::is_in;
@@ -64,37 +61,12 @@ fn are_there(t: Settings, d: u32, k: u32) -> bool
     is_server(t, k)
 }
 
-fn is_idle(ph: Phase) -> bool
-    ensures { λ r. ⌜ r ≡ isIdle ph ⌝ }
-{
-    match ph {
-        Phase::Idle => true,
-        Phase::Reading => false,
-        Phase::ReadingForWrite(_) => false,
-        Phase::Storing(_, _) => false,
-    }
-}
-
-// Whether a message is one that a server sends.
-fn is_sent_down(m: Message) -> bool
-    ensures { λ r. ⌜ r ≡ isReply (Unpacked.Good m) ⌝ }
-{
-    match m {
-        Message::GetInfo(_) => false,
-        Message::Info(_, _) => true,
-        Message::Done => false,
-        Message::WriteInfo(_) => false,
-        Message::Fwd(_) => true,
-        Message::WriteAck(_) => true,
-    }
-}
-
-// Whether two words are such a message.
+// Whether two words are a message that a server sends.
 fn is_reply(w: Words) -> bool
     ensures { λ r. ⌜ r ≡ isReply (unpackOf (bytesIn w)) ⌝ }
 {
     match message::of_words(w) {
-        Unpacked::Good(m) => is_sent_down(m),
+        Unpacked::Good(m) => client::is_reply(m),
         Unpacked::Bad => false,
     }
 }
@@ -111,7 +83,7 @@ pub fn start_check(t: Settings, stopped: u8, c: Session, d: u32) -> Check
         return Check::Refused(Refusal::Stopped);
     }
     let ph = c.phase;
-    if !is_idle(ph) {
+    if !client::is_idle(ph) {
         return Check::Refused(Refusal::Busy);
     }
     Check::Passed

@@ -220,12 +220,12 @@ fn serve_oldest(
     let from = up(i, j);
     let served = server::after(v, d as u8, oldest(b, from));
     let sends = served.sends;
+    let next = served.server;
     if !has_room_down(t, stopped, b, j, d as u8, sends) {
         return refused(Refusal::FullChannel, stopped, v, c);
     }
     channel::take(b, from);
     reply(stopped, b, i, j, sends);
-    let next = served.server;
     Change {
         answer: Answer::Went,
         stopped: stopped,

@@ -1,4 +1,6 @@
 -- Any bytes as two words: eleven bytes are found again in them, and no others stand for a message.
+--
+-- Why: the first word of eleven bytes has 24 bits, and the one that stands for all others has 25.
 -- Assumes nothing.
 use mathlib.Core.Path.{_≡_, ap, _∙_}
 use mathlib.Core.Bool.{true, cond}

@@ -1,9 +1,11 @@
--- The places that a step is given parts of: they are within the 13 servers and the 6 clients, and they are those of the server and
--- the client that the step changes, where there are such.
+-- The places that a step is given parts of: they are within the 13 servers and the 6 clients, and they are those
+-- of the server and the client that the step changes, where there are such.
+--
+-- Why: a number from 1 to n has the place before it, and every other number the first place.
 -- Assumes nothing.
-use mathlib.Core.Path.{_≡_, refl, sym}
-use mathlib.Core.Bool.{Bool, true, false, cond, _&&_}
-use Prim.Native.Nat.{ℕ, suc, _-_, _≤_, _<_}
+use mathlib.Core.Path.{_≡_}
+use mathlib.Core.Bool.{true}
+use Prim.Native.Nat.{ℕ, suc, _≤_, _<_}
 use native.Mathlib.Omega.{arith}
 use Rattle.basics.proofs.Cases.{by-test, both}
 use Rattle.register.specs.declared.Step.{Step}

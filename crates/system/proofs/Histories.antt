@@ -1,9 +1,9 @@
--- Steps one after the other, from an accepted setup: the answers and states that they give are those of the history, and a
--- state stays sound.
+-- Steps one after the other, from an accepted setup: the answers and states that they give are those of the
+-- history, and a state stays sound.
 --
--- A stored world is sound and its view is the world (`state`), so a step of it is the model's, stored (`stored-stepped`). The
--- next world is well formed again (`register`), and so on along the list (`along-is`). So demand 3 speaks of the answers that
--- the steps gave (`demand-three`).
+-- A stored world is sound and its view is the world (`state`), so a step of it is the model's, stored
+-- (`stored-stepped`). The next world is well formed again (`register`), and so on along the list
+-- (`along-is`). So demand 3 speaks of the answers that the steps gave (`demand-three`).
 -- Assumes nothing.
 use mathlib.Core.Path.{_≡_, refl, sym, ap, _∙_}
 use mathlib.Core.Bool.{true}
@@ -32,8 +32,10 @@ use Rattle.system.specs.Step.{Result, result, storedBy, eventIn, stepped
 
 -- ---- one step of a stored world
 
-module _ (t : Settings) (allowed : Allowed t) (w : World) (well : WellFormed (settingsOf t) formats w) (x : Step) where
-  pub stored-stepped : stepped (storeSystem t w) (storeSlots w) (storeAllReplies w) x ≡ storedBy t w (eventIn t w x)
+module _ (t : Settings) (allowed : Allowed t) (w : World) (well : WellFormed (settingsOf t) formats w)
+    (x : Step) where
+  pub stored-stepped : stepped (storeSystem t w) (storeSlots w) (storeAllReplies w) x
+      ≡ storedBy t w (eventIn t w x)
   unfolding stepped storeSystem
   stored-stepped =
       rw (stored-state t allowed w well)

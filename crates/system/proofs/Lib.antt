@@ -3,7 +3,6 @@ pub mod Turn
 pub mod RunLaws
 pub mod ReadyLaws
 pub mod SetupLaws
-pub mod OnRuns
 pub mod StepLaws
 pub mod Histories
 pub mod Bytes

@@ -1,7 +1,7 @@
 -- A sound state has what a step asks of the parts that it is given; so has the state of a well-formed world.
 --
--- Why: soundness tests every server and every client with its replies (`state`), those at the step's places among them; and D is
--- given the client that it names.
+-- Why: soundness tests every server and every client with its replies (`state`), those at the step's places
+-- among them; and D is given the client that it names.
 -- Assumes nothing.
 use mathlib.Core.Path.{_≡_, refl, sym, ap, subst, _∙_}
 use mathlib.Core.Bool.{true, _&&_}
@@ -14,27 +14,25 @@ use Rattle.basics.proofs.Cases.{both}
 use Rattle.register.specs.declared.Step.{Step}
 use Rattle.register.specs.declared.Step.the-variants as code
 use Rattle.register.specs.Formats.{formats}
-use Rattle.register.specs.Settings.{Accepted, isClient, isServer}
+use Rattle.register.specs.Settings.{isClient, isServer}
 use Rattle.register.specs.World.{World}
 use Rattle.register.proofs.Bounds.{bounds, client-small}
 use Rattle.register.proofs.WellFormed.{WellFormed}
 use Rattle.server.specs.declared.Server.{Server}
-use Rattle.client.specs.declared.Client.{Client}
 use Rattle.client.specs.Sound as client
 use Rattle.state.specs.declared.Session.{Session}
 use Rattle.state.specs.declared.Settings.{Settings}
 use Rattle.state.specs.declared.System.{System}
-use Rattle.state.specs.Sound.{clientEnd}
-use Rattle.state.specs.State.{settingsOf, repliesAt, emptyServer, emptySession, storeSystem, storeSlots, storeAllReplies}
+use Rattle.state.specs.State.{settingsOf, repliesAt, emptyServer, emptySession, storeSystem, storeSlots}
 use Rattle.state.proofs.Ranges.{of-range}
 use Rattle.state.proofs.SoundClient.{end-sound}
 use Rattle.state.proofs.SoundFacts.{Allowed, Facts}
 use Rattle.state.proofs.SoundServer.{below-six, server-sound}
 use Rattle.state.proofs.StoredSound.{stored-facts}
 use Rattle.steps.specs.Ready.{Ready, clientFor}
-use Rattle.system.specs.Ends.{placeOf, serverPlace, clientPlace}
+use Rattle.system.specs.Ends.{serverPlace, clientPlace}
 use Rattle.system.specs.Stored.{Stored}
-use Rattle.system.proofs.EndLaws.{server-within, client-within}
+use Rattle.system.proofs.EndLaws.{server-within}
 
 -- a place that there is holds the same, whatever stands for what is past the end
 any-default : {A : Type 0} (l : List A) (i : ℕ) (a e : A) → i < length l → getD l i a ≡ getD l i e
@@ -58,7 +56,8 @@ module _ (s : System) (b r : List ℕ) (f : Facts s b r) where
   client-at i less c = any-default (s .clients) i c emptySession (omega (arith, f .clients))
 
   -- the client that D names
-  client-of : (d k : ℕ) → isClient (settingsOf (s .settings)) d && isServer (settingsOf (s .settings)) k ≡ true
+  client-of : (d k : ℕ) → isClient (settingsOf (s .settings)) d && isServer (settingsOf (s .settings)) k
+      ≡ true
       → (1 ≤ d) × (d ≤ 6)
   client-of d k h =
       client-small (settingsOf (s .settings)) (f .allowed .accepted) d
@@ -71,13 +70,15 @@ module _ (s : System) (b r : List ℕ) (f : Facts s b r) where
       (end-sound (s .settings) i (getD (s .clients) i emptySession) (repliesAt r i) (f .client i less))
 
   client-sound : (d k : ℕ) → (1 ≤ d) × (d ≤ 6) → (c : Session)
-      → client.isSound (clientFor (s .settings) (getD (s .clients) (clientPlace (code.D d k)) c) d) (repliesAt r (d - 1)) ≡ true
+      → client.isSound (clientFor (s .settings) (getD (s .clients) (clientPlace (code.D d k)) c) d)
+      (repliesAt r (d - 1)) ≡ true
   unfolding clientPlace
   client-sound d k within c =
       let n : suc (d - 1) ≡ d = omega arith in
       rw (of-range 6 d (within .0) (within .1))
       (subst
-      (λ (m : ℕ). client.isSound (clientFor (s .settings) (getD (s .clients) (d - 1) c) m) (repliesAt r (d - 1)) ≡ true) n
+      (λ (m : ℕ). client.isSound (clientFor (s .settings) (getD (s .clients) (d - 1) c) m)
+      (repliesAt r (d - 1)) ≡ true) n
       (sound-at (d - 1) (omega arith) c))
 
   pub ready : (x : Step) (j i : ℕ) → j ≡ serverPlace x → i ≡ clientPlace x → (v : Server) (c : Session)
@@ -94,7 +95,8 @@ module _ (s : System) (b r : List ℕ) (f : Facts s b r) where
         long = f .replies;
         client = λ d k is there.
             subst
-            (λ (n : ℕ). client.isSound (clientFor (s .settings) (getD (s .clients) n c) d) (repliesAt r (d - 1)) ≡ true)
+            (λ (n : ℕ). client.isSound (clientFor (s .settings) (getD (s .clients) n c) d)
+            (repliesAt r (d - 1)) ≡ true)
             (sym (ei ∙ ap clientPlace is)) (client-sound d k (client-of d k there) c);
       }
 
@@ -106,9 +108,11 @@ module _ (t : Settings) (allowed : Allowed t) (w : World) (well : WellFormed (se
     stored-is =
         subst (λ (z : System). Facts z b r) (sym (st .system))
         (subst (λ (z : List ℕ). Facts (storeSystem t w) z r) (sym (st .slots))
-        (subst (λ (z : List ℕ). Facts (storeSystem t w) (storeSlots w) z) (sym (st .replies)) (stored-facts t allowed w well)))
+        (subst (λ (z : List ℕ). Facts (storeSystem t w) (storeSlots w) z) (sym (st .replies))
+        (stored-facts t allowed w well)))
 
-    pub ready-stored : (x : Step) (j i : ℕ) → j ≡ serverPlace x → i ≡ clientPlace x → (v : Server) (c : Session)
+    pub ready-stored : (x : Step) (j i : ℕ) → j ≡ serverPlace x → i ≡ clientPlace x
+        → (v : Server) (c : Session)
         → Ready t (s .stopped) (getD (s .servers) j v) (getD (s .clients) i c) r x
     unfolding storeSystem
     ready-stored x j i ej ei v c =

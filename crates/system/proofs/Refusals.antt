@@ -1,7 +1,8 @@
--- A refused step leaves the state and the lent memory as they were (01: 'state and lent memory keep their contents').
+-- A refused step leaves the state and the lent memory as they were (01: 'state and lent memory keep their
+-- contents').
 --
--- No event but a refusal answers with one: what a client takes is shown, written, spent or goes on. A refusal changes no part
--- of the world, and the stored form of a sound state's world is that state.
+-- No event but a refusal answers with one: what a client takes is shown, written, spent or goes on. A refusal
+-- changes no part of the world, and the stored form of a sound state's world is that state.
 -- Assumes nothing.
 use mathlib.Core.Path.{_≡_, ap, _∙_}
 use mathlib.Core.Bool.{true}
@@ -16,7 +17,8 @@ use Rattle.register.specs.declared.Step.{Step}
 use Rattle.register.specs.Client.{Client, Taken}
 use Rattle.register.specs.Settings.{Settings}
 use Rattle.register.specs.World.{World, Event, refuses, begins, serves, takes, stops, lies, apply, answerOf}
-use Rattle.register.specs.World.{nextServers, nextClients, nextStopped, nextUp, nextDown, leavesUp, leavesDown}
+use Rattle.register.specs.World.{nextServers, nextClients, nextStopped, nextUp, nextDown, leavesUp}
+use Rattle.register.specs.World.{leavesDown}
 use Rattle.register.specs.World.{putsUp, putsDown}
 use Rattle.register.proofs.Dropping.{nothing-put}
 use Rattle.register.proofs.Outcomes.{Outcome, dropped, waits, shows, spends, sends, acks, ends, outcome}
@@ -29,7 +31,8 @@ use Rattle.system.specs.Step.{Result, result, storedBy, eventIn, stepped
 
 module _ (S : Settings) (w : World) where
   -- a client that takes a message does not refuse
-  goes : (d : ℕ) (x : Client) (k : ℕ) (m : Message) (o : Taken) (n : Refusal) → Outcome S d x k m o → o .answer ≡ Refused n → ⊥
+  goes : (d : ℕ) (x : Client) (k : ℕ) (m : Message) (o : Taken) (n : Refusal) → Outcome S d x k m o
+      → o .answer ≡ Refused n → ⊥
   goes d x k m o n (dropped u) e = clash (cc)
   goes d x k m o n (waits y g r c) e = clash (cc)
   goes d x k m o n (shows y p g h c) e = clash (cc)
@@ -43,7 +46,8 @@ module _ (S : Settings) (w : World) where
   refused-event (refuses r) n h = let z : r ≡ n = cc in ap refuses z
   refused-event (begins c ph) n h = clash (cc)
   refused-event (serves j c m ms) n h = clash (cc)
-  refused-event (takes c j m ms) n h = absurd (goes c (w .clients c) j m _ n (outcome S c (w .clients c) j m) h)
+  refused-event (takes c j m ms) n h =
+      absurd (goes c (w .clients c) j m _ n (outcome S c (w .clients c) j m) h)
   refused-event (stops c) n h = clash (cc)
   refused-event (lies j c m) n h = clash (cc)
 
@@ -67,7 +71,8 @@ module _ (s : System) (b r : List ℕ) (x : Step) (n : Refusal) where
       let t = s .settings in
       let w = view s b r in
       let f = facts s b r sound in
-      let at : World → Result = λ v. result (Refused n) (storeSystem t v) (storeSlots v) (storeAllReplies v) in
+      let at : World → Result =
+      λ v. result (Refused n) (storeSystem t v) (storeSlots v) (storeAllReplies v) in
       ap (storedBy t w) (refused-event (settingsOf t) w (eventIn t w x) n h)
       ∙ ap at (nothing (settingsOf t) w n)
       ∙ (λ q. result (Refused n) (system-back s b r f q) (slots-back s b r f q) (replies-all-back s b r f q))

@@ -1,8 +1,11 @@
 -- A run of a list of steps: its worlds are well formed, and one step more is one turn more.
+--
+-- Why: step i of the numbers in memory is step i of the history's list (`step-at`), so what a turn leaves is the
+-- history's next world, and what it answers is the history's answer.
 -- Assumes nothing.
 use mathlib.Core.Path.{_≡_, refl, sym, ap, subst, _∙_}
 use mathlib.Core.List.{List}
-use Prim.Native.Nat.{ℕ, suc, _+_, _-_, _≤_, _<_}
+use Prim.Native.Nat.{ℕ, suc, _+_, _-_, _<_}
 use native.Mathlib.Numerals.{add-one}
 use native.Mathlib.Omega.{arith}
 use lib.ListN.{getD}
@@ -14,24 +17,20 @@ use Rattle.register.specs.Steps as model
 use Rattle.register.specs.Steps.{eventOf}
 use Rattle.register.specs.World.{World, newWorld, apply, answerOf}
 use Rattle.register.proofs.Formats.{lawful}
-use Rattle.register.proofs.Reachable.{well-new, well-step, well-formed}
+use Rattle.register.proofs.Reachable.{well-formed}
 use Rattle.register.proofs.WellFormed.{WellFormed}
 use Rattle.state.specs.declared.Settings.{Settings}
 use Rattle.state.specs.declared.System.{System}
 use Rattle.steps.specs.Inner.{After}
 use Rattle.system.specs.Run.{stepIn, stepsIn, putAnswer, answered, Run}
 use Rattle.state.specs.State.{settingsOf, stepOf, numbered, storeSystem, storeSlots, storeAllReplies}
-use Rattle.system.specs.Stored.{Stored, Reached, atSetup, afterStep}
+use Rattle.system.specs.Stored.{Stored}
 use Rattle.state.proofs.Numbered.{numbered-at}
 use Rattle.system.proofs.Turn.{Turned}
 
 -- ---- the worlds of a run are well formed
 
 module _ (S : register.Settings) (accepted : Accepted S) where
-  pub well-reached : (w : World) → Reached S w → WellFormed S formats w
-  well-reached w atSetup = well-new S formats
-  well-reached w (afterStep {w = v} x h) = well-step S formats accepted lawful v (well-reached v h) x
-
   pub well-at : (l : List model.Step) (i : ℕ) → WellFormed S formats (worldAt S formats l i)
   well-at l i = well-formed S formats accepted lawful l i
 
@@ -42,7 +41,8 @@ module _ (t : Settings) (xs : List ℕ) (n : ℕ) where
   unfolding stepsIn
   step-at i less =
       let p : suc i - 1 ≡ i = omega arith in
-      subst (λ (j : ℕ). getD (numbered (λ k. stepOf (stepIn xs (k - 1))) n) j (model.R 0) ≡ stepOf (stepIn xs j)) p
+      subst (λ (j : ℕ). getD (numbered (λ k. stepOf (stepIn xs (k - 1))) n) j (model.R 0)
+      ≡ stepOf (stepIn xs j)) p
       (numbered-at n (suc i) (omega arith) less (λ k. stepOf (stepIn xs (k - 1))) (model.R 0))
 
   abbrev S : register.Settings
@@ -56,8 +56,10 @@ module _ (t : Settings) (xs : List ℕ) (n : ℕ) where
   next-world i less = ap (λ (x : model.Step). apply S (at i) (eventOf S formats (at i) x)) (step-at i less)
 
   next-answer : (i : ℕ) → i < n
-      → answerAt S formats (stepsIn xs n) i ≡ answerOf S (at i) (eventOf S formats (at i) (stepOf (stepIn xs i)))
-  next-answer i less = ap (λ (x : model.Step). answerOf S (at i) (eventOf S formats (at i) x)) (step-at i less)
+      → answerAt S formats (stepsIn xs n) i
+      ≡ answerOf S (at i) (eventOf S formats (at i) (stepOf (stepIn xs i)))
+  next-answer i less =
+      ap (λ (x : model.Step). answerOf S (at i) (eventOf S formats (at i) x)) (step-at i less)
 
   module _ (out : List ℕ) where
     -- before the first step nothing is written
@@ -83,7 +85,8 @@ module _ (t : Settings) (xs : List ℕ) (n : ℕ) where
               };
           answers =
               g ∙ ap (λ (z : List ℕ). putAnswer z i (o .answer)) e
-              ∙ ap (putAnswer (answered (answerAt S formats (stepsIn xs n)) out i) i) (h .answer ∙ sym (next-answer i less));
+              ∙ ap (putAnswer (answered (answerAt S formats (stepsIn xs n)) out i) i)
+              (h .answer ∙ sym (next-answer i less));
         })
 
 -- ---- a state has the settings of its world
@@ -92,7 +95,8 @@ pub own-settings : (t : Settings) (w : World) (s : System) (b r : List ℕ) → 
 unfolding storeSystem
 own-settings t w s b r st = ap (λ (z : System). z .settings) (st .system)
 
-pub stored-own : (t : Settings) (w : World) (s : System) (b r : List ℕ) → Stored t w s b r → Stored (s .settings) w s b r
+pub stored-own : (t : Settings) (w : World) (s : System) (b r : List ℕ) → Stored t w s b r
+    → Stored (s .settings) w s b r
 stored-own t w s b r st = subst (λ (u : Settings). Stored u w s b r) (sym (own-settings t w s b r st)) st
 
 pub run-own : (t u : Settings) (xs out : List ℕ) (n m : ℕ) (s : System) (b r o : List ℕ) → u ≡ t → n ≡ m

@@ -1,7 +1,7 @@
 -- A step on the two parts that it names, put back, is the step of the whole state.
 --
--- A sound state is the stored form of the world that it stands for (`state`), and that world is well formed; so the turn of a
--- run (`Turn`) says what the parts become.
+-- A sound state is the stored form of the world that it stands for (`state`), and that world is well formed;
+-- so the turn of a run (`Turn`) says what the parts become.
 -- Assumes nothing.
 use mathlib.Core.Path.{_≡_, refl, sym}
 use mathlib.Core.Bool.{true}
@@ -41,11 +41,13 @@ module _ (s : System) (b r : List ℕ) (sound : isSound s b r ≡ true) where
         replies = sym (replies-all-back s b r f);
       }
 
-  pub step-law : (x : Step) (j i : ℕ) → j ≡ serverPlace x → i ≡ clientPlace x → (v : Server) (c : Session) (o : After)
+  pub step-law : (x : Step) (j i : ℕ) → j ≡ serverPlace x → i ≡ clientPlace x
+      → (v : Server) (c : Session) (o : After)
       → o ≡ innerOf (s .settings) (s .stopped) (getD (s .servers) j v) (getD (s .clients) i c) b r x
       → putBack s j i o ≡ stepped s b r x
   unfolding stepped
   step-law x j i ej ei v c o given =
       let z =
-      turned (s .settings) (f .allowed .accepted) (view s b r) (well-view s b r f) x s b r sound-stored x j i refl ej ei v c o given in
+      turned (s .settings) (f .allowed .accepted) (view s b r) (well-view s b r f) x s b r sound-stored x j i
+      refl ej ei v c o given in
       rw sound (λ q. result (z .answer q) (z .stored .system q) (z .stored .slots q) (z .stored .replies q))

@@ -1,7 +1,8 @@
--- One turn of a run: a step on the parts of a stored world, put back, leaves the next world stored, and answers as the model.
+-- One turn of a run: a step on the parts of a stored world, put back, leaves the next world stored, and
+-- answers as the model.
 --
--- Why: the parts are those of the server and the client that the step changes (`EndLaws`), so the code's account is the model's and
--- the rest of the system is as it was (`StoredStep`).
+-- Why: the parts are those of the server and the client that the step changes (`EndLaws`), so the code's
+-- account is the model's and the rest of the system is as it was (`StoredStep`).
 -- Assumes nothing.
 use mathlib.Core.Path.{_≡_, sym, ap, subst, _∙_}
 use mathlib.Core.List.{List}
@@ -28,10 +29,12 @@ use Rattle.steps.proofs.StoredStep.{innerIn, replaced, inner-stored, system-sto
 
 -- a state and an answer that a step leaves
 pub record Turned (t : Settings) (w : World) (x : Step) (s : System) (o : After) : Type 0 where
-  pub stored : Stored t (apply (settingsOf t) w (eventOf (settingsOf t) formats w (stepOf x))) s (o .slots) (o .replies)
+  pub stored : Stored t (apply (settingsOf t) w (eventOf (settingsOf t) formats w (stepOf x))) s (o .slots)
+      (o .replies)
   pub answer : o .answer ≡ answerOf (settingsOf t) w (eventOf (settingsOf t) formats w (stepOf x))
 
-module _ (t : Settings) (accepted : Accepted (settingsOf t)) (w : World) (well : WellFormed (settingsOf t) formats w) where
+module _ (t : Settings) (accepted : Accepted (settingsOf t)) (w : World)
+    (well : WellFormed (settingsOf t) formats w) where
   module _ (x : Step) where
     place : (i : ℕ) → suc i - 1 ≡ i
     place i = omega arith
@@ -43,16 +46,19 @@ module _ (t : Settings) (accepted : Accepted (settingsOf t)) (w : World) (well :
     d = clientPlace x
 
     inner-at : (v : Server) (c : Session)
-        → innerIn (storeSystem t w) (storeSlots w) (storeAllReplies w) j d v c x ≡ modelAt t w (suc j) (suc d) x
+        → innerIn (storeSystem t w) (storeSlots w) (storeAllReplies w) j d v c x
+        ≡ modelAt t w (suc j) (suc d) x
     inner-at v c =
         subst
-        (λ (i : ℕ). innerIn (storeSystem t w) (storeSlots w) (storeAllReplies w) i d v c x ≡ modelAt t w (suc j) (suc d) x)
+        (λ (i : ℕ). innerIn (storeSystem t w) (storeSlots w) (storeAllReplies w) i d v c x
+        ≡ modelAt t w (suc j) (suc d) x)
         (place j)
         (subst
         (λ (i : ℕ). innerIn (storeSystem t w) (storeSlots w) (storeAllReplies w) (suc j - 1) i v c x
         ≡ modelAt t w (suc j) (suc d) x)
         (place d)
-        (inner-stored t accepted w well x (suc j) (suc d) (omega arith) (server-within x) (omega arith) (client-within x)
+        (inner-stored t accepted w well x (suc j) (suc d) (omega arith) (server-within x) (omega arith)
+        (client-within x)
         (changes t accepted x) v c))
 
     put-back : replaced (storeSystem t w) j d (modelAt t w (suc j) (suc d) x)
@@ -66,7 +72,8 @@ module _ (t : Settings) (accepted : Accepted (settingsOf t)) (w : World) (well :
         (λ (i : ℕ). replaced (storeSystem t w) (suc j - 1) i (modelAt t w (suc j) (suc d) x)
         ≡ storeSystem t (apply (settingsOf t) w (eventOf (settingsOf t) formats w (stepOf x))))
         (place d)
-        (system-stored t accepted w well x (suc j) (suc d) (omega arith) (server-within x) (omega arith) (client-within x)
+        (system-stored t accepted w well x (suc j) (suc d) (omega arith) (server-within x) (omega arith)
+        (client-within x)
         (changes t accepted x)))
 
     turn : (s : System) (b r : List ℕ) → Stored t w s b r → (v : Server) (c : Session) (o : After)
@@ -75,7 +82,8 @@ module _ (t : Settings) (accepted : Accepted (settingsOf t)) (w : World) (well :
         let is : o ≡ modelAt t w (suc j) (suc d) x =
         h ∙ ap (λ (z : System). innerIn z b r j d v c x) (st .system)
         ∙ ap (λ (z : List ℕ). innerIn (storeSystem t w) z r j d v c x) (st .slots)
-        ∙ ap (λ (z : List ℕ). innerIn (storeSystem t w) (storeSlots w) z j d v c x) (st .replies) ∙ inner-at v c in
+        ∙ ap (λ (z : List ℕ). innerIn (storeSystem t w) (storeSlots w) z j d v c x) (st .replies)
+        ∙ inner-at v c in
         record {
           stored =
               record {
@@ -100,6 +108,7 @@ module _ (t : Settings) (accepted : Accepted (settingsOf t)) (w : World) (well :
         h ∙ ap (λ (z : Step). innerOf t (s .stopped) (getD (s .servers) i v) (getD (s .clients) k c) b r z) ey
         ∙ ap (λ (n : ℕ). innerOf t (s .stopped) (getD (s .servers) n v) (getD (s .clients) k c) b r x) ei
         ∙ ap (λ (n : ℕ). innerOf t (s .stopped) (getD (s .servers) j v) (getD (s .clients) n c) b r x) ek
-        ∙ ap (λ (z : Settings). innerOf z (s .stopped) (getD (s .servers) j v) (getD (s .clients) d c) b r x) (sym same) in
+        ∙ ap (λ (z : Settings). innerOf z (s .stopped) (getD (s .servers) j v) (getD (s .clients) d c) b r x)
+        (sym same) in
         subst (λ (n : ℕ). Turned t w x (replaced s n k o) o) (sym ei)
         (subst (λ (n : ℕ). Turned t w x (replaced s j n o) o) (sym ek) (turn s b r st v c o own))

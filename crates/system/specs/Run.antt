@@ -1,4 +1,5 @@
--- A whole run in lent memory (01, 'The words of demand 3'): a list of steps in numbers, from a setup, and their answers in numbers.
+-- A whole run in lent memory (01, 'The words of demand 3'): a list of steps in numbers, from a setup, and their answers in
+-- numbers.
 --
 -- In order: a step; an answer; how many steps there are; the list; what a run leaves; what it gives for a setup.
 -- Assumes nothing.

@@ -20,6 +20,7 @@ fn place(n: u32, k: u32) -> usize
     (k - 1) as usize
 }
 
+// The server that a step changes: only K changes one.
 pub fn server_place(x: Step) -> usize
     ensures { λ r. ⌜ r ≡ serverPlace x ⌝ }
 {
@@ -33,6 +34,7 @@ pub fn server_place(x: Step) -> usize
     }
 }
 
+// The client that a step changes: only R, W and D change one.
 pub fn client_place(x: Step) -> usize
     ensures { λ r. ⌜ r ≡ clientPlace x ⌝ }
 {

@@ -7,7 +7,7 @@ ghost use Rattle.register.specs.World.{newWorld};
 ghost use Rattle.system.specs.Setup.{setupOf};
 ghost use Rattle.state.specs.Sound.{areAllowed};
 ghost use Rattle.system.specs.Stored.{Stored};
-ghost use Rattle.system.specs.Run.{narrowed, stepBy, stepIn, codeOf, shownBy, putAnswer, howMany, Run, Outcome};
+ghost use Rattle.system.specs.Run.{narrowed, stepBy, stepIn, codeOf, shownBy, putAnswer, Run, Outcome};
 use crate::ends::client_place;
 use crate::ends::server_place;
 use crate::setup::Setup;
@@ -32,7 +32,7 @@ const ANSWER: usize = 2;
 // The highest number of 32 bits.
 const HIGHEST: u32 = 4294967295;
 
-// What a refused setup's number is added to.
+// What a refusal's number is added to.
 const REFUSED: u64 = 16;
 
 // The setup, and the system after the last step.
@@ -41,12 +41,14 @@ pub struct Ran {
     pub system: System,
 }
 
+// A number of 32 bits; a larger one becomes the highest, which is no client, no server and no message.
 fn narrow(a: u64) -> u32
     ensures { λ r. ⌜ r ≡ narrowed a ⌝ }
 {
     if a < 4294967296 { a as u32 } else { HIGHEST }
 }
 
+// The step of a kind and its four arguments. Another kind is R 0, which every state refuses.
 fn step_of(kind: u64, p: u64, q: u64, u: u64, v: u64) -> Step
     ensures { λ r. ⌜ r ≡ stepBy kind p q u v ⌝ }
 {
@@ -61,7 +63,8 @@ fn step_of(kind: u64, p: u64, q: u64, u: u64, v: u64) -> Step
     }
 }
 
-fn step_in(xs: &[u64], i: usize) -> Step
+// Step i of the list.
+pub fn step_in(xs: &[u64], i: usize) -> Step
     requires { ⌜ i * 5 + 5 ≤ length (now xs) ⌝ }
     ensures { λ r. ⌜ r ≡ stepIn (now (xs .entry)) i ⌝ }
 {
@@ -69,6 +72,7 @@ fn step_in(xs: &[u64], i: usize) -> Step
     step_of(xs[at], xs[at + 1], xs[at + 2], xs[at + 3], xs[at + 4])
 }
 
+// Which answer it is.
 fn code(a: Answer) -> u64
     ensures { λ r. ⌜ r ≡ codeOf a ⌝ }
 {
@@ -81,6 +85,7 @@ fn code(a: Answer) -> u64
     }
 }
 
+// The pair that READ or WROTE shows.
 fn shown(a: Answer) -> u64
     ensures { λ r. ⌜ r ≡ shownBy a ⌝ }
 {
@@ -93,7 +98,8 @@ fn shown(a: Answer) -> u64
     }
 }
 
-fn write_answer(out: &mut [u64], i: usize, a: Answer)
+// Writes the answer of step i in its two places.
+pub fn write_answer(out: &mut [u64], i: usize, a: Answer)
     requires { ⌜ i * 2 + 2 ≤ length (now out) ⌝ }
     ensures { λ r. ⌜ now (out .exit) ≡ putAnswer (now (out .entry)) i a ⌝ }
 {
@@ -111,8 +117,10 @@ fn take_all(
     b: &mut Slots,
     r: &mut Replies,
 ) -> System
-    requires { ⌜ (areAllowed (s .settings) ≡ true) × Stored (s .settings) newWorld s (now b) (now r) × (n * 5 ≤ length (now steps)) × (n * 2 ≤ length (now out)) ⌝ }
-    ensures { λ z. ⌜ Run (s .settings) (now (steps .entry)) (now (out .entry)) n n z (now (b .exit)) (now (r .exit)) (now (out .exit)) ⌝ }
+    requires { ⌜ (areAllowed (s .settings) ≡ true) × Stored (s .settings) newWorld s (now b) (now r)
+        × (n * 5 ≤ length (now steps)) × (n * 2 ≤ length (now out)) ⌝ }
+    ensures { λ z. ⌜ Run (s .settings) (now (steps .entry)) (now (out .entry)) n n z
+        (now (b .exit)) (now (r .exit)) (now (out .exit)) ⌝ }
 {
     let t = s.settings;
     let mut u = s;
@@ -136,13 +144,14 @@ fn take_all(
     u
 }
 
-fn least(a: usize, b: usize) -> usize
+// The lower of two numbers.
+pub fn least(a: usize, b: usize) -> usize
     ensures { λ r. ⌜ r ≡ min a b ⌝ }
 {
     if a < b { a } else { b }
 }
 
-// Five numbers a step, two an answer; as many steps as both have room for.
+// A run from a setup. Five numbers a step, two an answer; as many steps as both have room for. A refused setup changes nothing.
 pub fn run(
     f: u32,
     clients: u32,
@@ -152,7 +161,9 @@ pub fn run(
     b: &mut Slots,
     r: &mut Replies,
 ) -> Ran
-    ensures { λ z. ⌜ (z .setup ≡ setupOf f clients faulty) × Outcome (setupOf f clients faulty) (now (steps .entry)) (now (out .entry)) (now (b .entry)) (now (r .entry)) (z .system) (now (b .exit)) (now (r .exit)) (now (out .exit)) ⌝ }
+    ensures { λ z. ⌜ (z .setup ≡ setupOf f clients faulty)
+        × Outcome (setupOf f clients faulty) (now (steps .entry)) (now (out .entry)) (now (b .entry)) (now (r .entry))
+        (z .system) (now (b .exit)) (now (r .exit)) (now (out .exit)) ⌝ }
 {
     let setup = settings_of(f, clients, faulty);
     match setup {

@@ -1,12 +1,6 @@
-// The setup: settings checked, and the state at the start.
-ghost use mathlib.Core.Bool.{not, _||_};
+// The setup: settings checked, by the tests that a sound state's settings pass too, and the state at the start.
 ghost use mathlib.Core.Path.{_≡_};
-ghost use lib.Dec.{leb};
-ghost use Prim.Native.Nat.{suc, _<_, _≤_};
-ghost use Rattle.basics.specs.Tests.{allBelow};
-ghost use Rattle.register.specs.Thresholds.{counted};
 ghost use Rattle.register.specs.World.{newWorld};
-ghost use Rattle.server.specs.State.{contains};
 ghost use Rattle.system.specs.Setup.{setupOf};
 ghost use Rattle.state.specs.State.{storeSystem};
 ghost use Rattle.system.specs.Stored.{Stored};
@@ -18,7 +12,8 @@ use state::Replies;
 use state::Session;
 use state::Settings;
 use state::System;
-use state::is_in;
+use state::sound::count_faulty;
+use state::sound::is_in_range;
 
 // A setup is accepted, or refused.
 pub enum Setup {
@@ -26,67 +21,23 @@ pub enum Setup {
     Refused(Refusal),
 }
 
-const MARKS: usize = 13;
-
-// The first number that has a bit beyond the marks.
+// The first number that has a bit beyond the 13 marks.
 const OVER_MARKS: u32 = 8192;
 
-const MOST_FAULTY: u32 = 4;
+// The highest number of eight bits: f and the clients have so many in the settings.
+const HIGHEST: u32 = 255;
 
-const MOST_CLIENTS: u32 = 6;
-
-// Whether the server at place i is one of n, or not marked.
-fn is_allowed(n: u32, faulty: u16, i: usize) -> bool
-    requires { ⌜ i < 13 ⌝ }
-    ensures { λ r. ⌜ r ≡ (leb (suc i) n || not (contains faulty (suc i))) ⌝ }
-{
-    if i < n as usize {
-        return true;
-    }
-    !is_in(faulty, i)
-}
-
-// Whether no server beyond n is marked.
-fn are_allowed(n: u32, faulty: u16) -> bool
-    ensures { λ r. ⌜ r ≡ allBelow (λ i. leb (suc i) n || not (contains faulty (suc i))) 13 ⌝ }
-{
-    let mut i = 0;
-    while i < MARKS {
-        if !is_allowed(n, faulty, i) {
-            return false;
-        }
-        i += 1;
-    }
-    true
-}
-
-// How many servers are marked.
-fn marked(faulty: u16) -> u32
-    ensures { λ r. ⌜ r ≡ counted (contains faulty) 13 ⌝ }
-{
-    let mut c: u32 = 0;
-    let mut i = 0;
-    while i < MARKS {
-        c += is_in(faulty, i) as u32;
-        i += 1;
-    }
-    c
-}
-
-// The settings that three numbers are, or why they are refused: 1, 2.
+// The settings that three numbers are, or why they are refused: 1, 2. A number that has no room in the settings is refused 1.
 pub fn settings_of(f: u32, clients: u32, faulty: u32) -> Setup
     ensures { λ r. ⌜ r ≡ setupOf f clients faulty ⌝ }
 {
     if OVER_MARKS <= faulty {
         return Setup::Refused(Refusal::BadSettings);
     }
-    if MOST_FAULTY < f {
+    if HIGHEST < f {
         return Setup::Refused(Refusal::BadSettings);
     }
-    if clients < 1 {
-        return Setup::Refused(Refusal::BadSettings);
-    }
-    if MOST_CLIENTS < clients {
+    if HIGHEST < clients {
         return Setup::Refused(Refusal::BadSettings);
     }
     let t = Settings {
@@ -94,13 +45,15 @@ pub fn settings_of(f: u32, clients: u32, faulty: u32) -> Setup
         clients: clients as u8,
         faulty: faulty as u16,
     };
-    if !are_allowed(register::servers(t.f), t.faulty) {
-        return Setup::Refused(Refusal::BadSettings);
+    let fine = is_in_range(t);
+    let many = f < count_faulty(t);
+    if !fine {
+        Setup::Refused(Refusal::BadSettings)
+    } else if many {
+        Setup::Refused(Refusal::TooManyFaulty)
+    } else {
+        Setup::Set(t)
     }
-    if f < marked(t.faulty) {
-        return Setup::Refused(Refusal::TooManyFaulty);
-    }
-    Setup::Set(t)
 }
 
 // The small parts at setup.

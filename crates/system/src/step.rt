@@ -30,7 +30,8 @@ const NO_WORD: u32 = 16777216;
 // A step of a sound state: it is given two parts of the system, and these are put back.
 fn take_step(s: System, x: Step, b: &mut Slots, r: &mut Replies) -> Stepped
     requires { ⌜ isSound s (now b) (now r) ≡ true ⌝ }
-    ensures { λ y. ⌜ result (y .answer) (y .system) (now (b .exit)) (now (r .exit)) ≡ stepped s (now (b .entry)) (now (r .entry)) x ⌝ }
+    ensures { λ y. ⌜ result (y .answer) (y .system) (now (b .exit)) (now (r .exit))
+        ≡ stepped s (now (b .entry)) (now (r .entry)) x ⌝ }
 {
     let t = s.settings;
     let j = server_place(x);
@@ -53,7 +54,8 @@ fn take_step(s: System, x: Step, b: &mut Slots, r: &mut Replies) -> Stepped
 
 // One step. An unsound state is refused (3); a refusal leaves the state and the lent memory as they were.
 pub fn step(s: System, x: Step, b: &mut Slots, r: &mut Replies) -> Stepped
-    ensures { λ y. ⌜ result (y .answer) (y .system) (now (b .exit)) (now (r .exit)) ≡ stepped s (now (b .entry)) (now (r .entry)) x ⌝ }
+    ensures { λ y. ⌜ result (y .answer) (y .system) (now (b .exit)) (now (r .exit))
+        ≡ stepped s (now (b .entry)) (now (r .entry)) x ⌝ }
 {
     if !state::sound::is_sound(s, b, r) {
         return Stepped {

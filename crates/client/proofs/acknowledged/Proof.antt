@@ -1,5 +1,5 @@
--- `acknowledged`: dropped unless the client stores with that counter; otherwise it is noted, and enough of them end
--- the write.
+-- `acknowledged`: dropped unless the client stores with that counter; otherwise it is noted, and enough of
+-- them end the write.
 -- Assumes nothing.
 use Prim.Native.Nat.{ℕ, suc, _-_, _<_}
 use mathlib.Core.Path.{_≡_, sym, ap, _∙_}
@@ -9,11 +9,9 @@ use native.Mathlib.Omega.{arith}
 use lib.ListN.{length, replicate}
 use borrow.Author.Tests.{eq-eqb, ne-eqb, not-true, not-false}
 use Rattle.message.specs.declared.Pair.{Pair}
-use Rattle.message.specs.declared.WriteCounter.{WriteCounter}
-use Rattle.message.specs.declared.Entry.{Entry}
 use Rattle.register.specs.declared.Answer.the-variants.{Wrote}
 use Rattle.register.specs.declared.Phase.{Phase}
-use Rattle.register.specs.declared.Phase.the-variants.{Idle, Storing}
+use Rattle.register.specs.declared.Phase.the-variants.{Idle}
 use Rattle.register.specs.Thresholds.{size, counted, enough}
 use Rattle.register.specs.Client as model
 use Rattle.register.specs.Client.{isStoring, withAck}
@@ -43,7 +41,8 @@ returns c =
     let s = c .before .before .before in
     let a = s .args in
     ap (λ (t : Took). after t (a .r .now)) (c .goes-on .ensures) ∙ goes-on (a .c) (a .r .now) (s .pre .0)
-    ∙ sym (ack-dropped (a .c) (a .r .now) (a .k) (a .a) (not-storing (a .c .phase) (a .a) (c .before .match .keys2)))
+    ∙ sym (ack-dropped (a .c) (a .r .now) (a .k) (a .a)
+    (not-storing (a .c .phase) (a .a) (c .before .match .keys2)))
 
 goes-on-requires-2 : tie.Need-goes-on-requires-2
 goes-on-requires-2 c = search needs
@@ -55,7 +54,7 @@ returns-2 c =
     let a = s .args in
     let other : isStoring (a .c .phase) (a .a) ≡ false =
     ap (λ (ph : Phase). isStoring ph (a .a)) (c .before .before .before .before .before .ph .given .1)
-    ∙ ne-eqb _ _ (c .before .if1 .taken) in
+    ∙ ne-eqb _ (a .a .0) (λ e. omega (arith, e, c .before .if1 .taken)) in
     ap (λ (t : Took). after t (a .r .now)) (c .goes-on2 .ensures) ∙ goes-on (a .c) (a .r .now) (s .pre .0)
     ∙ sym (ack-dropped (a .c) (a .r .now) (a .k) (a .a) other)
 
@@ -66,7 +65,9 @@ cast-acknowledge : tie.Need-cast-acknowledge
 cast-acknowledge c = search needs
 
 place : (c : tie.Start) → c .args .k - 1 < 13
-place c = omega (arith, c .pre .1, has-place (c .args .c) (c .args .r .now) (c .pre .0) (c .args .k) (c .pre .2))
+place c =
+    let there = has-place (c .args .c) (c .args .r .now) (c .pre .0) (c .args .k) (c .pre .2) in
+    omega (arith, c .pre .1, there)
 
 long : (c : tie.Start) → length (c .args .r .now) ≡ 91
 long c = of-memory (c .args .c) (c .args .r .now) (c .pre .0) .long
@@ -142,19 +143,19 @@ enough-is : (c : tie.After-is-enough)
     (counted (ackIn (c .before .before .before .before .before .acknowledge .last .0))
     (size (at-is-enough c .args .c .f)))
 enough-is c = c .is-enough .ensures
-    ∙ ap (enough (size (at-is-enough c .args .c .f)) (at-is-enough c .args .c .f)) (c .before .acknowledged .ensures)
+    ∙ ap (enough (size (at-is-enough c .args .c .f)) (at-is-enough c .args .c .f))
+    (c .before .acknowledged .ensures)
 
 returns-3 : tie.Need-returns-3
 returns-3 c =
-    let s = at-acknowledge (c .before .before .before .before .before .before .before) in
-    let a = s .args in
-    let m = c .before .before .before .before .before .before .before .acknowledge .last .0 in
-    ap (λ (t : Took). after t m) (c .goes-on3 .ensures)
-    ∙ goes-on (a .c) m (keeps (c .before .before .before .before .before .before .before))
-    ∙ sym (ack-waits (a .c) m (a .k) (a .a) (sym (enough-is (c .before .before)) ∙ not-true _ (c .before .if2 .taken)))
-    ∙ ap (ackedAt (a .c) (a .r .now) (a .k) (a .a)) (shown (c .before .before .before .before .before .before .before))
-    ∙ sym (ack-taken (a .c) (a .r .now) (a .k) (a .a)
-    (this-write (c .before .before .before .before .before .before .before)))
+    let d = c .before .before .before .before .before .before .before in
+    let a = at-acknowledge d .args in
+    let m = d .acknowledge .last .0 in
+    let waits = sym (enough-is (c .before .before)) ∙ not-true _ (c .before .if2 .taken) in
+    ap (λ (t : Took). after t m) (c .goes-on3 .ensures) ∙ goes-on (a .c) m (keeps d)
+    ∙ sym (ack-waits (a .c) m (a .k) (a .a) waits)
+    ∙ ap (ackedAt (a .c) (a .r .now) (a .k) (a .a)) (shown d)
+    ∙ sym (ack-taken (a .c) (a .r .now) (a .k) (a .a) (this-write d))
 
 clear-requires : tie.Need-clear-requires
 clear-requires c κs =
@@ -180,7 +181,8 @@ same-length-2 c = search needs
 
 returns-4 : tie.Need-returns-4
 returns-4 c =
-    let d = c .before .before .before .before .before .before .before .before .before .before .before .before in
+    let e = c .before .before .before .before .before in
+    let d = e .before .before .before .before .before .before .before in
     let s = at-acknowledge d in
     let a = s .args in
     let m = d .acknowledge .last .0 in

@@ -1,47 +1,44 @@
--- `is_storing`: by cases.
+-- `is_storing`: neither idle nor reading.
 -- Assumes nothing.
+use mathlib.Core.Path.{_≡_, refl, sym, ap, _∙_}
+use mathlib.Core.Bool.{true, false, not}
+use Rattle.basics.proofs.Cases.{true-or-false}
+use Rattle.register.specs.declared.Phase.{Phase}
+use Rattle.register.specs.declared.Phase.the-variants.{Idle, Reading, ReadingForWrite, Storing}
+use Rattle.register.specs.Client.{isIdle, isReading}
 use Rattle.client.specs.Sound.{stores}
 use borrow.Author.Needs.{needs}
 use Rattle.client.proofs.is_storing.Statement.{statement}
 use Rattle.client.proofs.is_storing.Tie as tie
 
-enum-told : tie.Need-enum-told
-enum-told c = search needs
+idle : (ph : Phase) → isIdle ph ≡ true → stores ph ≡ false
+unfolding isIdle stores
+idle Idle e = refl
+idle Reading e = refl
+idle (ReadingForWrite w) e = refl
+idle (Storing w c) e = absurd (true-or-false false e refl)
 
-enum-told-2 : tie.Need-enum-told-2
-enum-told-2 c = search needs
+busy : (ph : Phase) → isIdle ph ≡ false → stores ph ≡ not (isReading ph)
+unfolding isIdle isReading stores
+busy Idle e = absurd (true-or-false true refl e)
+busy Reading e = refl
+busy (ReadingForWrite w) e = refl
+busy (Storing w c) e = refl
 
-enum-told-3 : tie.Need-enum-told-3
-enum-told-3 c = search needs
-
-enum-told-4 : tie.Need-enum-told-4
-enum-told-4 c = search needs
+is-idle-requires : tie.Need-is-idle-requires
+is-idle-requires c = search needs
 
 returns : tie.Need-returns
-unfolding stores
-returns c = rw (c .enum-told .given .1)
+returns c = sym (idle (c .before .before .args .ph) (sym (c .before .is-idle .ensures) ∙ c .if1 .taken))
+
+is-reading-requires : tie.Need-is-reading-requires
+is-reading-requires c = search needs
 
 returns-2 : tie.Need-returns-2
-unfolding stores
-returns-2 c = rw (c .enum-told2 .given .1)
-
-returns-3 : tie.Need-returns-3
-unfolding stores
-returns-3 c = rw (c .enum-told3 .given .1)
-
-returns-4 : tie.Need-returns-4
-unfolding stores
-returns-4 c = rw (c .enum-told4 .given .1)
+returns-2 c =
+    let ph = c .before .before .before .args .ph in
+    let not-idle = sym (c .before .before .is-idle .ensures) ∙ c .before .if1 .left in
+    ap not (c .is-reading .ensures) ∙ sym (busy ph not-idle)
 
 pub is-storing-spec : {M : Type 1} → statement M
-is-storing-spec =
-    tie.close
-    (tie.spec
-    enum-told
-    enum-told-2
-    enum-told-3
-    enum-told-4
-    returns
-    returns-2
-    returns-3
-    returns-4)
+is-storing-spec = tie.close (tie.spec is-idle-requires returns is-reading-requires returns-2)

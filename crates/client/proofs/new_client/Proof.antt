@@ -1,6 +1,8 @@
 -- `new_client`: the refusals in order; otherwise the memory is emptied.
 -- Assumes nothing.
 use mathlib.Core.Path.{refl, sym, ap, _∙_}
+use native.Mathlib.Omega.{arith}
+use lib.ListN.{length}
 use borrow.Author.Tests.{lt-leb, le-leb, eq-eqb, ne-eqb}
 use Rattle.register.specs.declared.Phase.the-variants.{Idle}
 use Rattle.replies.proofs.Storing.{store-cleared}
@@ -13,12 +15,18 @@ returns : tie.Need-returns
 returns c = rw (lt-leb _ 4 (c .if1 .taken)) (refl, refl)
 
 returns-2 : tie.Need-returns-2
-returns-2 c = rw (le-leb _ 4 (c .before .if1 .left), ne-eqb _ 91 (c .if2 .taken)) (refl, refl)
+returns-2 c =
+    let r = c .before .before .before .args .r .now in
+    let other = ne-eqb (length r) 91 (λ e. omega (arith, e, c .if2 .taken)) in
+    rw (le-leb _ 4 (c .before .if1 .left), other) (refl, refl)
 
 returns-3 : tie.Need-returns-3
 returns-3 c =
-    rw (le-leb _ 4 (c .before .before .if1 .left), eq-eqb _ 91 (c .before .if2 .left), lt-leb 1 _ (c .if3 .taken))
-    (refl, refl)
+    rw (
+      le-leb _ 4 (c .before .before .if1 .left),
+      eq-eqb _ 91 (c .before .if2 .left),
+      lt-leb 1 _ (c .if3 .taken),
+    ) (refl, refl)
 
 returns-4 : tie.Need-returns-4
 returns-4 c =

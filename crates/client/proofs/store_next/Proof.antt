@@ -48,7 +48,8 @@ pair-of-requires c κs =
     let s = c .before .before .before .before in
     let a = s .args in
     let f = client-facts (a .c) (s .pre .0) in
-    (next-fits (c .before), omega (arith, f .high), writing-fits (a .c .phase) (a .e) (s .pre .1) (f .phase))
+    let e = writing-fits (a .c .phase) (a .e) (s .pre .1) (f .phase) in
+    (omega (arith, next-fits (c .before)), omega (arith, f .high), e)
 
 in-phase-requires : tie.Need-in-phase-requires
 in-phase-requires c = search needs

@@ -30,8 +30,9 @@ same-length c = search needs
 returns : tie.Need-returns
 unfolding takeOf
 returns c =
+    let a = c .before .before .before .before .before .before .args in
     rw (sym (c .before .before .is-sound .ensures) ∙ not-true _ (c .before .if1 .taken))
-    (ap (λ (t : Took). after t (c .before .before .before .before .before .before .args .r .now)) (c .refuse .ensures))
+    (ap (λ (t : Took). after t (a .r .now)) (c .refuse .ensures))
 
 refuse-requires-2 : tie.Need-refuse-requires-2
 refuse-requires-2 c = search needs
@@ -42,13 +43,13 @@ same-length-2 c = search needs
 returns-2 : tie.Need-returns-2
 unfolding takeOf
 returns-2 c =
+    let a = c .before .before .before .before .before .before .before .args in
     rw (
       sym (c .before .before .before .is-sound .ensures)
           ∙ not-false _ (c .before .before .if1 .left),
-      lt-leb 1 _ (c .before .if2 .taken),
+      lt-leb 1 (a .k) (omega (arith, c .before .if2 .taken)),
     )
-    (ap (λ (t : Took). after t (c .before .before .before .before .before .before .before .args .r .now))
-    (c .refuse2 .ensures))
+    (ap (λ (t : Took). after t (a .r .now)) (c .refuse2 .ensures))
 
 servers-requires : tie.Need-servers-requires
 servers-requires c = search needs
@@ -160,10 +161,11 @@ same-length-6 c = search needs
 returns-6 : tie.Need-returns-6
 unfolding takeOf
 returns-6 c =
-    let d = c .before .before .before .before .before .before .before .before .before .before in
-    let t = accepted d in
-    let good = sym (c .before .before .before .before .before .before .before .before .before .unpack .ensures) ∙ c .before .before .before .before .before .before .before .m .given .1 in
-    let reply = sym (c .before .before .before .before .before .is-reply .ensures) ∙ not-false _ (c .before .before .before .before .if4 .left) in
+    let e = c .before .before .before .before in
+    let t = accepted (e .before .before .before .before .before .before) in
+    let good = sym (e .before .before .before .before .before .unpack .ensures)
+    ∙ e .before .before .before .m .given .1 in
+    let reply = sym (e .before .is-reply .ensures) ∙ not-false _ (e .if4 .left) in
     rw (t .0, t .1, t .2, good, reply)
     (c .before .before .taken .ensures)
 

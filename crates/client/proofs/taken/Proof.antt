@@ -1,8 +1,8 @@
--- `taken`: INFO, or what `taken_fwd` takes.
+-- `taken`: WRITE_ACK, or what `taken_pair` takes.
 -- Assumes nothing.
 use mathlib.Core.Path.{sym, ap, _∙_}
 use Rattle.client.specs.Sends.{takenOf}
-use Rattle.client.proofs.Others.{not-info}
+use Rattle.client.proofs.Others.{not-ack}
 use borrow.Author.Needs.{needs}
 use Rattle.client.proofs.taken.Statement.{statement}
 use Rattle.client.proofs.taken.Tie as tie
@@ -10,19 +10,19 @@ use Rattle.client.proofs.taken.Tie as tie
 enum-known-m : tie.Need-enum-known-m
 enum-known-m c = search needs
 
-taken-fwd-requires : tie.Need-taken-fwd-requires
-taken-fwd-requires c κs =
+taken-pair-requires : tie.Need-taken-pair-requires
+taken-pair-requires c κs =
     let s = c .before .before .before in
-    (s .pre .0, s .pre .1, s .pre .2, not-info (s .args .m) (c .before .match .keys2))
+    (s .pre .0, s .pre .1, s .pre .2, not-ack (s .args .m) (c .before .match .keys2))
 
 same-length : tie.Need-same-length
 same-length c = search needs
 
 returns : tie.Need-returns
-returns c = c .before .before .taken-fwd .ensures
+returns c = c .before .before .taken-pair .ensures
 
-info-requires : tie.Need-info-requires
-info-requires c = search needs
+acknowledged-requires : tie.Need-acknowledged-requires
+acknowledged-requires c = search needs
 
 same-length-2 : tie.Need-same-length-2
 same-length-2 c = search needs
@@ -30,7 +30,7 @@ same-length-2 c = search needs
 returns-2 : tie.Need-returns-2
 returns-2 c =
     let a = c .before .before .before .before .before .before .before .before .args in
-    c .before .before .info .ensures
+    c .before .before .acknowledged .ensures
     ∙ ap (takenOf (a .c) (a .r .now) (a .k)) (sym (c .before .before .before .before .before .m .given .1))
 
 pub taken-spec : {M : Type 1} → statement M
@@ -38,9 +38,9 @@ taken-spec =
     tie.close
     (tie.spec
     enum-known-m
-    taken-fwd-requires
+    taken-pair-requires
     same-length
     returns
-    info-requires
+    acknowledged-requires
     same-length-2
     returns-2)

@@ -1,14 +1,12 @@
--- `main`: the program starts with a state of a run, and each turn leaves another.
+-- `main`: the program starts with a sound state, and each turn leaves another.
 -- Assumes nothing.
 use mathlib.Core.Path.{_≡_, sym, _∙_}
 use native.Mathlib.Omega.{arith}
 use lib.ListN.{length}
 use borrow.Author.Needs.{needs}
-use Rattle.state.proofs.SoundFacts.{allowed-facts}
 use Rattle.system.specs.Setup.{settingsBy}
-use Rattle.system.proofs.OnRuns.{run-begins}
 use Rattle.rehearse.specs.Turns.{Fine}
-use Rattle.rehearse.proofs.Setups.{first-allowed}
+use Rattle.rehearse.proofs.Setups.{first-allowed, setup-sound}
 use Rattle.rehearse.proofs.main.Statement.{statement}
 use Rattle.rehearse.proofs.main.Tie as tie
 
@@ -34,7 +32,7 @@ set-up-requires c κs = search needs
 loop-holds : tie.Need-loop-holds Inv-loop μ-loop
 loop-holds c = (
   record {
-    run = run-begins (settingsBy 0 1 0) (allowed-facts (settingsBy 0 1 0) first-allowed) _ _ _ (c .set-up .ensures);
+    sound = setup-sound (settingsBy 0 1 0) first-allowed _ _ _ (c .set-up .ensures);
     left = omega arith;
     within = omega arith;
   },
@@ -52,7 +50,7 @@ slice-aggregate-turn-2 : tie.Need-slice-aggregate-turn-2 Inv-loop μ-loop
 slice-aggregate-turn-2 c = sym (c .before .before .before .before .loop .inv .2)
 
 turn-requires : tie.Need-turn-requires Inv-loop μ-loop
-turn-requires c κs = (c .before .before .before .before .before .before .loop .inv .1, c .before .before .before .before .before .before .loop .inv .0)
+turn-requires c κs = let l = c .before .before .before .before .before .before .loop .inv in (l .1, l .0)
 
 sub-turns : tie.Need-sub-turns Inv-loop μ-loop
 sub-turns c = search needs
@@ -61,7 +59,10 @@ loop-less : tie.Need-loop-less Inv-loop μ-loop
 loop-less c = search needs
 
 loop-again : tie.Need-loop-again Inv-loop μ-loop
-loop-again c = (c .before .before .turn .ensures, c .before .before .turn .kept .1 .0 ∙ c .before .before .before .before .before .before .before .before .before .loop .inv .1, c .before .before .turn .kept .1 .1 .0 ∙ c .before .before .before .before .before .before .before .before .before .loop .inv .2)
+loop-again c =
+    let t = c .before .before in
+    let l = t .before .before .before .before .before .before .before .loop .inv in
+    (t .turn .ensures .fine, t .turn .kept .1 .0 ∙ l .1, t .turn .kept .1 .1 .0 ∙ l .2)
 
 returns-2 : tie.Need-returns-2 Inv-loop μ-loop
 returns-2 c = search needs

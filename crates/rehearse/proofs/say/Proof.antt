@@ -1,8 +1,5 @@
--- `say`: the line fits the buffer.
+-- `say`: the line fits the buffer, and stands at its start.
 -- Assumes nothing.
-use Prim.Native.Nat.{_≤_}
-use native.Mathlib.Omega.{arith}
-use lib.ListN.{length}
 use borrow.Author.Needs.{needs}
 use Rattle.rehearse.proofs.Blocks.{shown-fits, counted}
 use Rattle.rehearse.proofs.say.Statement.{statement}
@@ -18,7 +15,10 @@ slice-reshare-prefix-write-all c =
     search needs
 
 slice-aggregate-write-all : tie.Need-slice-aggregate-write-all
-slice-aggregate-write-all c = counted _ (c .before .before .before .before .before .before .args .out .now) (c .before .before .before .print .last .0) (shown-fits _ _ _ _ _ (c .before .before .before .print .ensures)) (c .before .before .before .print .kept .0)
+slice-aggregate-write-all c =
+    let p = c .before .before .before in
+    counted _ (p .before .before .before .args .out .now) (p .print .last .0)
+    (shown-fits _ _ _ _ _ (p .print .ensures)) (p .print .kept .0)
 
 write-all-requires : tie.Need-write-all-requires
 write-all-requires c κs = search needs
@@ -27,7 +27,7 @@ same-length : tie.Need-same-length
 same-length c = search needs
 
 returns : tie.Need-returns
-returns c = search needs
+returns c = c .before .before .before .before .print .ensures .holds
 
 pub say-spec : {M : Type 1} → statement M
 say-spec =

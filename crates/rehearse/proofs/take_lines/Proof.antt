@@ -1,128 +1,107 @@
--- `take_lines`: the state is one of a run, the block is taken up to a place in it, and what is written fits the buffer.
+-- `take_lines`: the text of the lines so far is written, and the state is that after them. Each line adds its
+-- own text; a step goes by the two parts of the system that it changes, and with these put back it is the
+-- step of the whole (`step-law`).
 -- Assumes nothing.
-use Prim.Native.Nat.{_+_, _≤_, _<_, _-_}
-use mathlib.Core.Path.{_≡_, refl, _∙_}
+use Prim.Native.Nat.{ℕ, _+_, _≤_, _<_, _-_}
+use mathlib.Core.Path.{_≡_, refl, sym, _∙_}
 use native.Mathlib.Omega.{arith}
 use lib.ListN.{length}
 use borrow.Author.Needs.{needs}
-use borrow.Rule.Slice.PartMut.{same-len-mid}
-use Rattle.system.specs.Stored.{OnRun}
+use Rattle.basics.proofs.Cases.{by-either}
+use Rattle.state.proofs.SoundFacts.{facts}
+use Rattle.script.proofs.Writing.{keeps}
 use Rattle.system.proofs.EndLaws.{server-within, client-within}
-use Rattle.system.proofs.OnRuns.{run-ready, run-steps}
-use Rattle.rehearse.proofs.Blocks.{shown-fits, ends-within, part-fits, put-fits}
+use Rattle.system.proofs.ReadyLaws.{ready}
+use Rattle.rehearse.specs.declared.Stop.the-variants as stop
+use Rattle.rehearse.specs.Saying.{stage, nextNumber}
+use Rattle.rehearse.specs.Turns.{Taken}
+use Rattle.rehearse.proofs.Taking.{none-yet, unread-more, step-more, put-back, at-setup}
+use Rattle.rehearse.proofs.Taking.{at-cut, renamed, at-stop}
 use Rattle.rehearse.proofs.take_lines.Statement.{statement}
 use Rattle.rehearse.proofs.take_lines.Tie as tie
 
 abbrev Inv-loop : tie.InvT-loop
-Inv-loop is-set first input from out₀ b₀ r₀ u₀ number₀ at₀ used₀ out b r u number at used =
-    (at ≤ length input) × (used ≤ length out) × (length out ≡ length out₀) × OnRun u b r
+Inv-loop is-set number₀ input at₀ out₀ b₀ r₀ u₀ used₀ number at out b r u used =
+    Taken (stage is-set u₀ b₀ r₀ number₀) input at₀ out₀ (stage is-set u b r number) at used stop.Full out
 
 abbrev μ-loop : tie.MeasureT-loop
-μ-loop is-set first input from out₀ b₀ r₀ u₀ number₀ at₀ used₀ out b r u number at used = length input - at
+μ-loop is-set number₀ input at₀ out₀ b₀ r₀ u₀ used₀ number at out b r u used = length input - at
 
 loop-holds : tie.Need-loop-holds Inv-loop μ-loop
-loop-holds c = let p = c .before .before .pre in (p .1, omega arith, refl, p .0)
+loop-holds c = let p = c .before .before .pre in none-yet (p .0) (p .1)
+
+-- what is written fits the buffer
+fits : (c : tie.At-loop Inv-loop μ-loop) → c .loop .used ≤ length (c .loop .out)
+fits c =
+    let t = c .loop .inv .text in
+    let few = t .fits in
+    let ends = t .ends in
+    let same = keeps t in
+    omega arith
 
 add-loop : tie.Need-add-loop Inv-loop μ-loop
-add-loop c = search needs
+add-loop c = let few = fits c in search needs
 
-sub-place-of : tie.Need-sub-place-of Inv-loop μ-loop
-sub-place-of c = search needs
+line-end-requires : tie.Need-line-end-requires Inv-loop μ-loop
+line-end-requires c κs = c .before .loop .inv .within
 
-part-place-of-start : tie.Need-part-place-of-start Inv-loop μ-loop
-part-place-of-start c = search needs
+next-line-requires : tie.Need-next-line-requires Inv-loop μ-loop
+next-line-requires c κs = rw (c .line-end .ensures) (omega arith)
 
-part-place-of-end : tie.Need-part-place-of-end Inv-loop μ-loop
-part-place-of-end c = search needs
-
-place-of-requires : tie.Need-place-of-requires Inv-loop μ-loop
-place-of-requires c κs = search needs
-
-add-end : tie.Need-add-end Inv-loop μ-loop
-add-end c =
-    let l = c .before .before .before .loop in
-    let h : l .at + c .place-of .result ≤ length (c .before .before .before .before .before .before .args .input .now) =
-    part-fits (l .at) (c .place-of .result) (c .before .before .before .before .before .before .args .input .now) (l .inv .0) (ends-within _ _ _ (c .place-of .ensures)) in
-    search needs
-
-same-length : tie.Need-same-length Inv-loop μ-loop
-same-length c = search needs
-
-returns : tie.Need-returns Inv-loop μ-loop
-returns c = let l = c .before .before .before .before .loop .inv in record { run = l .3; taken = l .0; written = omega arith }
-
-sub-parse : tie.Need-sub-parse Inv-loop μ-loop
-sub-parse c = search needs
-
-part-parse-start : tie.Need-part-parse-start Inv-loop μ-loop
-part-parse-start c = search needs
-
-part-parse-end : tie.Need-part-parse-end Inv-loop μ-loop
-part-parse-end c = search needs
-
-parse-requires : tie.Need-parse-requires Inv-loop μ-loop
-parse-requires c κs = search needs
-
-heard-requires : tie.Need-heard-requires Inv-loop μ-loop
-heard-requires c κs = search needs
-
-next-requires : tie.Need-next-requires Inv-loop μ-loop
-next-requires c κs = search needs
-
-add-at : tie.Need-add-at Inv-loop μ-loop
-add-at c = search needs
-
-enum-known-line : tie.Need-enum-known-line Inv-loop μ-loop
-enum-known-line c = search needs
-
-same-length-2 : tie.Need-same-length-2 Inv-loop μ-loop
-same-length-2 c = search needs
-
-returns-2 : tie.Need-returns-2 Inv-loop μ-loop
-returns-2 c =
-    let l = c .before .before .before .before .before .before .before .before .before .before .before .loop .inv in
-    let less = c .before .before .before .before .before .before .before .if1 .left in
-    record { run = l .3; taken = omega arith; written = omega arith }
+-- ---- the end of a turn
 
 enum-told : tie.Need-enum-told Inv-loop μ-loop
 enum-told c = search needs
 
-sub-print : tie.Need-sub-print Inv-loop μ-loop
-sub-print c = search needs
+stopped-requires : tie.Need-stopped-requires Inv-loop μ-loop
+stopped-requires c κs = search needs
 
-part-print-start : tie.Need-part-print-start Inv-loop μ-loop
-part-print-start c = search needs
+same-length : tie.Need-same-length Inv-loop μ-loop
+same-length c = keeps (c .before .before .before .before .before .before .loop .inv .text)
 
-part-print-end : tie.Need-part-print-end Inv-loop μ-loop
-part-print-end c = search needs
+returns : tie.Need-returns Inv-loop μ-loop
+returns c =
+    let n = c .before .before .before in
+    at-stop (c .stopped .result) (c .stopped .ensures)
+    (at-cut (n .before .before .before .loop .inv) _ (n .before .line-end .ensures)
+    (sym (n .next-line .ensures) ∙ c .before .enum-told .given .1))
 
-print-requires : tie.Need-print-requires Inv-loop μ-loop
-print-requires c κs = search needs
+enum-known-f : tie.Need-enum-known-f Inv-loop μ-loop
+enum-known-f c = search needs
 
-add-used : tie.Need-add-used Inv-loop μ-loop
-add-used c =
-    let l = c .before .before .before .before .before .before .before .before .before .before .before .before .before .before .loop in
-    let same = l .inv .2 in
-    let h : l .used + c .before .before .print .result ≤ length (l .out) =
-    part-fits (l .used) (c .before .before .print .result) (l .out) (l .inv .1) (shown-fits _ _ _ _ _ (c .before .before .print .ensures)) in
+add-stopped : tie.Need-add-stopped Inv-loop μ-loop
+add-stopped c =
+    let n = c .before .before .before in
+    let inside =
+    at-setup (n .before .before .before .loop .inv) _ (n .before .line-end .ensures) _ _ _
+    (sym (n .next-line .ensures) ∙ c .before .f .given .1) .within in
     search needs
 
-loop-less : tie.Need-loop-less Inv-loop μ-loop
-loop-less c = let less = c .before .before .before .before .before .before .before .before .before .before .if1 .left in omega arith
+stopped-requires-2 : tie.Need-stopped-requires-2 Inv-loop μ-loop
+stopped-requires-2 c κs = search needs
 
-loop-again : tie.Need-loop-again Inv-loop μ-loop
-loop-again c =
-    let l = c .before .before .before .before .before .before .before .before .before .before .before .before .before .before .loop in
-    let less = c .before .before .before .before .before .before .before .before .before .before .if1 .left in
-    let h = part-fits (l .used) (c .before .before .print .result) (l .out) (l .inv .1) (shown-fits _ _ _ _ _ (c .before .before .print .ensures)) in (
-      omega arith,
-      put-fits (l .used) (c .before .before .print .result) (l .out) (c .before .before .print .last .0) h (c .before .before .print .kept .0),
-      same-len-mid (l .used) (length (l .out) - l .used) (l .out) (c .before .before .print .last .0) (c .before .before .print .kept .0) ∙ l .inv .2,
-      l .inv .3,
-    )
+same-length-2 : tie.Need-same-length-2 Inv-loop μ-loop
+same-length-2 c = keeps (c .before .before .before .before .before .before .before .loop .inv .text)
 
-enum-known-line-2 : tie.Need-enum-known-line-2 Inv-loop μ-loop
-enum-known-line-2 c = search needs
+returns-2 : tie.Need-returns-2 Inv-loop μ-loop
+returns-2 c =
+    let n = c .before .before .before .before in
+    at-stop (c .stopped2 .result) (c .stopped2 .ensures)
+    (at-setup (n .before .before .before .loop .inv) _ (n .before .line-end .ensures) _ _ _
+    (sym (n .next-line .ensures) ∙ c .before .before .f .given .1))
+
+-- ---- a line that is not read
+
+enum-told-2 : tie.Need-enum-told-2 Inv-loop μ-loop
+enum-told-2 c = search needs
+
+put-line-requires : tie.Need-put-line-requires Inv-loop μ-loop
+put-line-requires c κs = search needs
+
+-- ---- a step
+
+enum-known-x : tie.Need-enum-known-x Inv-loop μ-loop
+enum-known-x c = search needs
 
 server-place-requires : tie.Need-server-place-requires Inv-loop μ-loop
 server-place-requires c κs = search needs
@@ -130,91 +109,107 @@ server-place-requires c κs = search needs
 client-place-requires : tie.Need-client-place-requires Inv-loop μ-loop
 client-place-requires c κs = search needs
 
+-- the two places, where both are known
+server-inside : (c : tie.After-client-place Inv-loop μ-loop) → c .before .server-place .result < 13
+server-inside c = rw (c .before .server-place .ensures) (server-within _)
+
+client-inside : (c : tie.After-client-place Inv-loop μ-loop) → c .client-place .result < 6
+client-inside c = rw (c .client-place .ensures) (client-within _)
+
 mul-v : tie.Need-mul-v Inv-loop μ-loop
-mul-v c =
-    let at : c .before .server-place .result < 13 = rw (c .before .server-place .ensures) (server-within _) in
-    search needs
+mul-v c = let at = server-inside (c .before) in search needs
 
 element-copy-out-v : tie.Need-element-copy-out-v Inv-loop μ-loop
-element-copy-out-v c =
-    let at : c .before .server-place .result < 13 = rw (c .before .server-place .ensures) (server-within _) in
-    search needs
+element-copy-out-v c = server-inside (c .before)
 
 mul-c : tie.Need-mul-c Inv-loop μ-loop
-mul-c c =
-    let at : c .before .client-place .result < 6 = rw (c .before .client-place .ensures) (client-within _) in
-    search needs
+mul-c c = let at = client-inside (c .before .before) in search needs
 
 element-copy-out-c : tie.Need-element-copy-out-c Inv-loop μ-loop
-element-copy-out-c c =
-    let at : c .before .client-place .result < 6 = rw (c .before .client-place .ensures) (client-within _) in
-    search needs
+element-copy-out-c c = client-inside (c .before .before)
 
 inner-requires : tie.Need-inner-requires Inv-loop μ-loop
 inner-requires c κs =
-    let l = c .before .before .before .before .before .before .before .before .before .before .before .before .before .before .before .before .before .before .loop in
-    run-ready (l .u) (l .b) (l .r) (l .inv .3) _ _ _ (c .before .before .before .before .before .before .server-place .ensures) (c .before .before .before .before .before .client-place .ensures) _ _
+    let p = c .before .before .before .before .before in
+    let l = p .before .before .before .before .before .before .before .before .loop in
+    ready (l .u) (l .b) (l .r) (facts (l .u) (l .b) (l .r) (l .inv .sound)) _ _ _
+    (p .before .server-place .ensures)
+    (p .client-place .ensures) _ _
 
-mul-w : tie.Need-mul-w Inv-loop μ-loop
-mul-w c =
-    let at : c .before .before .before .before .before .before .before .before .before .server-place .result < 13 = rw (c .before .before .before .before .before .before .before .before .before .server-place .ensures) (server-within _) in
+server-anew-requires : tie.Need-server-anew-requires Inv-loop μ-loop
+server-anew-requires c κs = search needs
+
+mul-t35 : tie.Need-mul-t35 Inv-loop μ-loop
+mul-t35 c = let at = server-inside (c .before .before .before .before .before .before .before) in search needs
+
+element-set-from-u : tie.Need-element-set-from-u Inv-loop μ-loop
+element-set-from-u c = server-inside (c .before .before .before .before .before .before .before)
+
+client-anew-requires : tie.Need-client-anew-requires Inv-loop μ-loop
+client-anew-requires c κs = search needs
+
+mul-t35-2 : tie.Need-mul-t35-2 Inv-loop μ-loop
+mul-t35-2 c =
+    let at = client-inside (c .before .before .before .before .before .before .before .before) in
     search needs
 
-element-set-from-w : tie.Need-element-set-from-w Inv-loop μ-loop
-element-set-from-w c =
-    let at : c .before .before .before .before .before .before .before .before .before .server-place .result < 13 = rw (c .before .before .before .before .before .before .before .before .before .server-place .ensures) (server-within _) in
+element-set-from-u-2 : tie.Need-element-set-from-u-2 Inv-loop μ-loop
+element-set-from-u-2 c = client-inside (c .before .before .before .before .before .before .before .before)
+
+put-line-requires-2 : tie.Need-put-line-requires-2 Inv-loop μ-loop
+put-line-requires-2 c κs =
+    let p = c .before .before .before .before .before .before .before .before .before in
+    let room = p .before .before .before .before .before .before .before .loop-test in
     search needs
 
-mul-y : tie.Need-mul-y Inv-loop μ-loop
-mul-y c =
-    let at : c .before .before .before .before .before .before .before .before .before .client-place .result < 6 = rw (c .before .before .before .before .before .before .before .before .before .client-place .ensures) (client-within _) in
-    search needs
+-- ---- one line more
 
-element-set-from-y : tie.Need-element-set-from-y Inv-loop μ-loop
-element-set-from-y c =
-    let at : c .before .before .before .before .before .before .before .before .before .client-place .result < 6 = rw (c .before .before .before .before .before .before .before .before .before .client-place .ensures) (client-within _) in
-    search needs
+again : (c : tie.At-match-came Inv-loop μ-loop) (n : ℕ)
+    → n ≡ nextNumber (c .before .before .before .before .loop .number)
+    → let a = c .before .before .before .before .before .before .before .args in
+    Taken (stage (a .is-set) (a .t1) (a .b .now) (a .r .now) (a .number)) (a .input .now) (a .at)
+    (a .out .now)
+    (stage (a .is-set) (c .match .u) (c .match .b) (c .match .r) n) (c .before .before .line-end .result + 1)
+    (c .match .used) stop.Full
+    (c .match .out)
+again c n en =
+    let l = c .before .before .before .before .loop in
+    let end = c .before .before .line-end .ensures in
+    let is = sym (c .before .next-line .ensures) in
+    by-either (c .match .came)
+    (λ w. renamed (w .6) (w .7) (w .8) (w .9) (w .10)
+    (unread-more (l .inv) _ end n en (is ∙ w .1 .given .1) (w .3 .ensures)))
+    (λ w. renamed (w .17) (w .18) (w .19) (w .20) (w .21)
+    (step-more (l .inv) _ end n en _ (is ∙ w .1 .given .1) _
+    (put-back (l .u) (l .b) (l .r) (l .inv .sound) _ _ _ (w .3 .ensures) (w .4 .ensures) _ _ _
+    (w .10 .ensures) _ (w .11 .ensures) _ (w .12 .ensures))
+    (w .14 .ensures)))
 
-sub-print-2 : tie.Need-sub-print-2 Inv-loop μ-loop
-sub-print-2 c = let inside = c .before .before .before .before .before .before .before .before .before .before .before .before .before .before .before .before .before .before .before .before .before .before .loop .inv .1 in search needs
+add-at : tie.Need-add-at Inv-loop μ-loop
+add-at c = let inside = again c _ refl .within in search needs
 
-part-print-start-2 : tie.Need-part-print-start-2 Inv-loop μ-loop
-part-print-start-2 c = let inside = c .before .before .before .before .before .before .before .before .before .before .before .before .before .before .before .before .before .before .before .before .before .before .loop .inv .1 in search needs
+next-number-requires : tie.Need-next-number-requires Inv-loop μ-loop
+next-number-requires c κs = search needs
 
-part-print-end-2 : tie.Need-part-print-end-2 Inv-loop μ-loop
-part-print-end-2 c = search needs
+loop-again : tie.Need-loop-again Inv-loop μ-loop
+loop-again c = again (c .before) (c .next-number .result) (c .next-number .ensures)
 
-print-requires-2 : tie.Need-print-requires-2 Inv-loop μ-loop
-print-requires-2 c κs = search needs
+loop-less : tie.Need-loop-less Inv-loop μ-loop
+loop-less c =
+    let inside = again (c .before) (c .next-number .result) (c .next-number .ensures) .within in
+    let end = c .before .before .before .line-end .ensures in
+    omega arith
 
-add-used-2 : tie.Need-add-used-2 Inv-loop μ-loop
-add-used-2 c =
-    let l = c .before .before .before .before .before .before .before .before .before .before .before .before .before .before .before .before .before .before .before .before .before .before .before .before .before .before .loop in
-    let same = l .inv .2 in
-    let bound = c .before .before .before .before .before .before .before .before .before .before .before .before .before .before .before .before .before .before .before .before .before .before .before .before .before .before .before .before .before .good .1 .1 .1 .1 .1 .0 .0 in
-    let h : l .used + c .before .before .print2 .result ≤ length (l .out) =
-    part-fits (l .used) (c .before .before .print2 .result) (l .out) (l .inv .1) (shown-fits _ _ _ _ _ (c .before .before .print2 .ensures)) in
-    search needs
+-- ---- a full buffer
 
-loop-less-2 : tie.Need-loop-less-2 Inv-loop μ-loop
-loop-less-2 c = let less = c .before .before .before .before .before .before .before .before .before .before .before .before .before .before .before .before .before .before .before .before .before .before .if1 .left in omega arith
-
-loop-again-2 : tie.Need-loop-again-2 Inv-loop μ-loop
-loop-again-2 c =
-    let l = c .before .before .before .before .before .before .before .before .before .before .before .before .before .before .before .before .before .before .before .before .before .before .before .before .before .before .loop in
-    let less = c .before .before .before .before .before .before .before .before .before .before .before .before .before .before .before .before .before .before .before .before .before .before .if1 .left in
-    let h = part-fits (l .used) (c .before .before .print2 .result) (l .out) (l .inv .1) (shown-fits _ _ _ _ _ (c .before .before .print2 .ensures)) in (
-      omega arith,
-      put-fits (l .used) (c .before .before .print2 .result) (l .out) (c .before .before .print2 .last .0) h (c .before .before .print2 .kept .0),
-      same-len-mid (l .used) (length (l .out) - l .used) (l .out) (c .before .before .print2 .last .0) (c .before .before .print2 .kept .0) ∙ l .inv .2,
-      run-steps (l .u) (l .b) (l .r) (l .inv .3) _ _ _ (c .before .before .before .before .before .before .before .before .before .before .before .before .before .before .server-place .ensures) (c .before .before .before .before .before .before .before .before .before .before .before .before .before .client-place .ensures) _ _ _ (c .before .before .before .before .before .before .before .inner .ensures),
-    )
+stopped-requires-3 : tie.Need-stopped-requires-3 Inv-loop μ-loop
+stopped-requires-3 c κs = search needs
 
 same-length-3 : tie.Need-same-length-3 Inv-loop μ-loop
-same-length-3 c = search needs
+same-length-3 c = keeps (c .before .before .loop .inv .text)
 
 returns-3 : tie.Need-returns-3 Inv-loop μ-loop
-returns-3 c = let l = c .before .loop .inv in record { run = l .3; taken = l .0; written = omega arith }
+returns-3 c = at-stop (c .stopped3 .result) (c .stopped3 .ensures) (c .before .before .loop .inv)
 
 pub take-lines-spec : {M : Type 1} → statement M
 take-lines-spec =
@@ -224,32 +219,20 @@ take-lines-spec =
     μ-loop
     loop-holds
     add-loop
-    sub-place-of
-    part-place-of-start
-    part-place-of-end
-    place-of-requires
-    add-end
+    line-end-requires
+    next-line-requires
+    enum-told
+    stopped-requires
     same-length
     returns
-    sub-parse
-    part-parse-start
-    part-parse-end
-    parse-requires
-    heard-requires
-    next-requires
-    add-at
-    enum-known-line
+    enum-known-f
+    add-stopped
+    stopped-requires-2
     same-length-2
     returns-2
-    enum-told
-    sub-print
-    part-print-start
-    part-print-end
-    print-requires
-    add-used
-    loop-less
-    loop-again
-    enum-known-line-2
+    enum-told-2
+    put-line-requires
+    enum-known-x
     server-place-requires
     client-place-requires
     mul-v
@@ -257,16 +240,17 @@ take-lines-spec =
     mul-c
     element-copy-out-c
     inner-requires
-    mul-w
-    element-set-from-w
-    mul-y
-    element-set-from-y
-    sub-print-2
-    part-print-start-2
-    part-print-end-2
-    print-requires-2
-    add-used-2
-    loop-less-2
-    loop-again-2
+    server-anew-requires
+    mul-t35
+    element-set-from-u
+    client-anew-requires
+    mul-t35-2
+    element-set-from-u-2
+    put-line-requires-2
+    add-at
+    next-number-requires
+    loop-less
+    loop-again
+    stopped-requires-3
     same-length-3
     returns-3)

@@ -1,5 +1,7 @@
--- `is_in`: a mask of one bit is the remainder by two.
-use Prim.Native.Nat.{_/_, _^_}
+-- `is_in`: a mask of one bit is the remainder by two. Assumes nothing.
+use mathlib.Core.Path.{ap}
+use Prim.Native.Nat.{ℕ, _/_, _^_}
+use lib.Dec.{eqb}
 use borrow.Author.Needs.{needs}
 use lib.Bits.{and-mask}
 use Rattle.server.specs.State.{contains}
@@ -14,7 +16,7 @@ shr-result c = search needs
 
 returns : tie.Need-returns
 unfolding contains
-returns c = rw (and-mask (c .args .set / 2 ^ c .args .i) 1)
+returns c = ap (λ (bit : ℕ). eqb bit 1) (and-mask (c .args .set / 2 ^ c .args .i) 1)
 
 pub is-in-spec : {M : Type 1} → statement M
 is-in-spec = tie.close (tie.spec cast-result shr-result returns)

@@ -1,5 +1,6 @@
--- `taken`: eleven bytes from place 11 j on, j one of the first eight, lie within the 88 that are kept.
+-- `taken`: message j is the eleven bytes from place 11 j on, which lie within the 110 that are kept.
 -- Assumes nothing.
+use Prim.Native.Nat.{_+_, _*_, _-_}
 use mathlib.Core.Path.{_≡_}
 use native.Mathlib.Omega.{arith}
 use lib.ListN.{length}
@@ -21,14 +22,17 @@ part-take-start c = search needs
 
 part-take-end : tie.Need-part-take-end
 part-take-end c =
-    let kept : length (c .before .before .args .e .sent) ≡ 88 = search needs in
+    let kept : length (c .before .before .args .e .sent) ≡ 110 = search needs in
     omega (arith, kept)
 
 take-requires : tie.Need-take-requires
 take-requires c κs = search needs
 
 returns : tie.Need-returns
-returns c = search needs
+returns c =
+    let at = c .before .before .before .before .args .j * 11 in
+    let eleven : at + 11 - at ≡ 11 = omega arith in
+    rw eleven at (c .take .ensures)
 
 pub taken-spec : {M : Type 1} → statement M
 taken-spec =

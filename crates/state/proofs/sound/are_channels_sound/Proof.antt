@@ -1,4 +1,5 @@
--- `are_channels_sound`: the clients passed have sound channels, and then the channels' own test. Assumes nothing.
+-- `are_channels_sound`: the clients passed have sound channels, and then the channels' own test. Assumes
+-- nothing.
 use Prim.Native.Nat.{_-_, _≤_}
 use mathlib.Core.Path.{_≡_, sym, _∙_}
 use mathlib.Core.Bool.{true}

@@ -1,4 +1,5 @@
--- `are_clients_sound`: the clients passed are sound. Every number of the replies has 64 bits by its type. Assumes nothing.
+-- `are_clients_sound`: the clients passed are sound. Every number of the replies has 64 bits by its type.
+-- Assumes nothing.
 use Prim.Native.Nat.{ℕ, _+_, _*_, _-_, _^_, _≤_}
 use mathlib.Core.Path.{_≡_, sym, ap, _∙_}
 use mathlib.Core.Bool.{Bool, true, false}
@@ -28,11 +29,13 @@ words r h = below-of (λ i. ltb (getD r i 0) (2 ^ 64)) 546 (λ i less. lt-ltb (g
 
 -- a part of 91 numbers is a client's
 part : (s : System) (r : List ℕ) (i : ℕ) (x : Bool)
-    → isClientSound (s .settings) i (getD (s .clients) i emptySession) (take (i * 91 + 91 - i * 91) (drop (i * 91) r)) ≡ x
+    → isClientSound (s .settings) i (getD (s .clients) i emptySession)
+    (take (i * 91 + 91 - i * 91) (drop (i * 91) r)) ≡ x
     → passes s r i ≡ x
 part s r i x h =
     let e : i * 91 + 91 - i * 91 ≡ 91 = omega arith in
-    sym (ap (λ (m : ℕ). isClientSound (s .settings) i (getD (s .clients) i emptySession) (take m (drop (i * 91) r))) e) ∙ h
+    sym (ap (λ (m : ℕ). isClientSound (s .settings) i (getD (s .clients) i emptySession)
+    (take m (drop (i * 91) r))) e) ∙ h
 
 abbrev Inv-loop : tie.InvT-loop
 Inv-loop r s t i₀ i = (i ≤ 6) × (allBelow (passes s r) i ≡ true)
@@ -73,10 +76,12 @@ is-client-sound-requires c κs = search needs
 returns : tie.Need-returns Inv-loop μ-loop
 unfolding areClientsSound
 returns c =
-    let a = c .before .before .before .before .before .before .before .before .args in
-    let l = c .before .before .before .before .before .loop in
-    rw (words (a .r .now) (c .before .before .before .before .before .before .before .shared-slice-known .given))
-    (sym (below-fails (passes (a .t1) (a .r .now)) 6 (l .i) (c .before .before .before .before .loop-test .taken)
+    let turn = c .before .before .before .before in
+    let l = turn .before .loop in
+    let lent = turn .before .before .before in
+    let a = lent .before .args in
+    rw (words (a .r .now) (lent .shared-slice-known .given))
+    (sym (below-fails (passes (a .t1) (a .r .now)) 6 (l .i) (turn .loop-test .taken)
     (part (a .t1) (a .r .now) (l .i) false
     (sym (c .before .is-client-sound .ensures) ∙ not-true _ (c .if1 .taken)))))
 
@@ -101,7 +106,8 @@ unfolding areClientsSound
 returns-2 c =
     let a = c .before .before .before .before .args in
     let e : c .before .loop .i ≡ 6 = omega arith in
-    rw (words (a .r .now) (c .before .before .before .shared-slice-known .given)) (sym (rw (← e) (c .before .loop .inv .1)))
+    rw (words (a .r .now) (c .before .before .before .shared-slice-known .given))
+    (sym (rw (← e) (c .before .loop .inv .1)))
 
 pub are-clients-sound-spec : {M : Type 1} → statement M
 are-clients-sound-spec =

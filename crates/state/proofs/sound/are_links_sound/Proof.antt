@@ -19,7 +19,8 @@ abbrev μ-loop : tie.MeasureT-loop
 μ-loop t stopped b i j₀ j = 13 - j
 
 loop-holds : tie.Need-loop-holds Inv-loop μ-loop
-loop-holds c = let a = c .args in (search needs, none-pass (isLinkSound (a .t) (a .stopped) (a .b .now) (a .i)))
+loop-holds c =
+    let a = c .args in (search needs, none-pass (isLinkSound (a .t) (a .stopped) (a .b .now) (a .i)))
 
 is-link-sound-requires : tie.Need-is-link-sound-requires Inv-loop μ-loop
 is-link-sound-requires c κs = search needs
@@ -29,7 +30,8 @@ unfolding areLinksSound
 returns c =
     let a = c .before .before .before .before .args in
     let j = c .before .before .before .loop .j in
-    sym (below-fails (isLinkSound (a .t) (a .stopped) (a .b .now) (a .i)) 13 j (c .before .before .loop-test .taken)
+    sym (below-fails (isLinkSound (a .t) (a .stopped) (a .b .now) (a .i)) 13 j
+    (c .before .before .loop-test .taken)
     (sym (c .before .is-link-sound .ensures) ∙ not-true _ (c .if1 .taken)))
 
 add-j : tie.Need-add-j Inv-loop μ-loop

@@ -45,8 +45,11 @@ loop-less c = search needs
 loop-again : tie.Need-loop-again Inv-loop μ-loop
 loop-again c =
     let t = c .before .before .before .before .args .t in
-    let l = c .before .before .before .loop in
-    (omega arith, more-pass (passes t) (l .i) (l .inv .1) (sym (c .before .is-mark-fine .ensures) ∙ not-false _ (c .if1 .left)))
+    let l = c .before .before .before .loop in (
+      omega arith,
+      more-pass (passes t) (l .i) (l .inv .1)
+          (sym (c .before .is-mark-fine .ensures) ∙ not-false _ (c .if1 .left)),
+    )
 
 returns-2 : tie.Need-returns-2 Inv-loop μ-loop
 returns-2 c =

@@ -57,7 +57,8 @@ loop-again c =
     let s = c .before .before .before .before .before .before .args .t1 in
     let l = c .before .before .before .before .loop in (
       omega arith,
-      more-pass (passes s) (l .j) (l .inv .1) (sym (c .before .is-server-sound .ensures) ∙ not-false _ (c .if1 .left)),
+      more-pass (passes s) (l .j) (l .inv .1)
+          (sym (c .before .is-server-sound .ensures) ∙ not-false _ (c .if1 .left)),
     )
 
 returns-2 : tie.Need-returns-2 Inv-loop μ-loop

@@ -1,4 +1,5 @@
--- `count_faulty`: the loop counts the bits. The invariant is that the count so far is the definition's. Assumes nothing.
+-- `count_faulty`: the loop counts the bits. The invariant is that the count so far is the definition's.
+-- Assumes nothing.
 use Prim.Native.Nat.{suc, _-_, _≤_}
 use mathlib.Core.Path.{_≡_}
 use native.Mathlib.Omega.{arith}
@@ -47,7 +48,8 @@ loop-again c =
 returns : tie.Need-returns Inv-loop μ-loop
 returns c =
     let f = c .before .before .args .t .faulty in
-    count-end (λ j. contains f (suc j)) (c .before .loop .i) 13 _ (search needs) (search needs) (c .before .loop .inv .2)
+    count-end (λ j. contains f (suc j)) (c .before .loop .i) 13 _ (search needs) (search needs)
+    (c .before .loop .inv .2)
 
 pub count-faulty-spec : {M : Type 1} → statement M
 count-faulty-spec =

@@ -23,22 +23,26 @@ enum-told-4 c = search needs
 returns : tie.Need-returns
 unfolding isIdle
 returns c =
-    sym (ap (λ (q : Phase). isIdle q && eqb (c .before .before .before .args .c .reads .0) 0) (c .before .enum-told .given .1))
+    sym (ap (λ (q : Phase). isIdle q && eqb (c .before .before .before .args .c .reads .0) 0)
+    (c .before .enum-told .given .1))
 
 returns-2 : tie.Need-returns-2
 unfolding isIdle
 returns-2 c =
-    sym (ap (λ (q : Phase). isIdle q && eqb (c .before .before .args .c .reads .0) 0) (c .enum-told2 .given .1))
+    sym (ap (λ (q : Phase). isIdle q && eqb (c .before .before .args .c .reads .0) 0)
+    (c .enum-told2 .given .1))
 
 returns-3 : tie.Need-returns-3
 unfolding isIdle
 returns-3 c =
-    sym (ap (λ (q : Phase). isIdle q && eqb (c .before .before .args .c .reads .0) 0) (c .enum-told3 .given .1))
+    sym (ap (λ (q : Phase). isIdle q && eqb (c .before .before .args .c .reads .0) 0)
+    (c .enum-told3 .given .1))
 
 returns-4 : tie.Need-returns-4
 unfolding isIdle
 returns-4 c =
-    sym (ap (λ (q : Phase). isIdle q && eqb (c .before .before .args .c .reads .0) 0) (c .enum-told4 .given .1))
+    sym (ap (λ (q : Phase). isIdle q && eqb (c .before .before .args .c .reads .0) 0)
+    (c .enum-told4 .given .1))
 
 pub is-at-rest-spec : {M : Type 1} → statement M
 is-at-rest-spec =

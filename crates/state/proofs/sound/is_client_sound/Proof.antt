@@ -18,7 +18,8 @@ numbered : (t : Settings) (i : ℕ) (c : Session) (l : List ℕ) (x : Bool)
     → isSound (record { number = i + 1; f = t .f; phase = c .phase; reads = c .reads }) l ≡ x
     → isSound (clientEnd t i c) l ≡ x
 numbered t i c l x e =
-    sym (ap (λ (n : ℕ). isSound (record { number = n; f = t .f; phase = c .phase; reads = c .reads }) l) (add-one i)) ∙ e
+    sym (ap (λ (n : ℕ). isSound (record { number = n; f = t .f; phase = c .phase; reads = c .reads }) l)
+    (add-one i)) ∙ e
 
 cast-t8 : tie.Need-cast-t8
 cast-t8 c = search needs
@@ -33,7 +34,8 @@ returns : tie.Need-returns
 unfolding isClientSound
 returns c =
     let a = c .before .before .before .before .args in
-    rw (numbered (a .t) (a .i) (a .c) (a .r .now) false (sym (c .before .is-sound .ensures) ∙ not-true _ (c .if1 .taken)))
+    rw (numbered (a .t) (a .i) (a .c) (a .r .now) false
+    (sym (c .before .is-sound .ensures) ∙ not-true _ (c .if1 .taken)))
 
 cast-if2 : tie.Need-cast-if2
 cast-if2 c = search needs
@@ -57,7 +59,8 @@ returns-3 c =
     let a = c .before .before .before .before .before .before .before .args in
     rw (
       numbered (a .t) (a .i) (a .c) (a .r .now) true
-          (sym (c .before .before .before .before .is-sound .ensures) ∙ not-false _ (c .before .before .before .if1 .left)),
+          (sym (c .before .before .before .before .is-sound .ensures)
+          ∙ not-false _ (c .before .before .before .if1 .left)),
       le-ltb (a .i) (a .t .clients) (c .before .if2 .left),
     ) (c .is-at-rest .ensures)
 

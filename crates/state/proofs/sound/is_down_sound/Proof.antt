@@ -1,4 +1,4 @@
--- `is_down_sound`: by the count. Assumes nothing.
+-- `is_down_sound`: an empty channel is, and another must be used. Assumes nothing.
 use mathlib.Core.Path.{sym, _∙_}
 use borrow.Author.Needs.{needs}
 use borrow.Author.Tests.{eq-eqb, ne-eqb}
@@ -22,7 +22,8 @@ count-requires c κs = search needs
 returns : tie.Need-returns
 returns c =
     let a = c .before .before .args in
-    rw (eq-eqb (countAt (a .b .now) (downIndex (a .i) (a .j))) 0 (sym (c .before .count .ensures) ∙ c .if1 .taken))
+    rw (eq-eqb (countAt (a .b .now) (downIndex (a .i) (a .j))) 0
+    (sym (c .before .count .ensures) ∙ c .if1 .taken))
 
 is-used-down-requires : tie.Need-is-used-down-requires
 is-used-down-requires c κs = search needs

@@ -1,4 +1,4 @@
--- `is_in_range`: test by test. Assumes nothing.
+-- `is_in_range`: the tests of the definition, in its order. Assumes nothing.
 use borrow.Author.Needs.{needs}
 use borrow.Author.Tests.{le-leb, lt-leb}
 use Rattle.register.specs.Settings.{inRange}

@@ -1,4 +1,4 @@
--- `is_link_sound`: both ways. Assumes nothing.
+-- `is_link_sound`: the channel up, and the one back. Assumes nothing.
 use mathlib.Core.Path.{sym, _∙_}
 use borrow.Author.Needs.{needs}
 use borrow.Author.Tests.{not-true, not-false}
@@ -19,7 +19,8 @@ is-down-sound-requires c κs = search needs
 returns-2 : tie.Need-returns-2
 unfolding isLinkSound
 returns-2 c =
-    rw (sym (c .before .before .is-up-sound .ensures) ∙ not-false _ (c .before .if1 .left)) (c .is-down-sound .ensures)
+    rw (sym (c .before .before .is-up-sound .ensures) ∙ not-false _ (c .before .if1 .left))
+    (c .is-down-sound .ensures)
 
 pub is-link-sound-spec : {M : Type 1} → statement M
 is-link-sound-spec =

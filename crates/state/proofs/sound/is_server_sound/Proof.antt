@@ -19,7 +19,10 @@ unfolding isServerSound
 returns c =
     let a = c .before .before .before .args in
     let small : a .v .pair .0 < 2 ^ 64 = omega (arith, c .before .before .before .good) in
-    rw (sym (c .before .before .is-honest .ensures) ∙ c .before .if1 .taken, lt-ltb (a .v .pair .0) (2 ^ 64) small)
+    rw (
+      sym (c .before .before .is-honest .ensures) ∙ c .before .if1 .taken,
+      lt-ltb (a .v .pair .0) (2 ^ 64) small,
+    )
     (c .is-within .ensures)
 
 returns-2 : tie.Need-returns-2

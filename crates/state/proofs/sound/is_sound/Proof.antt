@@ -37,10 +37,12 @@ unfolding isSound
 returns-2 c =
     let a = c .before .before .before .before .before .before .before .args in
     sym (one-false (soundTests (a .s) (a .b .now) (a .r .now)) 1
-    (lengths-fail (a .s) (a .b .now) (a .r .now) (sym (c .before .is-long .ensures) ∙ not-true _ (c .if2 .taken))))
+    (lengths-fail (a .s) (a .b .now) (a .r .now)
+    (sym (c .before .is-long .ensures) ∙ not-true _ (c .if2 .taken))))
 
 -- what the first two tests say
-few-clients : (c : tie.Else2) → c .before .before .before .before .before .before .before .args .s .settings .clients ≤ 6
+few-clients : (c : tie.Else2)
+    → c .before .before .before .before .before .before .before .args .s .settings .clients ≤ 6
 few-clients c =
     let e1 = c .before .before .before in
     allowed-six (c .before .before .before .before .before .before .before .args .s .settings)
@@ -79,7 +81,8 @@ are-clients-sound-requires c κs = eqb-true _ 546 (lengths (c .before .before .b
 returns-5 : tie.Need-returns-5
 unfolding isSound
 returns-5 c =
-    let a = c .before .before .before .before .before .before .before .before .before .before .before .before .before .args in
+    let e2 = c .before .before .before .before .before .before in
+    let a = e2 .before .before .before .before .before .before .before .args in
     sym (one-false (soundTests (a .s) (a .b .now) (a .r .now)) 4
     (sym (c .before .are-clients-sound .ensures) ∙ not-true _ (c .if5 .taken)))
 
@@ -98,7 +101,8 @@ returns-6 c =
     let a = start .args in
     let n = lengths e2 in
     let long : areLong (a .s) (a .b .now) (a .r .now) ≡ true =
-    lengths-of (a .s) (a .b .now) (a .r .now) (servers-long start) (clients-long start) (eqb-true _ 13884 (n .0))
+    lengths-of (a .s) (a .b .now) (a .r .now) (servers-long start) (clients-long start)
+    (eqb-true _ 13884 (n .0))
     (eqb-true _ 546 (n .1)) in
     c .are-channels-sound .ensures
     ∙ sym (all-six (sym (e1 .before .is-allowed .ensures) ∙ not-false _ (e1 .if1 .left)) long

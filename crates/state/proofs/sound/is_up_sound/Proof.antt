@@ -1,4 +1,4 @@
--- `is_up_sound`: by the count. Assumes nothing.
+-- `is_up_sound`: an empty channel is, and another must be used. Assumes nothing.
 use mathlib.Core.Path.{sym, _∙_}
 use borrow.Author.Needs.{needs}
 use borrow.Author.Tests.{eq-eqb, ne-eqb}
@@ -19,7 +19,8 @@ count-requires c κs = search needs
 returns : tie.Need-returns
 returns c =
     let a = c .before .before .args in
-    rw (eq-eqb (countAt (a .b .now) (upIndex (a .i) (a .j))) 0 (sym (c .before .count .ensures) ∙ c .if1 .taken))
+    rw (eq-eqb (countAt (a .b .now) (upIndex (a .i) (a .j))) 0
+    (sym (c .before .count .ensures) ∙ c .if1 .taken))
 
 is-used-up-requires : tie.Need-is-used-up-requires
 is-used-up-requires c κs = search needs

@@ -13,8 +13,8 @@ of-words-requires c κs = search needs
 enum-known-m : tie.Need-enum-known-m
 enum-known-m c = search needs
 
-is-sent-down-requires : tie.Need-is-sent-down-requires
-is-sent-down-requires c κs = search needs
+is-reply-requires : tie.Need-is-reply-requires
+is-reply-requires c κs = search needs
 
 enum-told : tie.Need-enum-told
 enum-told c = search needs
@@ -22,7 +22,7 @@ enum-told c = search needs
 returns : tie.Need-returns
 returns c =
     let s = c .before .before .before .before in
-    c .is-sent-down .ensures
+    c .is-reply .ensures
     ∙ ap isReply (sym (c .before .before .m .given .1) ∙ s .of-words .ensures ∙ words-unpack
     (s .before .args .w) (omega arith))
 
@@ -35,4 +35,4 @@ returns-2 c =
 pub is-reply-spec : {M : Type 1} → statement M
 is-reply-spec =
     tie.close
-    (tie.spec of-words-requires enum-known-m is-sent-down-requires enum-told returns returns-2)
+    (tie.spec of-words-requires enum-known-m is-reply-requires enum-told returns returns-2)

@@ -61,7 +61,7 @@ refused-requires c κs = search needs
 
 returns : tie.Need-returns
 returns c =
-    let at-after = c .before .before .before .before in
+    let at-after = c .before .before .before .before .before in
     let at-oldest = at-after .before in
     let at-up = at-oldest .before .before in
     let s = at-up .before in
@@ -80,16 +80,16 @@ reply-requires c κs = search needs
 
 returns-2 : tie.Need-returns-2
 returns-2 c =
-    let at-if1 = c .before .before .before .before .before in
+    let at-if1 = c .before .before .before .before in
     let at-has-room-down = at-if1 .before in
-    let at-after = at-has-room-down .before .before in
+    let at-after = at-has-room-down .before .before .before in
     let at-oldest = at-after .before in
     let at-up = at-oldest .before .before in
     let s = at-up .before in
     let a = s .args in
     λ l. served-gives (a .v) (a .b .now) (a .k) (a .d) _ _ _ (at-up .up .ensures) (at-oldest .oldest .ensures)
-    (at-after .after .ensures) (a .stopped) (a .c) l _ _ (s .pre .2) (c .before .before .before .take .ensures)
-    (c .before .reply .ensures)
+    (at-after .after .ensures) (a .stopped) (a .c) l _ _ (s .pre .2) (c .before .before .take .ensures)
+    (c .reply .ensures)
     ∙ works (a .stopped) (a .v) (a .c) (a .b .now) l (served s l) _
     (climbs (rungs s l) _ (next (not-of (at-has-room-down .has-room-down .ensures
     ∙ room-served (a .v) (a .b .now) (a .k) (a .d) _ _ _ (at-up .up .ensures) (at-oldest .oldest .ensures)

@@ -1,4 +1,4 @@
--- `client_place`: by cases.
+-- `client_place`: by cases; R, W and D name their client.
 -- Assumes nothing.
 use borrow.Author.Needs.{needs}
 use Rattle.system.specs.Ends.{clientPlace}

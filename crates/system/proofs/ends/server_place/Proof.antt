@@ -1,4 +1,4 @@
--- `server_place`: by cases.
+-- `server_place`: by cases; only K has a server to change.
 -- Assumes nothing.
 use borrow.Author.Needs.{needs}
 use Rattle.system.specs.Ends.{serverPlace}

@@ -1,4 +1,4 @@
--- `code`: by cases.
+-- `code`: by cases; each answer has its own number.
 -- Assumes nothing.
 use borrow.Author.Needs.{needs}
 use Rattle.system.specs.Run.{codeOf}

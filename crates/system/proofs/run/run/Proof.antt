@@ -1,17 +1,15 @@
--- `run`: a refused setup leaves everything; an accepted one is allowed, so its run is the history's, and demand 3 holds of it.
+-- `run`: a refused setup leaves everything; an accepted one is allowed, so its run is the history's, and demand 3
+-- holds of it.
 -- Assumes nothing.
 use mathlib.Core.Path.{_≡_, refl, sym, subst, _∙_}
 use native.Mathlib.Omega.{arith}
 use borrow.Author.Needs.{needs}
-use Rattle.register.specs.World.{newWorld}
 use Rattle.register.proofs.Formats.{holds-always}
 use Rattle.state.specs.declared.Settings.{Settings}
 use Rattle.state.specs.Sound.{areAllowed}
-use Rattle.state.specs.State.{settingsOf}
 use Rattle.state.proofs.SoundFacts.{allowed-of}
 use mathlib.Core.Bool.{true}
 use Rattle.system.specs.Run.{howMany, stepsIn}
-use Rattle.system.specs.Setup.{setupOf}
 use Rattle.system.proofs.RunLaws.{own-settings, stored-own, run-own}
 use Rattle.system.proofs.SetupLaws.{allowed-set}
 use Rattle.system.proofs.run.run.Statement.{statement}
@@ -37,11 +35,16 @@ set-up-requires c κs = search needs
 
 take-all-requires : tie.Need-take-all-requires
 take-all-requires c κs =
-    let a = c .before .before .before .before .before .before .before .before .before .before .before .before .before .args in
-    let e = sym (c .before .before .before .before .before .before .before .before .before .before .settings-of .ensures) ∙ c .before .before .before .before .before .before .before .before .setup .given .1 in
-    let st = c .before .before .before .set-up .ensures in
-    let n = c .before .before .before .before .before .before .least .ensures in (
-      subst (λ (t : Settings). areAllowed t ≡ true) (sym (own-settings _ _ _ _ _ st)) (allowed-of _ (allowed-set _ _ _ _ e)),
+    let s = c .before .before .before in
+    let n = s .before .before .before in
+    let told = n .before .before in
+    let asked = told .before .before in
+    let a = asked .before .before .before .args in
+    let e = sym (asked .settings-of .ensures) ∙ told .setup .given .1 in
+    let st = s .set-up .ensures in
+    let many = n .least .ensures in (
+      subst (λ (t : Settings). areAllowed t ≡ true) (sym (own-settings _ _ _ _ _ st))
+          (allowed-of _ (allowed-set _ _ _ _ e)),
       stored-own _ _ _ _ _ st,
       omega arith,
       omega arith,
@@ -58,14 +61,18 @@ same-length c = search needs
 returns-2 : tie.Need-returns-2
 unfolding howMany
 returns-2 c =
-    let a = c .before .before .before .before .before .before .before .before .before .before .before .before .before .before .before .before .args in
-    let e = sym (c .before .before .before .before .before .before .before .before .before .before .before .before .before .settings-of .ensures) ∙ c .before .before .before .before .before .before .before .before .before .before .before .setup .given .1 in
-    let st = c .before .before .before .before .before .before .set-up .ensures in (
+    let s = c .before .before .before .before .before .before in
+    let n = s .before .before .before in
+    let told = n .before .before in
+    let asked = told .before .before in
+    let a = asked .before .before .before .args in
+    let e = sym (asked .settings-of .ensures) ∙ told .setup .given .1 in
+    let many = howMany (a .steps .now) (a .out .now) in (
       sym e,
       rw e (
-        run-own _ _ (a .steps .now) (a .out .now) _ (howMany (a .steps .now) (a .out .now)) _ _ _ _ (own-settings _ _ _ _ _ st) (c .before .before .before .before .before .before .before .before .before .least .ensures)
-            (c .before .before .take-all .ensures),
-        holds-always _ (allowed-set _ _ _ _ e .accepted) (stepsIn (a .steps .now) (howMany (a .steps .now) (a .out .now))),
+        run-own _ _ (a .steps .now) (a .out .now) _ many _ _ _ _ (own-settings _ _ _ _ _ (s .set-up .ensures))
+            (n .least .ensures) (c .before .before .take-all .ensures),
+        holds-always _ (allowed-set _ _ _ _ e .accepted) (stepsIn (a .steps .now) many),
       ),
     )
 

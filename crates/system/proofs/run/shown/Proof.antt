@@ -1,4 +1,4 @@
--- `shown`: by cases.
+-- `shown`: by cases; READ and WROTE show a pair, the others 0.
 -- Assumes nothing.
 use borrow.Author.Needs.{needs}
 use Rattle.system.specs.Run.{shownBy}

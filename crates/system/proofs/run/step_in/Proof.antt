@@ -1,4 +1,4 @@
--- `step_in`: five numbers of the list.
+-- `step_in`: the five numbers of step i are within the list.
 -- Assumes nothing.
 use borrow.Author.Needs.{needs}
 use Rattle.system.specs.Run.{stepIn}

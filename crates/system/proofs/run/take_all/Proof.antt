@@ -1,5 +1,5 @@
--- `take_all`: before step i the state is that of the history's world i, and the answers up to it are written. A step more is one turn
--- (`Turn`, `RunLaws`).
+-- `take_all`: before step i the state is that of the history's world i, and the answers up to it are written.
+-- A step more is one turn (`Turn`, `RunLaws`).
 -- Assumes nothing.
 use Prim.Native.Nat.{ℕ, _≤_, _<_, _-_}
 use mathlib.Core.Path.{_≡_, refl, ap, subst, _∙_}
@@ -29,8 +29,11 @@ abbrev μ-loop : tie.MeasureT-loop
 loop-holds : tie.Need-loop-holds Inv-loop μ-loop
 loop-holds c =
     let p = c .before .before .before .pre in
-    let a = c .before .before .before .args in
-    (omega arith, refl, run-none (a .s .settings) (a .steps .now) (a .n) (a .out .now) (a .s) (a .b .now) (a .r .now) (p .1))
+    let a = c .before .before .before .args in (
+      omega arith,
+      refl,
+      run-none (a .s .settings) (a .steps .now) (a .n) (a .out .now) (a .s) (a .b .now) (a .r .now) (p .1),
+    )
 
 step-in-requires : tie.Need-step-in-requires Inv-loop μ-loop
 step-in-requires c κs = let p = c .before .before .before .before .before .pre .2 in omega arith
@@ -41,71 +44,75 @@ server-place-requires c κs = search needs
 client-place-requires : tie.Need-client-place-requires Inv-loop μ-loop
 client-place-requires c κs = search needs
 
+-- the two places, where both are known
+module _ (c : tie.After-client-place Inv-loop μ-loop) where
+  server-inside : c .before .server-place .result < 13
+  server-inside = rw (c .before .server-place .ensures) (server-within (c .before .before .step-in .result))
+
+  client-inside : c .client-place .result < 6
+  client-inside = rw (c .client-place .ensures) (client-within (c .before .before .step-in .result))
+
 mul-v : tie.Need-mul-v Inv-loop μ-loop
-mul-v c =
-    let at : c .before .server-place .result < 13 = rw (c .before .server-place .ensures) (server-within (c .before .before .step-in .result)) in
-    search needs
+mul-v c = let at = server-inside c in search needs
 
 element-copy-out-v : tie.Need-element-copy-out-v Inv-loop μ-loop
-element-copy-out-v c =
-    let at : c .before .server-place .result < 13 = rw (c .before .server-place .ensures) (server-within (c .before .before .step-in .result)) in
-    search needs
+element-copy-out-v c = server-inside c
 
 mul-c : tie.Need-mul-c Inv-loop μ-loop
-mul-c c =
-    let at : c .before .client-place .result < 6 = rw (c .before .client-place .ensures) (client-within (c .before .before .before .step-in .result)) in
-    search needs
+mul-c c = let at = client-inside (c .before) in search needs
 
 element-copy-out-c : tie.Need-element-copy-out-c Inv-loop μ-loop
-element-copy-out-c c =
-    let at : c .before .client-place .result < 6 = rw (c .before .client-place .ensures) (client-within (c .before .before .before .step-in .result)) in
-    search needs
+element-copy-out-c c = client-inside (c .before)
 
 inner-requires : tie.Need-inner-requires Inv-loop μ-loop
 inner-requires c κs =
-    let a = c .before .before .before .before .before .before .before .before .before .before .before .before .args in
-    let p = c .before .before .before .before .before .before .before .before .before .before .before .before .pre in
-    let l = c .before .before .before .before .before .before .before .before .loop in
-    let allowed = allowed-facts (a .s .settings) (p .0) in
+    let places = c .before .before .before .before in
+    let l = places .before .before .before .before .loop in
+    let start = places .before .before .before .before .before .before .before .before in
+    let a = start .args in
+    let allowed = allowed-facts (a .s .settings) (start .pre .0) in
     let S = settingsOf (a .s .settings) in
     ready-stored (a .s .settings) allowed (worldAt S formats (stepsIn (a .steps .now) (a .n)) (l .i))
-    (well-at S (allowed .accepted) (stepsIn (a .steps .now) (a .n)) (l .i)) (l .u) (l .b) (l .r) (l .inv .2 .stored)
-    (c .before .before .before .before .before .before .step-in .result) _ _ (c .before .before .before .before .before .server-place .ensures) (c .before .before .before .before .client-place .ensures) _ _
+    (well-at S (allowed .accepted) (stepsIn (a .steps .now) (a .n)) (l .i)) (l .u) (l .b) (l .r)
+    (l .inv .2 .stored)
+    (places .before .before .step-in .result) _ _ (places .before .server-place .ensures)
+    (places .client-place .ensures) _ _
 
 write-answer-requires : tie.Need-write-answer-requires Inv-loop μ-loop
 write-answer-requires c κs =
-    let p = c .before .before .before .before .before .before .before .before .before .before .before .before .before .before .pre .3 in
-    let l = c .before .before .before .before .before .before .before .before .before .before .loop .inv .1 in
+    let places = c .before .before .before .before .before .before in
+    let l = places .before .before .before .before .loop .inv .1 in
+    let p = places .before .before .before .before .before .before .before .before .pre .3 in
     omega arith
 
 mul-w : tie.Need-mul-w Inv-loop μ-loop
 mul-w c =
-    let at : c .before .before .before .before .before .before .before .before .before .before .before .server-place .result < 13 =
-    rw (c .before .before .before .before .before .before .before .before .before .before .before .server-place .ensures) (server-within (c .before .before .before .before .before .before .before .before .before .before .before .before .step-in .result)) in
+    let z = c .before .before .before .before .before in
+    let at = server-inside (z .before .before .before .before .before) in
     search needs
 
 element-set-from-w : tie.Need-element-set-from-w Inv-loop μ-loop
 element-set-from-w c =
-    let at : c .before .before .before .before .before .before .before .before .before .before .before .server-place .result < 13 =
-    rw (c .before .before .before .before .before .before .before .before .before .before .before .server-place .ensures) (server-within (c .before .before .before .before .before .before .before .before .before .before .before .before .step-in .result)) in
-    search needs
+    let z = c .before .before .before .before .before in
+    server-inside (z .before .before .before .before .before)
 
 mul-y : tie.Need-mul-y Inv-loop μ-loop
 mul-y c =
-    let at : c .before .before .before .before .before .before .before .before .before .before .before .client-place .result < 6 =
-    rw (c .before .before .before .before .before .before .before .before .before .before .before .client-place .ensures) (client-within (c .before .before .before .before .before .before .before .before .before .before .before .before .before .step-in .result)) in
+    let z = c .before .before .before .before .before .before in
+    let at = client-inside (z .before .before .before .before .before) in
     search needs
 
 element-set-from-y : tie.Need-element-set-from-y Inv-loop μ-loop
 element-set-from-y c =
-    let at : c .before .before .before .before .before .before .before .before .before .before .before .client-place .result < 6 =
-    rw (c .before .before .before .before .before .before .before .before .before .before .before .client-place .ensures) (client-within (c .before .before .before .before .before .before .before .before .before .before .before .before .before .step-in .result)) in
-    search needs
+    let z = c .before .before .before .before .before .before in
+    client-inside (z .before .before .before .before .before)
 
 add-i : tie.Need-add-i Inv-loop μ-loop
 add-i c =
-    let less = c .before .before .before .before .before .before .before .before .before .before .before .before .before .before .loop-test .taken in
-    let fits = c .before .before .before .before .before .before .before .before .before .before .before .before .before .before .before .before .before .before .before .fits .n in
+    let z = c .before .before .before .before .before .before in
+    let turn = z .before .before .before .before .before .before .before .before in
+    let less = turn .loop-test .taken in
+    let fits = turn .before .before .before .before .before .fits .n in
     search needs
 
 loop-less : tie.Need-loop-less Inv-loop μ-loop
@@ -113,21 +120,28 @@ loop-less c = search needs
 
 loop-again : tie.Need-loop-again Inv-loop μ-loop
 loop-again c =
-    let a = c .before .before .before .before .before .before .before .before .before .before .before .before .before .before .before .before .before .before .before .args in
-    let p = c .before .before .before .before .before .before .before .before .before .before .before .before .before .before .before .before .before .before .before .pre in
-    let l = c .before .before .before .before .before .before .before .before .before .before .before .before .before .before .before .loop in
+    let w = c .before .before .before .before in
+    let z = w .before .before in
+    let places = z .before .before .before .before .before in
+    let turn = places .before .before .before in
+    let l = turn .before .loop in
+    let start = turn .before .before .before .before .before in
+    let a = start .args in
+    let x = places .before .before .step-in in
     let S = settingsOf (a .s .settings) in
-    let allowed = allowed-facts (a .s .settings) (p .0) in
-    let w = worldAt S formats (stepsIn (a .steps .now) (a .n)) (l .i) in
+    let allowed = allowed-facts (a .s .settings) (start .pre .0) in
+    let world = worldAt S formats (stepsIn (a .steps .now) (a .n)) (l .i) in
     let well = well-at S (allowed .accepted) (stepsIn (a .steps .now) (a .n)) (l .i) in (
       omega arith,
       search needs,
-      run-more (a .s .settings) (a .steps .now) (a .n) (a .out .now) (l .i) (c .before .before .before .before .before .before .before .before .before .before .before .before .before .before .loop-test .taken) _ _ (l .out) _
-          (l .inv .2 .answers) (c .before .before .before .before .write-answer .ensures)
-          (turned (a .s .settings) (allowed .accepted) w well (stepIn (a .steps .now) (l .i)) (l .u) (l .b) (l .r) (l .inv .2 .stored)
-          (c .before .before .before .before .before .before .before .before .before .before .before .before .before .step-in .result) _ _ (c .before .before .before .before .before .before .before .before .before .before .before .before .before .step-in .ensures)
-          (c .before .before .before .before .before .before .before .before .before .before .before .before .server-place .ensures ∙ ap serverPlace (c .before .before .before .before .before .before .before .before .before .before .before .before .before .step-in .ensures))
-          (c .before .before .before .before .before .before .before .before .before .before .before .client-place .ensures ∙ ap clientPlace (c .before .before .before .before .before .before .before .before .before .before .before .before .before .step-in .ensures)) _ _ _ (c .before .before .before .before .before .before .inner .ensures)),
+      run-more (a .s .settings) (a .steps .now) (a .n) (a .out .now) (l .i) (turn .loop-test .taken) _ _
+          (l .out) _
+          (l .inv .2 .answers) (w .write-answer .ensures)
+          (turned (a .s .settings) (allowed .accepted) world well (stepIn (a .steps .now) (l .i)) (l .u)
+          (l .b) (l .r)
+          (l .inv .2 .stored) (x .result) _ _ (x .ensures)
+          (places .before .server-place .ensures ∙ ap serverPlace (x .ensures))
+          (places .client-place .ensures ∙ ap clientPlace (x .ensures)) _ _ _ (z .inner .ensures)),
     )
 
 same-length : tie.Need-same-length Inv-loop μ-loop
@@ -138,7 +152,9 @@ returns c =
     let a = c .before .before .before .before .before .args in
     let l = c .before .loop in
     let end : l .i ≡ a .n = omega arith in
-    subst (λ (k : ℕ). Run (a .s .settings) (a .steps .now) (a .out .now) (a .n) k (l .u) (l .b) (l .r) (l .out)) end (l .inv .2)
+    subst (λ (k : ℕ). Run (a .s .settings) (a .steps .now) (a .out .now) (a .n) k (l .u) (l .b) (l .r)
+    (l .out)) end
+    (l .inv .2)
 
 pub take-all-spec : {M : Type 1} → statement M
 take-all-spec =

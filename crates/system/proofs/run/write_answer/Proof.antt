@@ -1,4 +1,4 @@
--- `write_answer`: two stores.
+-- `write_answer`: two stores, at the answer's two places.
 -- Assumes nothing.
 use native.Mathlib.Omega.{arith}
 use lib.ListN.{length-set}

@@ -1,5 +1,5 @@
--- `take_step`: the places are within the system, a sound state has what the inner step asks, and the parts put back are the
--- step of the state (`step-law`). Assumes nothing.
+-- `take_step`: the places are within the system, a sound state has what the inner step asks, and the parts
+-- put back are the step of the state (`step-law`). Assumes nothing.
 use Prim.Native.Nat.{_<_}
 use borrow.Author.Needs.{needs}
 use Rattle.state.proofs.SoundFacts.{facts}

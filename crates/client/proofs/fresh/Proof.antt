@@ -1,0 +1,11 @@
+-- `fresh`: idle, at read number 0.
+-- Assumes nothing.
+use mathlib.Core.Path.{refl}
+use Rattle.client.proofs.fresh.Statement.{statement}
+use Rattle.client.proofs.fresh.Tie as tie
+
+returns : tie.Need-returns
+returns c = refl
+
+pub fresh-spec : {M : Type 1} → statement M
+fresh-spec = tie.close (tie.spec returns)

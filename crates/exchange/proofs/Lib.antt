@@ -1,0 +1,5 @@
+pub mod NewEnd
+pub mod Keeping
+pub mod Places
+pub mod Delivery
+pub mod Serving

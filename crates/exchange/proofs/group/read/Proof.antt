@@ -1,0 +1,41 @@
+-- `read`: the end of client i goes on (`goes-on`).
+-- Assumes nothing.
+use borrow.Author.Needs.{needs}
+use Prim.Native.Nat.{_<_}
+use lib.ListN.{length}
+use Rattle.exchange.specs.ClientEnd.{endReads}
+use Rattle.exchange.specs.Group.{reads}
+use mathlib.Core.Path.{_≡_}
+use Rattle.exchange.proofs.Places.{length-mapped, goes-on}
+use Rattle.exchange.proofs.group.read.Statement.{statement}
+use Rattle.exchange.proofs.group.read.Tie as tie
+
+mul-e : tie.Need-mul-e
+mul-e c = search needs
+
+element-copy-out-e : tie.Need-element-copy-out-e
+element-copy-out-e c = search needs
+
+end-reads-requires : tie.Need-end-reads-requires
+end-reads-requires c κs = search needs
+
+mul-next : tie.Need-mul-next
+mul-next c = search needs
+
+element-set-from-next : tie.Need-element-set-from-next
+element-set-from-next c = search needs
+
+two-clients : (s : tie.Start) → length (s .args .t1 .clients) ≡ 2
+two-clients s = search (needs, length-mapped)
+
+returns : tie.Need-returns
+unfolding reads
+returns c =
+    let a = c .before .before .args in
+    let inside : a .i < length (a .t1 .clients) = rw (two-clients (c .before .before)) (search needs) in
+    goes-on (a .t1) (a .i) _ endReads _ inside (c .end-reads .ensures)
+
+pub read-spec : {M : Type 1} → statement M
+read-spec =
+    tie.close
+    (tie.spec mul-e element-copy-out-e end-reads-requires mul-next element-set-from-next returns)

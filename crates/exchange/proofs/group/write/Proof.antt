@@ -1,0 +1,41 @@
+-- `write`: the end of client i goes on (`goes-on`).
+-- Assumes nothing.
+use borrow.Author.Needs.{needs}
+use Prim.Native.Nat.{_<_}
+use lib.ListN.{length}
+use Rattle.exchange.specs.ClientEnd.{endWrites}
+use Rattle.exchange.specs.Group.{writes}
+use mathlib.Core.Path.{_≡_}
+use Rattle.exchange.proofs.Places.{length-mapped, goes-on}
+use Rattle.exchange.proofs.group.write.Statement.{statement}
+use Rattle.exchange.proofs.group.write.Tie as tie
+
+mul-e : tie.Need-mul-e
+mul-e c = search needs
+
+element-copy-out-e : tie.Need-element-copy-out-e
+element-copy-out-e c = search needs
+
+end-writes-requires : tie.Need-end-writes-requires
+end-writes-requires c κs = search needs
+
+mul-next : tie.Need-mul-next
+mul-next c = search needs
+
+element-set-from-next : tie.Need-element-set-from-next
+element-set-from-next c = search needs
+
+two-clients : (s : tie.Start) → length (s .args .t1 .clients) ≡ 2
+two-clients s = search (needs, length-mapped)
+
+returns : tie.Need-returns
+unfolding writes
+returns c =
+    let a = c .before .before .args in
+    let inside : a .i < length (a .t1 .clients) = rw (two-clients (c .before .before)) (search needs) in
+    goes-on (a .t1) (a .i) _ (λ e. endWrites e (a .entry)) _ inside (c .end-writes .ensures)
+
+pub write-spec : {M : Type 1} → statement M
+write-spec =
+    tie.close
+    (tie.spec mul-e element-copy-out-e end-writes-requires mul-next element-set-from-next returns)

@@ -1,0 +1,62 @@
+-- `exports_unpack`: bytes that are no message are refused, and those of a message give its fields.
+-- Assumes nothing.
+use mathlib.Core.Path.{_≡_, sym, ap, _∙_}
+use borrow.Author.Needs.{needs}
+use Rattle.message.specs.declared.Unpacked.{Unpacked}
+use Rattle.message.specs.declared.Unpacked.the-variants.{Good, Bad}
+use Rattle.message.specs.Layout.{unpackOf}
+use Rattle.exports.specs.Fields.{unpackedNumber, unpackedFields}
+use Rattle.exports.proofs.messages.exports_unpack.Statement.{statement}
+use Rattle.exports.proofs.messages.exports_unpack.Tie as tie
+
+unpack-requires : tie.Need-unpack-requires
+unpack-requires c κs = search needs
+
+enum-told : tie.Need-enum-told
+enum-told c = search needs
+
+number-requires : tie.Need-number-requires
+number-requires c κs = search needs
+
+cast-result : tie.Need-cast-result
+cast-result c = search needs
+
+enum-known-u : tie.Need-enum-known-u
+enum-known-u c = search needs
+
+fields-of-requires : tie.Need-fields-of-requires
+fields-of-requires c κs = search needs
+
+returns : tie.Need-returns
+returns c =
+    let made = c .before .before .before in
+    let a = made .before .before .args in
+    let told = c .before .enum-told .given .1 in
+    let bad : unpackOf (a .bytes .now) ≡ Bad = sym (made .unpack .ensures) ∙ told in (
+      c .number .ensures ∙ ap unpackedNumber (sym bad),
+      ap (λ (u : Unpacked). unpackedFields u (a .fields .now)) (sym bad),
+    )
+
+returns-2 : tie.Need-returns-2
+returns-2 c =
+    let good = c .before .before in
+    let made = good .before .before in
+    let a = made .before .before .args in
+    let m = good .u .given .0 .0 in
+    let is : unpackOf (a .bytes .now) ≡ Good m = sym (made .unpack .ensures) ∙ good .u .given .1 in (
+      ap unpackedNumber (sym is),
+      c .fields-of .ensures ∙ ap (λ (u : Unpacked). unpackedFields u (a .fields .now)) (sym is),
+    )
+
+pub exports-unpack-spec : {M : Type 1} → statement M
+exports-unpack-spec =
+    tie.close
+    (tie.spec
+    unpack-requires
+    enum-told
+    number-requires
+    cast-result
+    enum-known-u
+    fields-of-requires
+    returns
+    returns-2)

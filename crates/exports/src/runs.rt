@@ -1,0 +1,94 @@
+// Whole runs: a list of steps from a setup, five numbers a step and two an answer.
+ghost use mathlib.Core.Path.{_≡_};
+ghost use mathlib.Core.Bool.{true};
+ghost use lib.ListN.{length};
+ghost use Prim.Native.Nat.{_*_, _≤_};
+ghost use Rattle.state.specs.Sound.{areAllowed};
+ghost use Rattle.system.specs.Setup.{setupOf};
+ghost use Rattle.exports.specs.Runs.{setupNumber, answersBy, answersOf};
+use state::Settings;
+use system::run::least;
+use system::run::run;
+use system::run::step_in;
+use system::run::write_answer;
+use system::setup::Setup;
+use system::setup::set_up;
+use system::setup::settings_of;
+use system::step::step;
+
+// The numbers of a step, and of an answer.
+const STEP: usize = 5;
+
+const ANSWER: usize = 2;
+
+// Nothing, or the refusal's number.
+fn setup_number(setup: Setup) -> u32
+    ensures { λ r. ⌜ r ≡ setupNumber setup ⌝ }
+{
+    match setup {
+        Setup::Set(_) => 0,
+        Setup::Refused(n) => refusal::number(n) as u32,
+    }
+}
+
+// The steps one after the other through `step`, which tests the whole state each time.
+fn step_through(t: Settings, steps: &[u64], n: usize, out: &mut [u64])
+    requires { ⌜ (areAllowed t ≡ true) × (n * 5 ≤ length (now steps)) × (n * 2 ≤ length (now out)) ⌝ }
+    ensures { λ z. ⌜ now (out .exit) ≡ answersBy t (now (steps .entry)) n (now (out .entry)) ⌝ }
+{
+    let mut b = channel::empty_slots();
+    let mut r = [0u64; 546];
+    let mut s = set_up(t, &mut b, &mut r);
+    let mut i = 0;
+    while i < n {
+        let x = step_in(steps, i);
+        let z = step(s, x, &mut b, &mut r);
+        let a = z.answer;
+        write_answer(out, i, a);
+        let u = z.system;
+        s = u;
+        i += 1;
+    }
+}
+
+// A run by `run`: its state stays its own, so that no step needs to test it. Answers 0, or the number of the setup's refusal.
+#[no_mangle]
+pub extern "C" fn exports_run(
+    f: u32,
+    clients: u32,
+    faulty: u32,
+    steps: &[u64],
+    out: &mut [u64],
+) -> u32
+    ensures answer { λ z. ⌜ z ≡ setupNumber (setupOf f clients faulty) ⌝ }
+    ensures answers { λ z. ⌜ now (out .exit) ≡ answersOf (setupOf f clients faulty) (now (steps .entry)) (now (out .entry)) ⌝ }
+{
+    let mut b = channel::empty_slots();
+    let mut r = [0u64; 546];
+    let z = run(f, clients, faulty, steps, out, &mut b, &mut r);
+    let setup = z.setup;
+    setup_number(setup)
+}
+
+// The same run, each step through the public `step`.
+#[no_mangle]
+pub extern "C" fn exports_run_by_steps(
+    f: u32,
+    clients: u32,
+    faulty: u32,
+    steps: &[u64],
+    out: &mut [u64],
+) -> u32
+    ensures answer { λ z. ⌜ z ≡ setupNumber (setupOf f clients faulty) ⌝ }
+    ensures answers { λ z. ⌜ now (out .exit) ≡ answersOf (setupOf f clients faulty) (now (steps .entry)) (now (out .entry)) ⌝ }
+{
+    let setup = settings_of(f, clients, faulty);
+    match setup {
+        Setup::Refused(n) => refusal::number(n) as u32,
+        Setup::Set(t) => {
+            let n = least(steps.len() / STEP, out.len() / ANSWER);
+            step_through(t, steps, n, out);
+            0
+        }
+    }
+}
