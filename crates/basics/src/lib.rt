@@ -1,6 +1,6 @@
-// What is not about licences or registers: a byte as a wider number, and the bytes of a number.
+// What is not about licences or registers: a byte as a wider number, the bytes of a number, the lower of two.
 ghost use mathlib.Core.Path.{_≡_};
-ghost use Prim.Native.Nat.{_<_, _+_, _*_, _/_, _%_, _^_};
+ghost use Prim.Native.Nat.{_<_, _+_, _*_, _/_, _%_, _^_, min};
 
 // A byte as a number of 64 bits.
 pub fn wide(b: u8) -> u64
@@ -23,4 +23,11 @@ pub fn push(x: u64, b: u8) -> u64
     ensures { λ r. ⌜ r ≡ x * 256 + b ⌝ }
 {
     (x << 8) | (b as u64)
+}
+
+// The lower of two numbers.
+pub fn least(a: usize, b: usize) -> usize
+    ensures { λ r. ⌜ r ≡ min a b ⌝ }
+{
+    if a < b { a } else { b }
 }

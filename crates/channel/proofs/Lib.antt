@@ -8,4 +8,3 @@ pub mod Laws
 pub mod Held
 pub mod Laid
 pub mod Messages
-pub mod Places

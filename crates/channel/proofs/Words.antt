@@ -1,18 +1,20 @@
--- Eleven bytes as two words: three bytes, and eight behind them.
+-- Eleven bytes as two words: three bytes, and eight behind them, which are read in two halves.
 --
 -- In order: one byte of a number (`byte-at`); bytes read one more at a time (`spelt-more`, `more-lt`); two words stored one
--- behind the other (`words-stored`), and read (`words-read`).
+-- behind the other (`words-stored`); bytes behind bytes, and what they spell; a word read in halves (`halves-read`), and two
+-- words read (`words-read`).
 -- Assumes nothing.
 use mathlib.Core.Path.{_≡_, refl, sym, ap, _∙_}
 use mathlib.Core.Bool.{true}
 use mathlib.Core.List.{List, [], _∷_, _++_}
 use Prim.Native.Nat.{ℕ, zero, suc, _+_, _*_, _/_, _%_, _^_, _<_}
-use native.Mathlib.Nat.{add-assoc}
+use native.Mathlib.Nat.{add-assoc, mod-lt}
 use native.Mathlib.Omega.{arith}
 use lib.ListN.{length, getD, List·getD-append}
 use lib.Seq.{getD-append-add}
 use lib.Dec.{ltb}
-use lib.Pow.{pow-add, areBytes}
+use lib.Bits.{bitOr, or-lt, or-shifted}
+use lib.Pow.{pow-add, shl-exact, areBytes}
 use borrow.Author.Tests.{lt-ltb}
 use Rattle.basics.specs.Bytes.{bigEndian, spelt}
 use Rattle.basics.proofs.Cases.{both, both-of}
@@ -73,24 +75,39 @@ words-stored b at h l small =
     ∙ ap (λ (x : List ℕ). filled x (at + 3) (λ j. getD t j 0) 8)
     (filled-same b at (λ j. getD (s ++ t) j 0) (λ j. getD s j 0) 3 (λ j less. List·getD-append s t 0 j (omega arith)))))
 
--- three bytes, and the eight behind them
-module _ (b : List ℕ) (at : ℕ) where
-  eleven : bytesAt b at 11 ≡ bytesAt b at 3 ++ bytesAt b (at + 3) 8
-  eleven =
-      listed-join (λ j. getD b (at + j) 0) 3 8
-      ∙ ap (λ (s : List ℕ). bytesAt b at 3 ++ s)
-      (listed-same (λ j. getD b (at + (3 + j)) 0) (λ j. getD b (at + 3 + j) 0) 8
-      (λ j less. ap (λ (k : ℕ). getD b k 0) (sym (add-assoc at 3 j))))
+-- j bytes, and the k behind them
+module _ (b : List ℕ) (at j k : ℕ) where
+  two : bytesAt b at (j + k) ≡ bytesAt b at j ++ bytesAt b (at + j) k
+  two =
+      listed-join (λ i. getD b (at + i) 0) j k
+      ∙ ap (λ (s : List ℕ). bytesAt b at j ++ s)
+      (listed-same (λ i. getD b (at + (j + i)) 0) (λ i. getD b (at + j + i) 0) k
+      (λ i less. ap (λ (n : ℕ). getD b n 0) (sym (add-assoc at j i))))
 
-  pub words-bytes : areBytes (bytesAt b at 3) ≡ true → areBytes (bytesAt b (at + 3) 8) ≡ true → areBytes (bytesAt b at 11) ≡ true
-  words-bytes p q = rw eleven (bytes-append (bytesAt b at 3) (bytesAt b (at + 3) 8) p q)
+  pub bytes-two : areBytes (bytesAt b at j) ≡ true → areBytes (bytesAt b (at + j) k) ≡ true
+      → areBytes (bytesAt b at (j + k)) ≡ true
+  bytes-two p q = rw two (bytes-append (bytesAt b at j) (bytesAt b (at + j) k) p q)
 
-  pub words-read : (h l : ℕ) → h ≡ spelt 0 (bytesAt b at 3) → l ≡ spelt 0 (bytesAt b (at + 3) 8) → l < 2 ^ 64
+  spelt-two : (h l : ℕ) → h ≡ spelt 0 (bytesAt b at j) → l ≡ spelt 0 (bytesAt b (at + j) k)
+      → spelt 0 (bytesAt b at (j + k)) ≡ h * 256 ^ k + l
+  spelt-two h l eh el =
+      let s = bytesAt b at j in
+      let t = bytesAt b (at + j) k in
+      ap (spelt 0) two ∙ spelt-join 0 s t ∙ spelt-split (spelt 0 s) t
+      ∙ rw (listed-length (λ i. getD b (at + j + i) 0) k, ← eh, ← el)
+
+pub halves-lt : (h l : ℕ) → l < 2 ^ 32 → bitOr (h * 2 ^ 32 % 2 ^ 64) l < 2 ^ 64
+halves-lt h l low = or-lt 64 (h * 2 ^ 32 % 2 ^ 64) l (mod-lt (h * 2 ^ 32) (omega arith)) (omega arith)
+
+module _ (b : List ℕ) (at h l : ℕ) where
+  -- a word of two halves, joined by shift and or
+  pub halves-read : h ≡ spelt 0 (bytesAt b at 4) → l ≡ spelt 0 (bytesAt b (at + 4) 4) → h < 2 ^ 32 → l < 2 ^ 32
+      → bitOr (h * 2 ^ 32 % 2 ^ 64) l ≡ spelt 0 (bytesAt b at 8)
+  halves-read eh el high low =
+      ap (λ (n : ℕ). bitOr n l) (shl-exact 32 32 64 high (omega arith)) ∙ or-shifted h 32 l low
+      ∙ sym (spelt-two b at 4 4 h l eh el)
+
+  -- two words, of three bytes and of eight
+  pub words-read : h ≡ spelt 0 (bytesAt b at 3) → l ≡ spelt 0 (bytesAt b (at + 3) 8) → l < 2 ^ 64
       → _≡_ {A = Words} (record { 0 = h; 1 = l }) (words (spelt 0 (bytesAt b at 11)))
-  words-read h l eh el small =
-      let s = bytesAt b at 3 in
-      let t = bytesAt b (at + 3) 8 in
-      let whole : spelt 0 (bytesAt b at 11) ≡ h * 2 ^ 64 + l =
-      ap (spelt 0) eleven ∙ spelt-join 0 s t ∙ spelt-split (spelt 0 s) t
-      ∙ rw (listed-length (λ j. getD b (at + 3 + j) 0) 8, ← eh, ← el) in
-      rw whole (words-back h l small)
+  words-read eh el small = rw (spelt-two b at 3 8 h l eh el) (words-back h l small)

@@ -3,7 +3,7 @@
 -- 156 channels stand one after the other, each of 89 bytes: its count, and eight slots of eleven bytes, oldest message first.
 -- What the bytes mean is said in `Layout`; here is what each operation does to any list of bytes.
 --
--- In order: sizes; which channel is whose; parts of a channel; bytes read and bytes written; put, oldest, take and clear.
+-- In order: sizes; parts of a channel; bytes read and bytes written; put, oldest, take and clear.
 -- Assumes nothing.
 use Prim.Native.Nat.{ℕ, zero, suc, _+_, _-_, _*_}
 use mathlib.Core.Bool.{cond}
@@ -29,13 +29,6 @@ width = 11
 -- bytes of a channel: the count and the slots
 abbrev pub span : ℕ
 span = 89
-
--- the channel from client d to server k, and the one back; both are numbered from 1
-abbrev pub toServer : ℕ → ℕ → ℕ
-toServer d k = (d - 1) * 13 + (k - 1)
-
-abbrev pub toClient : ℕ → ℕ → ℕ
-toClient d k = 78 + toServer d k
 
 -- where slot s of channel i begins
 abbrev pub slot : ℕ → ℕ → ℕ

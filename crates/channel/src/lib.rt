@@ -12,7 +12,6 @@ ghost use Rattle.message.specs.Layout.{unpackOf, words, wordsNumber};
 ghost use Rattle.basics.specs.Tests.{all, allBelow};
 ghost use Rattle.channel.specs.Sound.{channelTests, goes, slotTest, sound, zeroFrom};
 ghost use Rattle.channel.specs.Memory.{bytesAt, cleared, countAt, filled, oldestOn, putOn, shifted, taken, zeroed};
-ghost use Rattle.channel.specs.Memory.{toClient, toServer};
 use basics::byte;
 use basics::push;
 use message::Message;
@@ -26,9 +25,6 @@ pub type Slots = [u8; 13884];
 const CHANNELS: usize = 156;
 
 const UPWARD: usize = 78;
-
-// Servers that a client has channels to.
-const SERVERS: usize = 13;
 
 // Messages that a channel holds at most.
 const CAPACITY: u8 = 8;
@@ -50,22 +46,6 @@ pub fn empty_slots() -> Slots
     ensures { λ r. ⌜ r ≡ replicate 13884 0 ⌝ }
 {
     [0u8; 13884]
-}
-
-// The channel from client d to server k.
-pub fn to_server(d: usize, k: usize) -> usize
-    requires { ⌜ (1 ≤ d) × (d ≤ 6) × (1 ≤ k) × (k ≤ 13) ⌝ }
-    ensures { λ r. ⌜ (r ≡ toServer d k) × (r < 78) ⌝ }
-{
-    (d - 1) * SERVERS + (k - 1)
-}
-
-// The channel from server k to client d.
-pub fn to_client(d: usize, k: usize) -> usize
-    requires { ⌜ (1 ≤ d) × (d ≤ 6) × (1 ≤ k) × (k ≤ 13) ⌝ }
-    ensures { λ r. ⌜ (r ≡ toClient d k) × (r < 156) ⌝ }
-{
-    UPWARD + to_server(d, k)
 }
 
 // How many messages channel i holds.
@@ -126,6 +106,16 @@ fn number(b: &Slots, at: usize, n: usize) -> u64
     x
 }
 
+// The same of eight bytes. Of two halves the compiler makes one load, of eight bytes in a row eight loads.
+fn eight(b: &Slots, at: usize) -> u64
+    requires { ⌜ at + 8 ≤ 13884 ⌝ }
+    ensures number { λ r. ⌜ r ≡ spelt 0 (bytesAt (now (b .entry)) at 8) ⌝ }
+    ensures below { λ r. ⌜ r < 2 ^ 64 ⌝ }
+    ensures bytes { λ r. ⌜ areBytes (bytesAt (now (b .entry)) at 8) ≡ true ⌝ }
+{
+    (number(b, at, 4) << 32) | number(b, at + 4, 4)
+}
+
 // Puts a message on channel i, behind those that it holds. A full channel stays as it is.
 pub fn put(b: &mut Slots, i: usize, w: Words)
     requires { ⌜ i < 156 ⌝ }
@@ -147,7 +137,7 @@ fn load(b: &Slots, at: usize) -> Words
     ensures words { λ r. ⌜ r ≡ words (spelt 0 (bytesAt (now (b .entry)) at 11)) ⌝ }
     ensures bytes { λ r. ⌜ areBytes (bytesAt (now (b .entry)) at 11) ≡ true ⌝ }
 {
-    Words(number(b, at, 3) as u32, number(b, at + 3, 8))
+    Words(number(b, at, 3) as u32, eight(b, at + 3))
 }
 
 // The message in the first slot of channel i, which is the oldest; zeros where the channel is empty.

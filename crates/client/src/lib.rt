@@ -307,7 +307,7 @@ pub fn fresh(number: u8, f: u8) -> Client
 }
 
 // An idle client, whose memory is empty, starts in a phase.
-pub fn start(c: Client, ph: Phase) -> Took
+fn start(c: Client, ph: Phase) -> Took
     requires { ⌜ c .reads .0 < highest ⌝ }
     ensures { λ t. ⌜ after t (replicate 91 0) ≡ startedOf c (replicate 91 0) ph ⌝ }
 {

@@ -14,12 +14,12 @@ use lib.Seq.{drop-drop}
 use borrow.Author.Tests.{eqb-true}
 use Rattle.basics.proofs.Cases.{by-test, clash}
 use Rattle.script.specs.Grammar.{lineOf}
-use Rattle.script.specs.Lines.{upTo, behind, linesOf, part}
+use Rattle.script.specs.Lines.{upTo, behind, linesOf, part, lineEnd}
 use Rattle.script.specs.Printed.{printed}
 use Rattle.script.proofs.Places.{up-to-take, behind-some, behind-none}
 use Rattle.script.proofs.Split.{first-line}
 use Rattle.rehearse.specs.Saying.{Stage, says, after, textOf, stageAfter}
-use Rattle.rehearse.specs.Turns.{ended, lineEnd}
+use Rattle.rehearse.specs.Turns.{ended}
 
 -- ---- lines behind lines
 

@@ -2,7 +2,7 @@
 -- setup is sound.
 -- Assumes nothing.
 use mathlib.Core.Path.{_≡_, refl, sym, subst}
-use mathlib.Core.Bool.{true}
+use mathlib.Core.Bool.{Bool, true}
 use mathlib.Core.List.{List}
 use Prim.Native.Nat.{ℕ}
 use Rattle.basics.specs.Counting.{count}
@@ -23,7 +23,12 @@ use Rattle.system.specs.declared.setup.Setup.the-variants.{Set, Refused}
 use Rattle.system.specs.Setup.{settingsBy, setupOf}
 use Rattle.system.specs.Stored.{Stored}
 use Rattle.system.proofs.SetupLaws.{allowed-set}
-use Rattle.rehearse.specs.Turns.{Allowed}
+use Rattle.script.specs.Printed.{printed}
+use Rattle.script.specs.Writing.{Written}
+use Rattle.rehearse.specs.declared.Need.the-variants.{Lines}
+use Rattle.rehearse.specs.declared.Room.{Room}
+use Rattle.rehearse.specs.Saying.{stage, setupSays, setUp}
+use Rattle.rehearse.specs.Turns.{roomOf, stageIn, Allowed, SetupTaken}
 
 pub setup-allowed : (f clients faulty : ℕ) (s : Setup) → s ≡ setupOf f clients faulty → Allowed s
 setup-allowed f clients faulty (Set t) e = allowed-of t (allowed-set f clients faulty t (sym e))
@@ -42,5 +47,13 @@ setup-sound t allowed s b r st =
     (sym (st .replies))
     (stored-state t (allowed-facts t allowed) newWorld (well-new (settingsOf t) formats))))
 
-pub same-sound : (s u : System) (b r : List ℕ) → s ≡ u → isSound u b r ≡ true → isSound s b r ≡ true
-same-sound s u b r e h = subst (λ (z : System). isSound z b r ≡ true) (sym e) h
+-- what is answered to a setup's line
+pub setup-taken : {q : Room} {b r out b′ r′ out′ : List ℕ} {s : Setup} {u : System} {i : Bool} {n used : ℕ} (z : Room)
+    → z ≡ roomOf u i n (q .at) (q .total) used Lines
+    → stage i u b′ r′ n ≡ setUp (stageIn q b r) s
+    → Written (printed (q .number) (setupSays s)) out (q .used) used out′
+    → isSound u b′ r′ ≡ true
+    → SetupTaken q b r s out z b′ r′ out′
+setup-taken {q} {b} {r} {out} {b′} {r′} {out′} {s} z is state text sound =
+    subst (λ (y : Room). SetupTaken q b r s out y b′ r′ out′) (sym is)
+    (record { state = state; text = text; sound = sound; place = (refl, refl); need = refl })

@@ -1,28 +1,26 @@
 // The program rehearse (01): reads a script from standard input and writes one line for each of its lines.
 //
-// Input and output go in blocks of fixed size, for any number of lines of any length. A turn takes the lines that the block has
-// whole, up to a setup, a full buffer or the block's end. Only io and the parts of a step are here: the rest is `script`'s and
-// `system`'s.
+// Input and output go in blocks of fixed size, for any number of lines of any length. What the program does next is what it needs:
+// lines of the block, the setup of a line, space for output, more input. Only io and the parts of a step are here: the rest is
+// `script`'s and `system`'s.
 ghost use Prim.Native.Nat.{_+_, _≤_};
-ghost use mathlib.Core.Bool.{true};
 ghost use mathlib.Core.Path.{_≡_};
 ghost use lib.ListN.{length};
 ghost use Rattle.script.specs.Printed.{printed};
 ghost use Rattle.script.specs.Writing.{Written};
-ghost use Rattle.state.specs.Sound.{isSound};
-ghost use Rattle.rehearse.specs.Saying.{stage, nextNumber};
-ghost use Rattle.rehearse.specs.Turns.{lineEnd, nextLine, stoppedAt, shownIn};
-ghost use Rattle.rehearse.specs.Turns.{Allowed, Fine, Taken, SetupTaken, More, Turned};
+ghost use Rattle.rehearse.specs.Saying.{nextNumber};
+ghost use Rattle.rehearse.specs.Turns.{sorted, heardAs, roomOf, flushed};
+ghost use Rattle.rehearse.specs.Turns.{Allowed, Fine, LinesTaken, SetupTaken, More};
 use channel::Slots;
 use libc::STDIN_FILENO;
 use libc::STDOUT_FILENO;
+use refusal::Refusal;
 use register::Answer;
 use register::Phase;
 use register::Step;
 use script::lines::keep;
-use script::lines::place_of;
+use script::next::next;
 use script::parse::Line;
-use script::parse::parse;
 use script::print::Output;
 use script::print::print;
 use server::Server;
@@ -30,7 +28,12 @@ use state::Replies;
 use state::Session;
 use state::Settings;
 use state::System;
-use steps::inner::inner;
+use steps::inner::ClientStep;
+use steps::inner::OtherStep;
+use steps::inner::ServerStep;
+use steps::inner::client_step;
+use steps::inner::other_step;
+use steps::inner::server_step;
 use system::ends::client_place;
 use system::ends::server_place;
 use system::setup::Setup;
@@ -42,38 +45,35 @@ const LONGEST: usize = 80;
 
 const LINE_END: u8 = 10;
 
-// Why a turn stopped: a setup, a full buffer, or a line that the block has not whole.
-enum Stop {
+// What the program needs: lines of the block, the setup of a line, space for output, more input, or nothing, since the input has
+// ended.
+enum Need {
+    Lines,
     Setup(u32, u32, u32),
-    Full,
-    Cut,
+    Space,
+    Input,
+    Nothing,
 }
 
-// The system after some lines, the next line's number, how far the block is taken, and how much was written.
-struct Lines {
-    system: System,
-    number: u64,
-    at: usize,
-    used: usize,
-    stop: Stop,
-}
-
-// The system, whether it was set up, the next line's number, which part of the block is left, and whether the input has ended.
+// The system, whether it was set up, the next line's number, which part of the block is left, how much of the output is still to
+// be written, and what is needed.
 struct Room {
     system: System,
     is_set: bool,
     number: u64,
     at: usize,
     total: usize,
-    is_over: bool,
+    used: usize,
+    need: Need,
 }
 
-// What the block has next: a line that it has not whole, or what a line is taken for.
-enum Next {
-    Cut,
+// What a line is taken for: a setup, nothing that can be read, or a step that changes one server, one client, or neither.
+enum Heard {
     Setup(u32, u32, u32),
-    Take(Step),
     Unread,
+    Server(Step),
+    Client(Step),
+    Other(Step),
 }
 
 // No run counts so far that this matters.
@@ -87,26 +87,28 @@ fn next_number(number: u64) -> u64
     }
 }
 
-// Where the line that begins at a place ends, or the block does.
-fn line_end(input: &[u8], at: usize) -> usize
-    requires { ⌜ at ≤ length (now input) ⌝ }
-    ensures { λ r. ⌜ r ≡ lineEnd (now (input .entry)) at ⌝ }
+// A step by what it changes.
+fn sort(x: Step) -> Heard
+    ensures { λ r. ⌜ r ≡ sorted x ⌝ }
 {
-    at + place_of(LINE_END, &input[at..])
+    match x {
+        Step::R(_) => Heard::Client(x),
+        Step::W(_, _) => Heard::Client(x),
+        Step::K(_, _) => Heard::Server(x),
+        Step::D(_, _) => Heard::Client(x),
+        Step::C(_) => Heard::Other(x),
+        Step::L(_, _, _) => Heard::Other(x),
+    }
 }
 
-// The line from a place up to its end. A step before an accepted setup is unreadable.
-fn next_line(is_set: bool, input: &[u8], at: usize, end: usize) -> Next
-    requires { ⌜ at ≤ end ⌝ }
-    ensures { λ r. ⌜ r ≡ nextLine «is_set» (now (input .entry)) at end ⌝ }
+// What a line is taken for. A step before an accepted setup is unreadable.
+fn hear(is_set: bool, line: Line) -> Heard
+    ensures { λ r. ⌜ r ≡ heardAs «is_set» line ⌝ }
 {
-    if input.len() <= end {
-        return Next::Cut;
-    }
-    match parse(&input[at..end]) {
-        Line::Setup(f, c, m) => Next::Setup(f, c, m),
-        Line::Take(x) => if is_set { Next::Take(x) } else { Next::Unread },
-        Line::Unread => Next::Unread,
+    match line {
+        Line::Setup(f, c, m) => Heard::Setup(f, c, m),
+        Line::Take(x) => if is_set { sort(x) } else { Heard::Unread },
+        Line::Unread => Heard::Unread,
     }
 }
 
@@ -118,16 +120,34 @@ fn put_line(out: &mut [u8], used: usize, number: u64, what: Output) -> usize
     used + print(&mut out[used..], number, what)
 }
 
-// What a turn comes to where it stops.
-fn stopped(u: System, number: u64, at: usize, used: usize, stop: Stop) -> Lines
-    ensures { λ r. ⌜ r ≡ stoppedAt u number at used stop ⌝ }
+// The same for a refusal.
+fn put_refused(out: &mut [u8], used: usize, number: u64, n: Refusal) -> usize
+    requires { ⌜ used + 80 ≤ length (now out) ⌝ }
+    ensures { λ r. ⌜ Written (printed number (Output.Answered (Answer.Refused n))) (now (out .entry)) used r (now (out .exit)) ⌝ }
 {
-    Lines {
-        system: u,
+    put_line(out, used, number, Output::Answered(Answer::Refused(n)))
+}
+
+// What the program keeps, of its parts.
+fn room_of(
+    system: System,
+    is_set: bool,
+    number: u64,
+    at: usize,
+    total: usize,
+    used: usize,
+    need: Need,
+) -> Room
+    ensures { λ r. ⌜ r ≡ roomOf system «is_set» number at total used need ⌝ }
+{
+    Room {
+        system: system,
+        is_set: is_set,
         number: number,
         at: at,
+        total: total,
         used: used,
-        stop: stop,
+        need: need,
     }
 }
 
@@ -164,87 +184,99 @@ fn client_anew(c: Session) -> Session
     }
 }
 
-// Takes whole lines of a block from a place on. The system stays in one local: a step is given two parts of it, and these are put
-// back.
-fn take_lines(
-    mut u: System,
-    is_set: bool,
-    mut number: u64,
-    input: &[u8],
-    mut at: usize,
-    out: &mut [u8],
-    b: &mut Slots,
-    r: &mut Replies,
-) -> Lines
-    requires { ⌜ (isSound u (now b) (now r) ≡ true) × (at ≤ length (now input)) ⌝ }
-    ensures { λ z. ⌜ Taken (stage «is_set» u (now (b .entry)) (now (r .entry)) number) (now (input .entry)) at (now (out .entry)) (stage «is_set» (z .system) (now (b .exit)) (now (r .exit)) (z .number)) (z .at) (z .used) (z .stop) (now (out .exit)) ⌝ }
+// Takes whole lines of the block. The system stays in one local: a step is given the part that it can change, which is put back
+// unless the step is refused.
+fn take_lines(q: Room, input: &[u8], out: &mut [u8], b: &mut Slots, r: &mut Replies) -> Room
+    requires { ⌜ Fine q (now b) (now r) × (length (now input) ≡ q .total) × (q .used ≤ length (now out)) ⌝ }
+    ensures { λ z. ⌜ LinesTaken q (now (input .entry)) (now (b .entry)) (now (r .entry)) (now (out .entry))
+        z (now (b .exit)) (now (r .exit)) (now (out .exit)) ⌝ }
 {
-    let mut used = 0;
+    let is_set = q.is_set;
+    let total = q.total;
+    let mut u = q.system;
+    let mut number = q.number;
+    let mut at = q.at;
+    let mut used = q.used;
     while used + LONGEST <= out.len() {
-        let end = line_end(input, at);
-        match next_line(is_set, input, at, end) {
-            Next::Cut => return stopped(u, number, at, used, Stop::Cut),
-            Next::Setup(f, c, m) => return stopped(u, number, end + 1, used, Stop::Setup(f, c, m)),
-            Next::Unread => used = put_line(out, used, number, Output::Unread),
-            Next::Take(x) => {
-                let j = server_place(x);
-                let d = client_place(x);
-                let t = u.settings;
-                let v = u.servers[j];
-                let c = u.clients[d];
-                let z = inner(t, u.stopped, v, c, x, b, r);
-                u.stopped = z.stopped;
-                u.servers[j] = server_anew(z.server);
-                u.clients[d] = client_anew(z.client);
-                let a = z.answer;
-                used = put_line(out, used, number, Output::Answered(a));
+        let found = next(input, at);
+        let end = found.end;
+        if input.len() <= end {
+            return room_of(u, is_set, number, at, total, used, Need::Input);
+        }
+        let line = found.line;
+        let t = u.settings;
+        match hear(is_set, line) {
+            Heard::Setup(f, c, m) => {
+                let setup = Need::Setup(f, c, m);
+                return room_of(u, is_set, number, end + 1, total, used, setup);
             }
+            Heard::Unread => used = put_line(out, used, number, Output::Unread),
+            Heard::Server(x) => {
+                let j = server_place(x);
+                let v = u.servers[j];
+                match server_step(t, u.stopped, v, x, b) {
+                    ServerStep::Went(w) => {
+                        u.servers[j] = server_anew(w);
+                        used = put_line(out, used, number, Output::Answered(Answer::Went));
+                    }
+                    ServerStep::Refused(n) => used = put_refused(out, used, number, n),
+                }
+            }
+            Heard::Client(x) => {
+                let i = client_place(x);
+                let c = u.clients[i];
+                match client_step(t, u.stopped, c, x, b, r) {
+                    ClientStep::Done(a, w) => {
+                        u.clients[i] = client_anew(w);
+                        used = put_line(out, used, number, Output::Answered(a));
+                    }
+                    ClientStep::Refused(n) => used = put_refused(out, used, number, n),
+                }
+            }
+            Heard::Other(x) => match other_step(t, u.stopped, x, b) {
+                OtherStep::Went(w) => {
+                    u.stopped = w;
+                    used = put_line(out, used, number, Output::Answered(Answer::Went));
+                }
+                OtherStep::Refused(n) => used = put_refused(out, used, number, n),
+            },
         }
         at = end + 1;
         number = next_number(number);
     }
-    stopped(u, number, at, used, Stop::Full)
-}
-
-// Writes one line.
-fn say(out: &mut [u8], number: u64, what: Output)
-    ensures { λ z. ⌜ now (out .exit) ≡ shownIn (now (out .entry)) (printed number what) ⌝ }
-{
-    let n = print(out, number, what);
-    io::write_all(STDOUT_FILENO, &out[..n]);
+    room_of(u, is_set, number, at, total, used, Need::Space)
 }
 
 // A setup's line: an accepted one sets up afresh, a refused one keeps the present system, or none.
 fn take_setup(q: Room, setup: Setup, out: &mut [u8], b: &mut Slots, r: &mut Replies) -> Room
-    requires { ⌜ Allowed setup × Fine q (now b) (now r) ⌝ }
-    ensures { λ z. ⌜ SetupTaken q (now (b .entry)) (now (r .entry)) setup (now (out .entry)) z (now (b .exit)) (now (r .exit)) (now (out .exit)) ⌝ }
+    requires { ⌜ Allowed setup × Fine q (now b) (now r) × (q .used + 80 ≤ length (now out)) ⌝ }
+    ensures { λ z. ⌜ SetupTaken q (now (b .entry)) (now (r .entry)) setup (now (out .entry))
+        z (now (b .exit)) (now (r .exit)) (now (out .exit)) ⌝ }
 {
+    let number = next_number(q.number);
     match setup {
         Setup::Refused(n) => {
-            say(out, q.number, Output::Answered(Answer::Refused(n)));
+            let used = put_refused(out, q.used, q.number, n);
             let s = q.system;
-            Room {
-                system: s,
-                is_set: q.is_set,
-                number: next_number(q.number),
-                at: q.at,
-                total: q.total,
-                is_over: false,
-            }
+            room_of(s, q.is_set, number, q.at, q.total, used, Need::Lines)
         }
         Setup::Set(t) => {
-            say(out, q.number, Output::Set);
+            let used = put_line(out, q.used, q.number, Output::Set);
             let s = set_up(t, b, r);
-            Room {
-                system: s,
-                is_set: true,
-                number: next_number(q.number),
-                at: q.at,
-                total: q.total,
-                is_over: false,
-            }
+            room_of(s, true, number, q.at, q.total, used, Need::Lines)
         }
     }
+}
+
+// Writes the output that is still to be written.
+fn flush(q: Room, out: &[u8]) -> Room
+    requires { ⌜ q .used ≤ length (now out) ⌝ }
+    ensures { λ z. ⌜ z ≡ flushed q ⌝ }
+{
+    let used = q.used;
+    io::write_all(STDOUT_FILENO, &out[..used]);
+    let s = q.system;
+    room_of(s, q.is_set, q.number, q.at, q.total, 0, Need::Lines)
 }
 
 // Keeps what is left of the block and reads more behind it. At the input's end the last line gets its end.
@@ -257,61 +289,13 @@ fn read_more(q: Room, input: &mut [u8]) -> Room
     let got = libc::read(STDIN_FILENO, &mut input[have..]);
     let n = io::count(got, &input[have..]);
     if 0 < n {
-        return Room {
-            system: s,
-            is_set: q.is_set,
-            number: q.number,
-            at: 0,
-            total: have + n,
-            is_over: false,
-        };
+        return room_of(s, q.is_set, q.number, 0, have + n, q.used, Need::Lines);
     }
     if have < 1 {
-        return Room {
-            system: s,
-            is_set: q.is_set,
-            number: q.number,
-            at: 0,
-            total: 0,
-            is_over: true,
-        };
+        return room_of(s, q.is_set, q.number, 0, 0, q.used, Need::Nothing);
     }
     input[have] = LINE_END;
-    Room {
-        system: s,
-        is_set: q.is_set,
-        number: q.number,
-        at: 0,
-        total: have + 1,
-        is_over: false,
-    }
-}
-
-// The lines that the block has whole, and then what stopped there: a setup is taken, and a line that is cut needs more input.
-fn turn(q: Room, input: &mut [u8], out: &mut [u8], b: &mut Slots, r: &mut Replies) -> Room
-    requires { ⌜ (length (now input) ≡ 65536) × Fine q (now b) (now r) ⌝ }
-    ensures { λ z. ⌜ Turned q (now (input .entry)) (now (b .entry)) (now (r .entry)) z (now (b .exit)) (now (r .exit)) ⌝ }
-{
-    let s = q.system;
-    let total = q.total;
-    let z = take_lines(s, q.is_set, q.number, &input[..total], q.at, out, b, r);
-    let used = z.used;
-    io::write_all(STDOUT_FILENO, &out[..used]);
-    let u = z.system;
-    let p = Room {
-        system: u,
-        is_set: q.is_set,
-        number: z.number,
-        at: z.at,
-        total: total,
-        is_over: false,
-    };
-    let stop = z.stop;
-    match stop {
-        Stop::Full => p,
-        Stop::Setup(f, c, m) => take_setup(p, settings_of(f, c, m), out, b, r),
-        Stop::Cut => read_more(p, input),
-    }
+    room_of(s, q.is_set, q.number, 0, have + 1, q.used, Need::Lines)
 }
 
 // A proved loop has to end, and nothing says that the input does. So the loop counts its turns down, from a number that no run
@@ -330,20 +314,24 @@ fn main() {
         &mut b,
         &mut r,
     );
-    let mut q = Room {
-        system: s,
-        is_set: false,
-        number: 0,
-        at: 0,
-        total: 0,
-        is_over: false,
-    };
+    let mut q = room_of(s, false, 0, 0, 0, 0, Need::Lines);
     let mut turns = u64::MAX;
     while 0 < turns {
-        if q.is_over {
-            return;
+        let total = q.total;
+        let need = q.need;
+        match need {
+            Need::Lines => q = take_lines(q, &input[..total], &mut out, &mut b, &mut r),
+            Need::Setup(f, c, m) => q = take_setup(
+                q,
+                settings_of(f, c, m),
+                &mut out,
+                &mut b,
+                &mut r,
+            ),
+            Need::Space => q = flush(q, &out),
+            Need::Input => q = read_more(flush(q, &out), &mut input),
+            Need::Nothing => return,
         }
-        q = turn(q, &mut input, &mut out, &mut b, &mut r);
         turns -= 1;
     }
 }

@@ -80,20 +80,18 @@ fn size_of(r: &[u64], i: usize) -> usize
 }
 
 // Whether the set of the server at place i has p.
+// All four numbers are looked at, so that nothing branches: which of them is p cannot be foreseen.
 fn holds(r: &[u64], i: usize, p: Pair) -> bool
     requires { ⌜ (length (now r) ≡ 91) × (i < 13) ⌝ }
     ensures { λ b. ⌜ b ≡ has p (setIn (now (r .entry)) (suc i)) ⌝ }
 {
     let m = size_of(r, i);
     let at = PAIRS + i * LIMIT;
-    let mut j = 0;
-    while j < m {
-        if r[at + j] == p.0 {
-            return true;
-        }
-        j += 1;
-    }
-    false
+    let a = (0 < m) & (p.0 == r[at]);
+    let b = (1 < m) & (p.0 == r[at + 1]);
+    let c = (2 < m) & (p.0 == r[at + 2]);
+    let d = (3 < m) & (p.0 == r[at + 3]);
+    (a | b) | (c | d)
 }
 
 // How many sets have p.

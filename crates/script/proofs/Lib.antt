@@ -5,8 +5,13 @@ pub mod Readers
 pub mod Halves
 pub mod Writing
 pub mod Digits
+pub mod Trailing
 pub mod Lengths
 pub mod RoundTrip
 pub mod Kept
 pub mod Split
 pub mod Spelling
+pub mod Found
+pub mod Short
+pub mod Rest
+pub mod Quick

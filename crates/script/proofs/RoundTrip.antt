@@ -19,7 +19,7 @@ use borrow.Author.Tests.{lt-ltb, ltb-true, ltb-false, le-leb, lt-leb, eq-eqb}
 use Rattle.basics.proofs.Cases.{by-test, both-of}
 use Rattle.script.specs.Numbers.{isDigit, isHexDigit, digitValue, hexValue, hexDigit, allBytes, valueFrom}
 use Rattle.script.specs.Numbers.{numberIn, hexIn, digitsOf, digitCount, decimal, hexEntry}
-use Rattle.script.proofs.Digits.{digits-length, tenth-lt}
+use Rattle.script.proofs.Digits.{digits-length, tenth-lt, count-few, count-some}
 
 -- ---- one digit
 
@@ -90,20 +90,6 @@ count-holds zero v h = h
 count-holds (suc n) v h =
     by-test (ltb v 10) (λ t. rw t (omega (arith, ltb-true v 10 t)))
     (λ t. rw (t, pow-suc 10 (digitCount n (v / 10))) (omega (arith, count-holds n (v / 10) (tenth-lt (suc n) v h))))
-
--- a number below 10 ^ m has at most m
-count-few : (n m v : ℕ) → v < 10 ^ suc m → digitCount n v ≤ suc m
-unfolding digitCount
-count-few zero m v h = omega arith
-count-few (suc n) zero v h = rw (lt-ltb v 10 h) (omega arith)
-count-few (suc n) (suc m) v h =
-    by-test (ltb v 10) (λ t. rw t (omega arith))
-    (λ t. rw t (omega (arith, count-few n m (v / 10) (tenth-lt (suc m) v h))))
-
-pub count-some : (n v : ℕ) → 1 ≤ digitCount n v
-unfolding digitCount
-count-some zero v = omega arith
-count-some (suc n) v = by-test (ltb v 10) (λ t. rw t (omega arith)) (λ t. rw t (omega arith))
 
 -- and no fewer: the first digit of a number counts
 pub count-exact : (n v : ℕ) → 0 < v → 10 ^ (digitCount n v - 1) ≤ v

@@ -1,20 +1,21 @@
 -- Texts one byte longer: what a loop over the bytes of a text keeps.
 --
--- In order: a test of all bytes, and the value of digits, with one byte more behind; how large a value of digits is.
+-- In order: a test of all bytes, and the value of digits, with one byte more behind; how large a value of digits is; a
+-- hexadecimal digit's value, and how a byte is read.
 -- Assumes nothing.
 use mathlib.Core.Path.{_≡_, refl, ap, sym, _∙_}
-use mathlib.Core.Bool.{Bool, true, false, _&&_, and-assoc, and-true}
+use mathlib.Core.Bool.{Bool, true, false, cond, _&&_, and-assoc, and-true}
 use mathlib.Core.List.{List, [], _∷_, _++_}
-use Prim.Native.Nat.{ℕ, zero, suc, _+_, _*_, _^_, _≤_, _<_}
+use Prim.Native.Nat.{ℕ, zero, suc, _+_, _*_, _%_, _^_, _≤_, _<_}
 use native.Mathlib.Nat.{not-suc-le-zero, le-of-suc-le-suc, lt-of-lt-of-le, mul-le-mul-left, mul-add}
 use lib.Pow.{pow-add, pow-mono}
 use native.Mathlib.Numerals.{add-one}
 use native.Mathlib.Omega.{arith}
-use lib.Dec.{leb}
+use lib.Dec.{leb, ltb}
 use lib.ListN.{length, getD, take}
 use lib.Seq.{take-suc}
-use borrow.Author.Tests.{leb-true}
-use Rattle.basics.proofs.Cases.{by-test, both}
+use borrow.Author.Tests.{leb-true, lt-ltb}
+use Rattle.basics.proofs.Cases.{by-test, both, true-or-false}
 use Rattle.script.specs.Numbers.{allBytes, valueFrom, isDigit, isHexDigit, hexValue}
 
 pub all-behind : (p : ℕ → Bool) (xs : List ℕ) (x : ℕ) → allBytes p (xs ++ x ∷ []) ≡ allBytes p xs && p x
@@ -32,9 +33,12 @@ module _ (s : List ℕ) (i : ℕ) (h : i < length s) where
   longer : take (i + 1) s ≡ take i s ++ getD s i 0 ∷ []
   longer = rw (add-one i) (take-suc s i 0 h)
 
-  -- the first i + 1 bytes pass a test
+  -- the first i + 1 bytes pass a test: the first i do, and the next
+  pub all-next : (p : ℕ → Bool) → allBytes p (take (i + 1) s) ≡ allBytes p (take i s) && p (getD s i 0)
+  all-next p = rw longer (all-behind p (take i s) (getD s i 0))
+
   pub all-longer : (p : ℕ → Bool) → allBytes p (take i s) ≡ true → p (getD s i 0) ≡ true → allBytes p (take (i + 1) s) ≡ true
-  all-longer p before here = rw longer (all-behind p (take i s) (getD s i 0) ∙ cc)
+  all-longer p before here = all-next p ∙ cc
 
   -- the value of the first i + 1 digits
   pub value-longer : (digit : ℕ → ℕ) (base v : ℕ) → v ≡ valueFrom digit base 0 (take i s)
@@ -68,3 +72,13 @@ pub hex-lt : (b : ℕ) → isHexDigit b ≡ true → hexValue b < 16
 hex-lt b e =
     by-test (isDigit b) (λ t. rw t (let h = leb-true b 57 (both (leb 48 b) (leb b 57) t .1) in omega arith))
     (λ t. let l = rw t at e in rw t (let h = leb-true b 70 (both (leb 65 b) (leb b 70) l .1) in omega arith))
+
+-- a byte as `hex_digit` reads it, its value or 16: what is below 16 was a digit, and is its value
+pub hex-told : (b d : ℕ) → d ≡ cond (isHexDigit b) (hexValue b) 16
+    → (ltb d 16 ≡ isHexDigit b) × (isHexDigit b ≡ true → d % 16 ≡ hexValue b)
+hex-told b d is =
+    by-test (isHexDigit b)
+    (λ t. let h = hex-lt b t in
+    let e : d ≡ hexValue b = is ∙ rw t refl in
+    (rw (e, t) (lt-ltb (hexValue b) 16 h), λ _. rw e (omega arith)))
+    (λ t. (rw (is, t) refl, λ u. absurd (true-or-false (isHexDigit b) u t)))

@@ -1,5 +1,6 @@
 pub mod Numbers
 pub mod Lines
 pub mod Grammar
+pub mod Next
 pub mod Writing
 pub mod Printed

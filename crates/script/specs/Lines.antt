@@ -1,13 +1,14 @@
 -- A script cut into lines, and a line into words.
 --
--- In order: what stands before and behind a byte; the lines of a script; the start of a line that is kept while the rest is read.
+-- In order: what stands before and behind a byte; where a line ends; the lines of a script; the start of a line that is kept
+-- while the rest is read.
 -- Assumes nothing.
-use Prim.Native.Nat.{ℕ, _-_}
+use Prim.Native.Nat.{ℕ, _+_, _-_}
 use mathlib.Core.Bool.{cond}
 use mathlib.Core.List.{List, [], _∷_}
 use mathlib.Core.Option.{Option, none, some}
 use lib.Dec.{eqb}
-use lib.ListN.{take, drop}
+use lib.ListN.{length, take, drop}
 
 -- the bytes before the first byte m, and those behind it, if there is one
 unfoldable pub upTo : ℕ → List ℕ → List ℕ
@@ -17,6 +18,10 @@ upTo m (b ∷ bs) = cond (eqb b m) [] (b ∷ upTo m bs)
 unfoldable pub behind : ℕ → List ℕ → Option (List ℕ)
 behind m [] = none
 behind m (b ∷ bs) = cond (eqb b m) (some bs) (behind m bs)
+
+-- where the line that begins at a place ends, or the text does
+abbrev pub lineEnd : List ℕ → ℕ → ℕ
+lineEnd s at = at + length (upTo 10 (drop at s))
 
 -- a byte at the front of the first line
 abbrev pub inFront : ℕ → List (List ℕ) → List (List ℕ)

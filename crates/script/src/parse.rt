@@ -1,7 +1,7 @@
 // What a line says: a setup, a step, or nothing that can be read. Every function is total on any bytes.
 ghost use mathlib.Core.Path.{_≡_};
 ghost use Prim.Native.Nat.{_≤_};
-ghost use mathlib.Core.Bool.{true};
+ghost use mathlib.Core.Bool.{cond};
 ghost use lib.ListN.{length};
 ghost use Rattle.script.specs.Numbers.{isDigit, isHexDigit, hexValue, numberIn, hexIn};
 ghost use Rattle.script.specs.Grammar.{isMark, marksIn, lineOf, argumentsOf};
@@ -38,19 +38,10 @@ pub enum First {
     No,
 }
 
-fn is_digit(b: u8) -> bool
+pub fn is_digit(b: u8) -> bool
     ensures { λ r. ⌜ r ≡ isDigit b ⌝ }
 {
-    48 <= b && b <= 57
-}
-
-fn is_hex_digit(b: u8) -> bool
-    ensures { λ r. ⌜ r ≡ isHexDigit b ⌝ }
-{
-    if is_digit(b) {
-        return true;
-    }
-    65 <= b && b <= 70
+    b'0' <= b && b <= b'9'
 }
 
 fn is_mark(b: u8) -> bool
@@ -59,12 +50,17 @@ fn is_mark(b: u8) -> bool
     b == 48 || b == 49
 }
 
-// The value of a hexadecimal digit.
-fn hex_value(b: u8) -> u8
-    requires { ⌜ isHexDigit b ≡ true ⌝ }
-    ensures { λ r. ⌜ r ≡ hexValue b ⌝ }
+// The value of a hexadecimal digit, or 16.
+fn hex_digit(b: u8) -> u64
+    ensures { λ r. ⌜ r ≡ cond (isHexDigit b) (hexValue b) 16 ⌝ }
 {
-    if is_digit(b) { b - 48 } else { b - 55 }
+    if 48 <= b && b <= 57 {
+        (b - 48) as u64
+    } else if 65 <= b && b <= 70 {
+        (b - 55) as u64
+    } else {
+        16
+    }
 }
 
 // A number of 1 to 7 digits.
@@ -90,22 +86,22 @@ fn number_in(s: &[u8]) -> Number
     Number::Is(v)
 }
 
-// A number of as many hexadecimal digits as the text has, at most 16.
+// A number of as many hexadecimal digits as the text has, at most 16. Which digit comes next cannot be foreseen, so no byte ends
+// the loop: `bad` stays below 16 where each is a digit.
 fn hex_in(s: &[u8]) -> Hex
     requires { ⌜ length (now s) ≤ 16 ⌝ }
     ensures { λ r. ⌜ hexIs r ≡ hexIn (length (now (s .entry))) (now (s .entry)) ⌝ }
 {
     let mut v: u64 = 0;
+    let mut bad: u64 = 0;
     let mut i = 0;
     while i < s.len() {
-        let b = s[i];
-        if !is_hex_digit(b) {
-            return Hex::No;
-        }
-        v = v * 16 + hex_value(b) as u64;
+        let d = hex_digit(s[i]);
+        bad = bad | d;
+        v = v * 16 + d % 16;
         i += 1;
     }
-    Hex::Is(v)
+    if bad < 16 { Hex::Is(v) } else { Hex::No }
 }
 
 // Marks: server k's is bit k - 1.
@@ -223,7 +219,7 @@ fn take_line(s: &[u8]) -> Line
 }
 
 // A message behind a server and a client. Its first 6 digits are the high 24 bits, the other 16 the low 64.
-fn message_after(k: u32, d: u32, s: &[u8]) -> Line
+pub fn message_after(k: u32, d: u32, s: &[u8]) -> Line
     ensures { λ r. ⌜ r ≡ messageAfter k d (now (s .entry)) ⌝ }
 {
     if s.len() != 22 {

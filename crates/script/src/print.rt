@@ -1,8 +1,8 @@
 // The line that is printed for a line of the script. Each function writes a text into a lent buffer and answers where it ends.
 ghost use mathlib.Core.Path.{_≡_};
 ghost use mathlib.Core.List.{[], _∷_, _++_};
-ghost use Prim.Native.Nat.{_+_, _≤_, _<_};
-ghost use lib.ListN.{length};
+ghost use Prim.Native.Nat.{_+_, _/_, _%_, _≤_, _<_};
+ghost use lib.ListN.{length, set};
 ghost use Rattle.register.specs.declared.Answer.the-variants.{Refused};
 ghost use Rattle.script.specs.Numbers.{hexDigit, digitsOf, digitCount, decimal};
 ghost use Rattle.script.specs.Printed.{spaced, pairText, answerText, behindNumber, printed, Shown};
@@ -21,15 +21,18 @@ pub enum Output {
 // No line is longer.
 const LONGEST: usize = 80;
 
-// How many decimal digits a number has.
+// How many decimal digits a number has, by powers of ten, which are quicker than divisions. The 20th does not fit 64 bits.
 fn digit_count(v: u64) -> usize
     ensures { λ r. ⌜ r ≡ digitCount 19 v ⌝ }
 {
     let mut n = 1;
-    let mut left = v;
-    while 10 <= left {
-        left = left / 10;
+    let mut p: u64 = 10;
+    while p <= v {
         n += 1;
+        if n == 20 {
+            return n;
+        }
+        p = p * 10;
     }
     n
 }
@@ -41,26 +44,48 @@ fn digit(v: u64) -> u8
     if v < 10 { 48 + v as u8 } else { 55 + v as u8 }
 }
 
-// The last n digits of a number, the last one first.
-fn put_digits(out: &mut [u8], at: usize, base: u64, n: usize, v: u64) -> usize
-    requires { ⌜ (at + n ≤ length (now out)) × (0 < base) × (base ≤ 16) ⌝ }
-    ensures { λ r. ⌜ Written (digitsOf base n v) (now (out .entry)) at r (now (out .exit)) ⌝ }
+// The last n hexadecimal digits of a number, the last one first.
+fn put_digits(out: &mut [u8], at: usize, n: usize, v: u64) -> usize
+    requires { ⌜ at + n ≤ length (now out) ⌝ }
+    ensures { λ r. ⌜ Written (digitsOf 16 n v) (now (out .entry)) at r (now (out .exit)) ⌝ }
 {
     let mut left = v;
     let mut i = n;
     while 0 < i {
         i -= 1;
-        out[at + i] = digit(left % base);
-        left = left / base;
+        out[at + i] = digit(left % 16);
+        left = left / 16;
     }
     at + n
 }
 
+// The last two decimal digits of a number, the last one first.
+fn put_two(out: &mut [u8], at: usize, v: u64)
+    requires { ⌜ at + 2 ≤ length (now out) ⌝ }
+    ensures { λ _. ⌜ now (out .exit) ≡ set (set (now (out .entry)) (at + 1) (hexDigit (v % 10))) at (hexDigit (v / 10 % 10)) ⌝ }
+{
+    let two = v % 100;
+    out[at + 1] = 48 + (two % 10) as u8;
+    out[at] = 48 + (two / 10) as u8;
+}
+
+// Two digits at a time, the last ones first; the first digit stands alone where their number is odd.
 fn put_decimal(out: &mut [u8], at: usize, v: u64) -> usize
     requires { ⌜ at + 20 ≤ length (now out) ⌝ }
     ensures { λ r. ⌜ Written (decimal v) (now (out .entry)) at r (now (out .exit)) ⌝ }
 {
-    put_digits(out, at, 10, digit_count(v), v)
+    let n = digit_count(v);
+    let mut left = v;
+    let mut i = n;
+    while 1 < i {
+        i -= 2;
+        put_two(out, at + i, left);
+        left = left / 100;
+    }
+    if i == 1 {
+        out[at] = 48 + (left % 10) as u8;
+    }
+    at + n
 }
 
 fn put_text(out: &mut [u8], at: usize, s: &[u8]) -> usize
@@ -90,7 +115,7 @@ fn put_pair(out: &mut [u8], at: usize, p: Pair) -> usize
     let a = put_spaced(out, at, message::counter_of(p).0 as u64);
     let b = put_spaced(out, a, message::client_of(p) as u64);
     let c = put_text(out, b, b" ");
-    put_digits(out, c, 16, 10, message::entry_of(p).0)
+    put_digits(out, c, 10, message::entry_of(p).0)
 }
 
 // A pair and the line's end, behind its word.

@@ -63,11 +63,8 @@ pub fn new_server() -> Server
 fn higher(old: Pair, new: Pair) -> Pair
     ensures { λ r. ⌜ r ≡ stored old new ⌝ }
 {
-    if message::stamp_of(old).0 < message::stamp_of(new).0 {
-        new
-    } else {
-        old
-    }
+    let is_later = message::is_earlier(old, new);
+    if is_later { new } else { old }
 }
 
 // Takes message m of client d.

@@ -1,6 +1,7 @@
 pub mod Formats
 pub mod Ranges
 pub mod Channels
+pub mod OwnChannels
 pub mod StoredClient
 pub mod StoredServer
 pub mod Replies

@@ -22,3 +22,5 @@ pub mod Serving
 pub mod Lying
 pub mod Stopping
 pub mod Receiving
+pub mod OfKind
+pub mod ReadyParts

@@ -12,10 +12,8 @@ use Rattle.refusal.specs.declared.Refusal.{Refusal}
 use Rattle.refusal.specs.Ladder.{Rung, lowest}
 use Rattle.register.specs.declared.Answer.the-variants.{Refused}
 use Rattle.server.specs.declared.Server.{Server}
-use Rattle.steps.specs.declared.inner.Change.{Change}
 use Rattle.state.specs.declared.Session.{Session}
-use Rattle.steps.specs.Checks.{gave}
-use Rattle.steps.specs.Inner.{After, unless}
+use Rattle.steps.specs.Inner.{After, after, unless}
 
 -- what is known of a call's result is known of what it computes
 pub is-of : {a b x : Bool} → a ≡ b → a ≡ x → b ≡ x
@@ -85,16 +83,9 @@ lowest-next (x ∷ xs) ys o h e =
 
 -- ---- a step
 
-abbrev pub refusedBy : Refusal → ℕ → Server → Session → Change
-refusedBy n z v c = record { answer = Refused n; stopped = z; server = v; client = c }
-
-pub gave-same : (x y : Change) (b r : List ℕ) → x ≡ y → gave x b r ≡ gave y b r
-gave-same x y b r e = ap (λ (w : Change). gave w b r) e
-
 module _ (z : ℕ) (v : Server) (c : Session) (b r : List ℕ) (x : After) where
-  pub stays : (y : Change) (n : Refusal) (o : Option Refusal) → y ≡ refusedBy n z v c → some n ≡ o
-      → gave y b r ≡ unless o z v c b r x
-  stays y n o e f = gave-same y (refusedBy n z v c) b r e ∙ ap (λ (p : Option Refusal). unless p z v c b r x) f
+  pub stays : (n : Refusal) (o : Option Refusal) → some n ≡ o → after (Refused n) z v c b r ≡ unless o z v c b r x
+  stays n o f = ap (λ (p : Option Refusal). unless p z v c b r x) f
 
   pub works : (o : Option Refusal) → none ≡ o → x ≡ unless o z v c b r x
   works o f = ap (λ (p : Option Refusal). unless p z v c b r x) f

@@ -1,6 +1,6 @@
--- What each step does to the parts of a state that it concerns: one server, one client's phase and read number, the slots of the
--- channels, the replies. It is the code's own account, list by list; `proofs/` shows that it is the model's step on the world that
--- the state stands for.
+-- What each step does to the parts of a state that it concerns: one server, one client's phase and read number, the
+-- slots of the channels, the replies. It is the code's own account, list by list; `proofs/` shows that it is the
+-- model's step on the world that the state stands for.
 --
 -- In order: room on channels; messages put on channels; what a step gives; the six steps; one step.
 -- Assumes nothing.

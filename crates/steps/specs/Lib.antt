@@ -1,3 +1,4 @@
 pub mod Inner
 pub mod Checks
+pub mod Kinds
 pub mod Ready

@@ -24,16 +24,28 @@ use Rattle.state.specs.State.{settingsOf, repliesAt, putReplies}
 abbrev pub clientFor : Settings → Session → ℕ → Client
 clientFor t c d = record { number = d; f = t .f; phase = c .phase; reads = c .reads }
 
--- the settings t, the stopped clients z, the server v, the client c, the replies r, for the step x; only D looks at the
--- client's own part of the replies, and only where the client and the server that it names are there
+-- the client that a D takes for, and its own part of the replies, are sound, where the client and the server that it names are
+-- there
+abbrev pub TakerSound : Settings → Session → List ℕ → Step → Type 0
+TakerSound t c r x =
+    (d k : ℕ) → x ≡ D d k → isClient (settingsOf t) d && isServer (settingsOf t) k ≡ true
+    → isSound (clientFor t c d) (repliesAt r (d - 1)) ≡ true
+
+-- for a client's step x: the settings t, the client c, the replies r; only D looks at the replies
+pub record ClientReady (t : Settings) (c : Session) (r : List ℕ) (x : Step) : Type 0 where
+  pub few : t .f ≤ 4
+  pub clients : t .clients ≤ 6
+  pub long : length r ≡ 546
+  pub client : TakerSound t c r x
+
+-- for any step: the stopped clients z and the server v besides
 pub record Ready (t : Settings) (z : ℕ) (v : Server) (c : Session) (r : List ℕ) (x : Step) : Type 0 where
   pub few : t .f ≤ 4
   pub clients : t .clients ≤ 6
   pub stopped : z < 64
   pub server : sound v ≡ true
   pub long : length r ≡ 546
-  pub client : (d k : ℕ) → x ≡ D d k → isClient (settingsOf t) d && isServer (settingsOf t) k ≡ true
-      → isSound (clientFor t c d) (repliesAt r (d - 1)) ≡ true
+  pub client : TakerSound t c r x
 
 -- client x, at place i, has taken message m of server k: what it gives, and its part of the replies replaced
 pub record TakenIn (x : Client) (k : ℕ) (m : Message) (i : ℕ) (r : List ℕ) (z : Took) (r′ : List ℕ) : Type 0 where

@@ -79,11 +79,13 @@ pub fn start_check(t: Settings, stopped: u8, c: Session, d: u32) -> Check
     if !is_client(t, d) {
         return Check::Refused(Refusal::NoSuchProcess);
     }
-    if has(stopped as u16, d) {
+    let gone = has(stopped as u16, d);
+    let ph = c.phase;
+    let busy = !client::is_idle(ph);
+    if gone {
         return Check::Refused(Refusal::Stopped);
     }
-    let ph = c.phase;
-    if !client::is_idle(ph) {
+    if busy {
         return Check::Refused(Refusal::Busy);
     }
     Check::Passed

@@ -1,5 +1,6 @@
 // The steps on the parts that they concern: one server, one client, and the memory that is lent. Each refuses first, in
-// the table's order, and works after. What each gives is in specs/Inner.
+// the table's order, and works after. A step takes and gives back only what its kind can change (specs/Kinds); what it
+// comes to is in specs/Inner.
 ghost use mathlib.Core.Bool.{true, not, _||_};
 ghost use mathlib.Core.List.{List, [], _∷_};
 ghost use mathlib.Core.Path.{_≡_};
@@ -14,8 +15,9 @@ ghost use Rattle.register.specs.Settings.{mostClients};
 ghost use Rattle.register.specs.Thresholds.{size};
 ghost use Rattle.server.specs.State.{contains, setOf, sound};
 ghost use Rattle.state.specs.State.{downIndex, repliesAt};
-ghost use Rattle.steps.specs.Ready.{clientFor, Ready, TakenIn};
 ghost use Rattle.steps.specs.Checks.{gave, beginChecks};
+ghost use Rattle.steps.specs.Kinds.{isOfServer, isOfClient, isOfNeither, serverGave, clientGave, otherGave};
+ghost use Rattle.steps.specs.Ready.{clientFor, ClientReady, Ready, TakenIn};
 ghost use Rattle.steps.specs.Inner as inner;
 use crate::checks::Check;
 use crate::checks::has;
@@ -64,24 +66,30 @@ const MOST_SENT: u32 = 2;
 
 const WORDS: usize = 91;
 
-// What a step answers, and the small parts after it.
+// What a server's step comes to: the server after it. A refusal changes nothing, here and below.
+pub enum ServerStep {
+    Went(Server),
+    Refused(Refusal),
+}
+
+// A client's step: its answer, and the client after it.
+pub enum ClientStep {
+    Done(Answer, Session),
+    Refused(Refusal),
+}
+
+// A step that changes neither: the stopped clients after it.
+pub enum OtherStep {
+    Went(u8),
+    Refused(Refusal),
+}
+
+// What any step answers, and the small parts after it.
 pub struct Change {
     pub answer: Answer,
     pub stopped: u8,
     pub server: Server,
     pub client: Session,
-}
-
-// A refusal changes nothing.
-fn refused(n: Refusal, stopped: u8, v: Server, c: Session) -> Change
-    ensures { λ x. ⌜ x ≡ record { answer = Answer.Refused n; stopped = stopped; server = v; client = c } ⌝ }
-{
-    Change {
-        answer: Answer::Refused(n),
-        stopped: stopped,
-        server: v,
-        client: c,
-    }
 }
 
 // A client by its number, with its phase and read number.
@@ -98,14 +106,9 @@ fn client_in(t: Settings, c: Session, d: u8) -> Client
     }
 }
 
-// What a client's taking changes.
-fn change_of(stopped: u8, v: Server, took: Took) -> Change
-    ensures { λ x. ⌜ x ≡ record {
-      answer = took .answer;
-      stopped = stopped;
-      server = v;
-      client = record { phase = took .client .phase; reads = took .client .reads };
-    } ⌝ }
+// What a client's taking comes to.
+fn done(took: Took) -> ClientStep
+    ensures { λ x. ⌜ x ≡ ClientStep.Done (took .answer) (record { phase = took .client .phase; reads = took .client .reads }) ⌝ }
 {
     let answer = took.answer;
     let x = took.client;
@@ -115,39 +118,25 @@ fn change_of(stopped: u8, v: Server, took: Took) -> Change
         phase: ph,
         reads: reads,
     };
-    Change {
-        answer: answer,
-        stopped: stopped,
-        server: v,
-        client: client,
-    }
+    ClientStep::Done(answer, client)
 }
 
 // ---- R and W
 
 // The last checks of a start, 11 and 12, and the start: the next read number, and GET_INFO on every channel.
-fn begin(
-    t: Settings,
-    stopped: u8,
-    v: Server,
-    c: Session,
-    d: u32,
-    ph: Phase,
-    more: u32,
-    b: &mut Slots,
-) -> Change
+fn begin(t: Settings, c: Session, d: u32, ph: Phase, more: u32, b: &mut Slots) -> ClientStep
     requires { ⌜ (t .f ≤ 4) × (1 ≤ d) × (d ≤ 6) × (more ≤ 8) ⌝ }
-    ensures { λ x. ⌜ ((l : List ℕ) → gave x (now (b .exit)) l
-        ≡ inner.unless (lowest (beginChecks t c (now (b .entry)) d more)) stopped v c (now (b .entry)) l
-        (inner.begun t stopped v c (now (b .entry)) l d ph)) ⌝ }
+    ensures { λ x. ⌜ ((z : ℕ) (v : Server) (l : List ℕ) → clientGave x z v c (now (b .exit)) l
+        ≡ inner.unless (lowest (beginChecks t c (now (b .entry)) d more)) z v c (now (b .entry)) l
+        (inner.begun t z v c (now (b .entry)) l d ph)) ⌝ }
 {
     let reads = c.reads;
     if HIGHEST <= reads.0 {
-        return refused(Refusal::Exhausted, stopped, v, c);
+        return ClientStep::Refused(Refusal::Exhausted);
     }
     let i = (d - 1) as usize;
     if !has_room_up(t, b, i, more) {
-        return refused(Refusal::FullChannel, stopped, v, c);
+        return ClientStep::Refused(Refusal::FullChannel);
     }
     let next = ReadNumber(reads.0 + 1);
     broadcast(t, b, i, Message::GetInfo(next));
@@ -155,44 +144,32 @@ fn begin(
         phase: ph,
         reads: next,
     };
-    Change {
-        answer: Answer::Went,
-        stopped: stopped,
-        server: v,
-        client: client,
+    ClientStep::Done(Answer::Went, client)
+}
+
+fn read(t: Settings, stopped: u8, c: Session, d: u32, b: &mut Slots) -> ClientStep
+    requires { ⌜ (t .f ≤ 4) × (t .clients ≤ 6) ⌝ }
+    ensures { λ x. ⌜ ((v : Server) (l : List ℕ)
+        → clientGave x stopped v c (now (b .exit)) l ≡ inner.readStep t stopped v c (now (b .entry)) l d) ⌝ }
+{
+    match start_check(t, stopped, c, d) {
+        Check::Refused(n) => ClientStep::Refused(n),
+        Check::Passed => begin(t, c, d, Phase::Reading, READ_SLOTS, b),
     }
 }
 
-fn read(t: Settings, stopped: u8, v: Server, c: Session, d: u32, b: &mut Slots) -> Change
+fn write(t: Settings, stopped: u8, c: Session, d: u32, e: Entry, b: &mut Slots) -> ClientStep
     requires { ⌜ (t .f ≤ 4) × (t .clients ≤ 6) ⌝ }
-    ensures { λ x. ⌜ ((l : List ℕ) → gave x (now (b .exit)) l ≡ inner.readStep t stopped v c (now (b .entry)) l d) ⌝ }
+    ensures { λ x. ⌜ ((v : Server) (l : List ℕ)
+        → clientGave x stopped v c (now (b .exit)) l ≡ inner.writeStep t stopped v c (now (b .entry)) l d e) ⌝ }
 {
     match start_check(t, stopped, c, d) {
-        Check::Refused(n) => refused(n, stopped, v, c),
-        Check::Passed => begin(t, stopped, v, c, d, Phase::Reading, READ_SLOTS, b),
-    }
-}
-
-fn write(t: Settings, stopped: u8, v: Server, c: Session, d: u32, e: Entry, b: &mut Slots) -> Change
-    requires { ⌜ (t .f ≤ 4) × (t .clients ≤ 6) ⌝ }
-    ensures { λ x. ⌜ ((l : List ℕ) → gave x (now (b .exit)) l ≡ inner.writeStep t stopped v c (now (b .entry)) l d e) ⌝ }
-{
-    match start_check(t, stopped, c, d) {
-        Check::Refused(n) => refused(n, stopped, v, c),
+        Check::Refused(n) => ClientStep::Refused(n),
         Check::Passed => {
             if !licence::is_licence(e.0) {
-                return refused(Refusal::NoEntry, stopped, v, c);
+                return ClientStep::Refused(Refusal::NoEntry);
             }
-            begin(
-                t,
-                stopped,
-                v,
-                c,
-                d,
-                Phase::ReadingForWrite(e),
-                WRITE_SLOTS,
-                b,
-            )
+            begin(t, c, d, Phase::ReadingForWrite(e), WRITE_SLOTS, b)
         }
     }
 }
@@ -200,17 +177,9 @@ fn write(t: Settings, stopped: u8, v: Server, c: Session, d: u32, e: Entry, b: &
 // ---- K
 
 // The server takes the oldest message, unless there is no room for what it sends (12).
-fn serve_oldest(
-    t: Settings,
-    stopped: u8,
-    v: Server,
-    c: Session,
-    k: u32,
-    d: u32,
-    b: &mut Slots,
-) -> Change
+fn serve_oldest(t: Settings, stopped: u8, v: Server, k: u32, d: u32, b: &mut Slots) -> ServerStep
     requires { ⌜ (sound v ≡ true) × (t .clients ≤ 6) × (1 ≤ d) × (d ≤ 6) × (1 ≤ k) × (k ≤ 13) ⌝ }
-    ensures { λ x. ⌜ ((l : List ℕ) → gave x (now (b .exit)) l
+    ensures { λ x. ⌜ ((c : Session) (l : List ℕ) → serverGave x stopped v c (now (b .exit)) l
         ≡ inner.unless (lowest (Refusal.FullChannel when not (inner.roomDown t stopped (now (b .entry)) (k - 1)
         (inner.replied t stopped v c (now (b .entry)) l k d)) ∷ [])) stopped v c (now (b .entry)) l
         (inner.served t stopped v c (now (b .entry)) l k d)) ⌝ }
@@ -222,25 +191,21 @@ fn serve_oldest(
     let sends = served.sends;
     let next = served.server;
     if !has_room_down(t, stopped, b, j, d as u8, sends) {
-        return refused(Refusal::FullChannel, stopped, v, c);
+        return ServerStep::Refused(Refusal::FullChannel);
     }
     channel::take(b, from);
     reply(stopped, b, i, j, sends);
-    Change {
-        answer: Answer::Went,
-        stopped: stopped,
-        server: next,
-        client: c,
-    }
+    ServerStep::Went(next)
 }
 
-fn serve(t: Settings, stopped: u8, v: Server, c: Session, k: u32, d: u32, b: &mut Slots) -> Change
+fn serve(t: Settings, stopped: u8, v: Server, k: u32, d: u32, b: &mut Slots) -> ServerStep
     requires { ⌜ (sound v ≡ true) × (t .f ≤ 4) × (t .clients ≤ 6) ⌝ }
-    ensures { λ x. ⌜ ((l : List ℕ) → gave x (now (b .exit)) l ≡ inner.serveStep t stopped v c (now (b .entry)) l k d) ⌝ }
+    ensures { λ x. ⌜ ((c : Session) (l : List ℕ)
+        → serverGave x stopped v c (now (b .exit)) l ≡ inner.serveStep t stopped v c (now (b .entry)) l k d) ⌝ }
 {
     match serve_check(t, b, k, d) {
-        Check::Refused(n) => refused(n, stopped, v, c),
-        Check::Passed => serve_oldest(t, stopped, v, c, k, d, b),
+        Check::Refused(n) => ServerStep::Refused(n),
+        Check::Passed => serve_oldest(t, stopped, v, k, d, b),
     }
 }
 
@@ -270,22 +235,13 @@ fn take_in(x: Client, k: u8, m: Message, i: usize, r: &mut [u64]) -> Took
 }
 
 // The client takes the oldest message, unless there is no room for what it sends (12).
-fn take_oldest(
-    t: Settings,
-    stopped: u8,
-    v: Server,
-    c: Session,
-    d: u32,
-    k: u32,
-    b: &mut Slots,
-    r: &mut [u64],
-) -> Change
+fn take_oldest(t: Settings, c: Session, d: u32, k: u32, b: &mut Slots, r: &mut [u64]) -> ClientStep
     requires { ⌜ (t .f ≤ 4) × (length (now r) ≡ 546) × (isSound (clientFor t c d) (repliesAt (now r) (d - 1)) ≡ true)
         × (1 ≤ d) × (d ≤ 6) × (1 ≤ k) × (k ≤ size (t .f)) ⌝ }
-    ensures { λ x. ⌜ gave x (now (b .exit)) (now (r .exit))
+    ensures { λ x. ⌜ ((z : ℕ) (v : Server) → clientGave x z v c (now (b .exit)) (now (r .exit))
         ≡ inner.unless (lowest (Refusal.FullChannel when not (inner.roomUp t (now (b .entry)) (d - 1)
-        (length (inner.tookFrom t stopped v c (now (b .entry)) (now (r .entry)) d k .sends))) ∷ []))
-        stopped v c (now (b .entry)) (now (r .entry)) (inner.took t stopped v c (now (b .entry)) (now (r .entry)) d k) ⌝ }
+        (length (inner.tookFrom t z v c (now (b .entry)) (now (r .entry)) d k .sends))) ∷ []))
+        z v c (now (b .entry)) (now (r .entry)) (inner.took t z v c (now (b .entry)) (now (r .entry)) d k)) ⌝ }
 {
     let i = (d - 1) as usize;
     let from = down(i, (k - 1) as usize);
@@ -294,32 +250,31 @@ fn take_oldest(
     let at = i * WORDS;
     let end = at + WORDS;
     if !has_room_for(t, b, x, k as u8, m, &r[at..end]) {
-        return refused(Refusal::FullChannel, stopped, v, c);
+        return ClientStep::Refused(Refusal::FullChannel);
     }
     let taken = take_in(x, k as u8, m, i, r);
     channel::take(b, from);
     let sends = taken.sends;
     send_up(t, b, i, sends);
-    change_of(stopped, v, taken)
+    done(taken)
 }
 
 fn take(
     t: Settings,
     stopped: u8,
-    v: Server,
     c: Session,
     d: u32,
     k: u32,
     b: &mut Slots,
     r: &mut [u64],
-) -> Change
-    requires { ⌜ Ready t stopped v c (now r) (Step.D d k) ⌝ }
-    ensures { λ x. ⌜ gave x (now (b .exit)) (now (r .exit))
-        ≡ inner.takeStep t stopped v c (now (b .entry)) (now (r .entry)) d k ⌝ }
+) -> ClientStep
+    requires { ⌜ ClientReady t c (now r) (Step.D d k) ⌝ }
+    ensures { λ x. ⌜ ((v : Server) → clientGave x stopped v c (now (b .exit)) (now (r .exit))
+        ≡ inner.takeStep t stopped v c (now (b .entry)) (now (r .entry)) d k) ⌝ }
 {
     match take_check(t, stopped, b, d, k) {
-        Check::Refused(n) => refused(n, stopped, v, c),
-        Check::Passed => take_oldest(t, stopped, v, c, d, k, b, r),
+        Check::Refused(n) => ClientStep::Refused(n),
+        Check::Passed => take_oldest(t, c, d, k, b, r),
     }
 }
 
@@ -334,21 +289,16 @@ fn with_stopped(stopped: u8, d: u8) -> u8
     stopped | bit
 }
 
-fn stop(t: Settings, stopped: u8, v: Server, c: Session, d: u32, b: &mut Slots) -> Change
+fn stop(t: Settings, stopped: u8, d: u32, b: &mut Slots) -> OtherStep
     requires { ⌜ (stopped < 64) × (t .f ≤ 4) × (t .clients ≤ 6) ⌝ }
-    ensures { λ x. ⌜ ((l : List ℕ) → gave x (now (b .exit)) l ≡ inner.stopStep t stopped v c (now (b .entry)) l d) ⌝ }
+    ensures { λ x. ⌜ ((v : Server) (c : Session) (l : List ℕ)
+        → otherGave x stopped v c (now (b .exit)) l ≡ inner.stopStep t stopped v c (now (b .entry)) l d) ⌝ }
 {
     match stop_check(t, stopped, d) {
-        Check::Refused(n) => refused(n, stopped, v, c),
+        Check::Refused(n) => OtherStep::Refused(n),
         Check::Passed => {
             empty_down(t, b, (d - 1) as usize);
-            let next = with_stopped(stopped, d as u8);
-            Change {
-                answer: Answer::Went,
-                stopped: next,
-                server: v,
-                client: c,
-            }
+            OtherStep::Went(with_stopped(stopped, d as u8))
         }
     }
 }
@@ -356,63 +306,143 @@ fn stop(t: Settings, stopped: u8, v: Server, c: Session, d: u32, b: &mut Slots) 
 // ---- L
 
 // The message goes on its channel, unless there is no room for it (12); to a stopped client it is dropped.
-fn lie_with(
-    t: Settings,
-    stopped: u8,
-    v: Server,
-    c: Session,
-    k: u32,
-    d: u32,
-    w: Words,
-    b: &mut Slots,
-) -> Change
+fn lie_with(stopped: u8, k: u32, d: u32, w: Words, b: &mut Slots) -> OtherStep
     requires { ⌜ (1 ≤ d) × (d ≤ 6) × (1 ≤ k) × (k ≤ 13) × (w .0 < 16777216) ⌝ }
-    ensures { λ x. ⌜ ((l : List ℕ) → gave x (now (b .exit)) l
+    ensures { λ x. ⌜ ((t : Settings) (v : Server) (c : Session) (l : List ℕ)
+        → otherGave x stopped v c (now (b .exit)) l
         ≡ inner.unless (lowest (Refusal.FullChannel when not (contains stopped d
         || leb (countAt (now (b .entry)) (downIndex (d - 1) (k - 1)) + 1) 8) ∷ [])) stopped v c (now (b .entry)) l
         (inner.lied t stopped v c (now (b .entry)) l k d w)) ⌝ }
 {
     if has(stopped as u16, d) {
-        return Change {
-            answer: Answer::Went,
-            stopped: stopped,
-            server: v,
-            client: c,
-        };
+        return OtherStep::Went(stopped);
     }
     let to = down((d - 1) as usize, (k - 1) as usize);
     if !has_room(b, to, 1) {
-        return refused(Refusal::FullChannel, stopped, v, c);
+        return OtherStep::Refused(Refusal::FullChannel);
     }
     channel::put(b, to, w);
-    Change {
-        answer: Answer::Went,
-        stopped: stopped,
-        server: v,
-        client: c,
+    OtherStep::Went(stopped)
+}
+
+fn lie(t: Settings, stopped: u8, k: u32, d: u32, w: Words, b: &mut Slots) -> OtherStep
+    requires { ⌜ (t .f ≤ 4) × (t .clients ≤ 6) ⌝ }
+    ensures { λ x. ⌜ ((v : Server) (c : Session) (l : List ℕ)
+        → otherGave x stopped v c (now (b .exit)) l ≡ inner.lieStep t stopped v c (now (b .entry)) l k d w) ⌝ }
+{
+    match lie_check(t, k, d, w) {
+        Check::Refused(n) => OtherStep::Refused(n),
+        Check::Passed => lie_with(stopped, k, d, w, b),
     }
 }
 
-fn lie(
+// ---- a step of each kind
+
+// K.
+pub fn server_step(t: Settings, stopped: u8, v: Server, x: Step, b: &mut Slots) -> ServerStep
+    requires { ⌜ (sound v ≡ true) × (t .f ≤ 4) × (t .clients ≤ 6) × (isOfServer x ≡ true) ⌝ }
+    ensures { λ y. ⌜ ((c : Session) (l : List ℕ)
+        → serverGave y stopped v c (now (b .exit)) l ≡ inner.innerOf t stopped v c (now (b .entry)) l x) ⌝ }
+{
+    match x {
+        Step::K(k, d) => serve(t, stopped, v, k, d, b),
+        _ => ServerStep::Refused(Refusal::NoSuchProcess),
+    }
+}
+
+// R, W or D.
+pub fn client_step(
     t: Settings,
     stopped: u8,
-    v: Server,
     c: Session,
-    k: u32,
-    d: u32,
-    w: Words,
+    x: Step,
     b: &mut Slots,
-) -> Change
-    requires { ⌜ (t .f ≤ 4) × (t .clients ≤ 6) ⌝ }
-    ensures { λ x. ⌜ ((l : List ℕ) → gave x (now (b .exit)) l ≡ inner.lieStep t stopped v c (now (b .entry)) l k d w) ⌝ }
+    r: &mut Replies,
+) -> ClientStep
+    requires { ⌜ ClientReady t c (now r) x × (isOfClient x ≡ true) ⌝ }
+    ensures { λ y. ⌜ ((v : Server) → clientGave y stopped v c (now (b .exit)) (now (r .exit))
+        ≡ inner.innerOf t stopped v c (now (b .entry)) (now (r .entry)) x) ⌝ }
 {
-    match lie_check(t, k, d, w) {
-        Check::Refused(n) => refused(n, stopped, v, c),
-        Check::Passed => lie_with(t, stopped, v, c, k, d, w, b),
+    match x {
+        Step::R(d) => read(t, stopped, c, d, b),
+        Step::W(d, e) => write(t, stopped, c, d, e, b),
+        Step::D(d, k) => take(t, stopped, c, d, k, b, r),
+        _ => ClientStep::Refused(Refusal::NoSuchProcess),
+    }
+}
+
+// C or L.
+pub fn other_step(t: Settings, stopped: u8, x: Step, b: &mut Slots) -> OtherStep
+    requires { ⌜ (stopped < 64) × (t .f ≤ 4) × (t .clients ≤ 6) × (isOfNeither x ≡ true) ⌝ }
+    ensures { λ y. ⌜ ((v : Server) (c : Session) (l : List ℕ)
+        → otherGave y stopped v c (now (b .exit)) l ≡ inner.innerOf t stopped v c (now (b .entry)) l x) ⌝ }
+{
+    match x {
+        Step::C(d) => stop(t, stopped, d, b),
+        Step::L(k, d, w) => lie(t, stopped, k, d, w, b),
+        _ => OtherStep::Refused(Refusal::NoSuchProcess),
     }
 }
 
 // ---- one step
+
+// The parts after a step of each kind.
+fn after_server(y: ServerStep, stopped: u8, v: Server, c: Session) -> Change
+    ensures { λ z. ⌜ ((b l : List ℕ) → gave z b l ≡ serverGave y stopped v c b l) ⌝ }
+{
+    match y {
+        ServerStep::Went(w) => Change {
+            answer: Answer::Went,
+            stopped: stopped,
+            server: w,
+            client: c,
+        },
+        ServerStep::Refused(n) => Change {
+            answer: Answer::Refused(n),
+            stopped: stopped,
+            server: v,
+            client: c,
+        },
+    }
+}
+
+fn after_client(y: ClientStep, stopped: u8, v: Server, c: Session) -> Change
+    ensures { λ z. ⌜ ((b l : List ℕ) → gave z b l ≡ clientGave y stopped v c b l) ⌝ }
+{
+    match y {
+        ClientStep::Done(a, w) => Change {
+            answer: a,
+            stopped: stopped,
+            server: v,
+            client: w,
+        },
+        ClientStep::Refused(n) => Change {
+            answer: Answer::Refused(n),
+            stopped: stopped,
+            server: v,
+            client: c,
+        },
+    }
+}
+
+fn after_other(y: OtherStep, stopped: u8, v: Server, c: Session) -> Change
+    ensures { λ z. ⌜ ((b l : List ℕ) → gave z b l ≡ otherGave y stopped v c b l) ⌝ }
+{
+    match y {
+        OtherStep::Went(next) => Change {
+            answer: Answer::Went,
+            stopped: next,
+            server: v,
+            client: c,
+        },
+        OtherStep::Refused(n) => Change {
+            answer: Answer::Refused(n),
+            stopped: stopped,
+            server: v,
+            client: c,
+        },
+    }
+}
 
 // One step on the parts that it concerns.
 pub fn inner(
@@ -428,11 +458,8 @@ pub fn inner(
     ensures { λ y. ⌜ gave y (now (b .exit)) (now (r .exit)) ≡ inner.innerOf t stopped v c (now (b .entry)) (now (r .entry)) x ⌝ }
 {
     match x {
-        Step::R(d) => read(t, stopped, v, c, d, b),
-        Step::W(d, e) => write(t, stopped, v, c, d, e, b),
-        Step::K(k, d) => serve(t, stopped, v, c, k, d, b),
-        Step::D(d, k) => take(t, stopped, v, c, d, k, b, r),
-        Step::C(d) => stop(t, stopped, v, c, d, b),
-        Step::L(k, d, w) => lie(t, stopped, v, c, k, d, w, b),
+        Step::K(_, _) => after_server(server_step(t, stopped, v, x, b), stopped, v, c),
+        Step::C(_) | Step::L(_, _, _) => after_other(other_step(t, stopped, x, b), stopped, v, c),
+        _ => after_client(client_step(t, stopped, c, x, b, r), stopped, v, c),
     }
 }

@@ -146,7 +146,8 @@ fn places(s: Sends, d: u8, i: usize) -> u32
 // Whether the channel from a server to a client drops, or has room for the server's reply to client d.
 fn has_room_from(stopped: u8, b: &Slots, i: usize, j: usize, d: u8, s: Sends) -> bool
     requires { ⌜ (i < 6) × (j < 13) ⌝ }
-    ensures { λ r. ⌜ r ≡ (contains stopped (suc i) || leb (countAt (now (b .entry)) (downIndex i j) + length (sentTo (suc i) (sentBy d s))) 8) ⌝ }
+    ensures { λ r. ⌜ r ≡ (contains stopped (suc i)
+        || leb (countAt (now (b .entry)) (downIndex i j) + length (sentTo (suc i) (sentBy d s))) 8) ⌝ }
 {
     if is_in(stopped as u16, i) {
         return true;

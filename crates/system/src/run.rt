@@ -2,7 +2,7 @@
 ghost use mathlib.Core.Bool.{true};
 ghost use mathlib.Core.Path.{_≡_};
 ghost use lib.ListN.{length};
-ghost use Prim.Native.Nat.{_+_, _*_, _≤_, min};
+ghost use Prim.Native.Nat.{_+_, _*_, _≤_};
 ghost use Rattle.register.specs.World.{newWorld};
 ghost use Rattle.system.specs.Setup.{setupOf};
 ghost use Rattle.state.specs.Sound.{areAllowed};
@@ -14,6 +14,7 @@ use crate::setup::Setup;
 use crate::setup::new_system;
 use crate::setup::set_up;
 use crate::setup::settings_of;
+use basics::least;
 use channel::Slots;
 use message::Entry;
 use message::Words;
@@ -142,13 +143,6 @@ fn take_all(
         i += 1;
     }
     u
-}
-
-// The lower of two numbers.
-pub fn least(a: usize, b: usize) -> usize
-    ensures { λ r. ⌜ r ≡ min a b ⌝ }
-{
-    if a < b { a } else { b }
 }
 
 // A run from a setup. Five numbers a step, two an answer; as many steps as both have room for. A refused setup changes nothing.

@@ -1,14 +1,11 @@
--- `read_more`: at most 65 bytes are kept, so there is room behind them, and they stay.
+-- `read_more`: at most 65 bytes are kept, so there is room behind them; what is read stands there (`Reading`).
 -- Assumes nothing.
 use Prim.Native.Nat.{_-_, _≤_}
-use mathlib.Core.Path.{_≡_, refl, _∙_}
 use native.Mathlib.Omega.{arith}
-use lib.ListN.{length, take, length-set}
-use lib.Seq.{take-set-le}
+use lib.ListN.{length, length-set}
 use borrow.Author.Needs.{needs}
-use borrow.Rule.Slice.PartMut.{putMid}
-use Rattle.script.specs.Lines.{kept}
-use Rattle.rehearse.proofs.Blocks.{kept-few, kept-stays}
+use Rattle.rehearse.proofs.Blocks.{kept-few}
+use Rattle.rehearse.proofs.Reading.{read-some, read-none, read-last}
 use Rattle.rehearse.proofs.read_more.Statement.{statement}
 use Rattle.rehearse.proofs.read_more.Tie as tie
 
@@ -39,64 +36,48 @@ part-count-end c = search needs
 count-requires : tie.Need-count-requires
 count-requires c κs = search needs
 
-add-t17 : tie.Need-add-t17
-add-t17 c = search needs
-
--- after the count: what was kept, and what stands there now
-few : (c : tie.After-count)
-    → c .before .before .before .before .before .before .before .before .before .keep .result ≤ 65
+-- at most 65 bytes are kept
+few : (c : tie.After-count) → c .before .before .before .before .before .before .before .before .before .keep .result ≤ 65
 few c =
     let k = c .before .before .before .before .before .before .before .before .before in
     let a = k .before .before .before .before .args in
     kept-few (a .input .now) (a .q .at) (a .q .total) _ _ (k .keep .ensures)
 
-stays : (c : tie.After-count)
-    → let k = c .before .before .before .before .before .before .before .before .before in
-    let a = k .before .before .before .before .args in
-    let l = kept (a .input .now) (a .q .at) (a .q .total) in
-    take (length l)
-    (putMid (k .keep .result) (length (k .keep .last .0) - k .keep .result) (k .keep .last .0)
-    (c .before .before .before .before .before .read .last .1 .0)) ≡ l
-stays c =
-    let k = c .before .before .before .before .before .before .before .before .before in
-    let a = k .before .before .before .before .args in
-    kept-stays (a .input .now) (k .keep .last .0)
-    (c .before .before .before .before .before .read .last .1 .0) (a .q .at)
-    (a .q .total) (k .keep .result) (length (k .keep .last .0) - k .keep .result) (k .keep .ensures)
+add-room-of : tie.Need-add-room-of
+add-room-of c = search needs
+
+room-of-requires : tie.Need-room-of-requires
+room-of-requires c κs = search needs
 
 same-length : tie.Need-same-length
 same-length c = search needs
 
 returns : tie.Need-returns
 returns c =
-    let k = c .before .before .before .before .before .before .before .before .before .before in
+    let k = c .before .before .before .before .before .before .before .before .before .before .before in
     let a = k .before .before .before .before .args in
-    let long = k .before .before .before .before .pre in
-    let least = few (c .before) in
-    record {
-      isSet = refl;
-      system = refl;
-      number = refl;
-      before = stays (c .before);
-      left = omega arith;
-      within = search needs;
-    }
+    let mid = k .keep .last .0 in
+    let ys = c .before .before .before .before .before .before .before .read .last .1 .0 in
+    read-some (a .q) (a .input .now) mid ys (k .keep .result)
+    (length mid - k .keep .result) (k .keep .ensures) (c .room-of .result)
+    (c .before .before .count .result) (c .before .if1 .taken)
+    (search needs) (search needs) (c .room-of .ensures)
+
+room-of-requires-2 : tie.Need-room-of-requires-2
+room-of-requires-2 c κs = search needs
 
 same-length-2 : tie.Need-same-length-2
 same-length-2 c = search needs
 
 returns-2 : tie.Need-returns-2
 returns-2 c =
-    let k = c .before .before .before .before .before .before .before .before .before .before .before in
+    let k = c .before .before .before .before .before .before .before .before .before .before .before .before in
     let a = k .before .before .before .before .args in
-    record {
-      isSet = refl;
-      system = refl;
-      number = refl;
-      before = stays (c .before .before);
-      left = omega arith;
-      within = omega arith;
-    }
+    let mid = k .keep .last .0 in
+    let ys = c .before .before .before .before .before .before .before .before .read .last .1 .0 in
+    read-none (a .q) (a .input .now) mid ys (k .keep .result)
+    (length mid - k .keep .result) (k .keep .ensures) (c .room-of2 .result) (c .before .if2 .taken)
+    (c .room-of2 .ensures)
 
 slice-write-input : tie.Need-slice-write-input
 slice-write-input c =
@@ -105,29 +86,24 @@ slice-write-input c =
     let long = k .before .before .before .before .pre in
     search needs
 
-add-t10 : tie.Need-add-t10
-add-t10 c = search needs
+add-room-of-2 : tie.Need-add-room-of-2
+add-room-of-2 c = search needs
+
+room-of-requires-3 : tie.Need-room-of-requires-3
+room-of-requires-3 c κs = search needs
 
 same-length-3 : tie.Need-same-length-3
 same-length-3 c = simp length-set (search needs)
 
 returns-3 : tie.Need-returns-3
 returns-3 c =
-    let k = c .before .before .before .before .before .before .before .before .before .before .before in
+    let k = c .before .before .before .before .before .before .before .before .before .before .before .before in
     let a = k .before .before .before .before .args in
-    let least = few (c .before .before) in
-    let many = k .keep .ensures .ends in
-    record {
-      isSet = refl;
-      system = refl;
-      number = refl;
-      before =
-          take-set-le (length (kept (a .input .now) (a .q .at) (a .q .total))) _ (k .keep .result) 10
-          (omega arith)
-          ∙ stays (c .before .before);
-      left = omega arith;
-      within = omega arith;
-    }
+    let mid = k .keep .last .0 in
+    let ys = c .before .before .before .before .before .before .before .before .read .last .1 .0 in
+    read-last (a .q) (a .input .now) mid ys (k .keep .result)
+    (length mid - k .keep .result) (k .keep .ensures) (c .room-of3 .result) (omega arith)
+    (slice-write-input (c .before)) (simp length-set (omega (arith, slice-write-input (c .before)))) (c .room-of3 .ensures)
 
 pub read-more-spec : {M : Type 1} → statement M
 read-more-spec =
@@ -142,12 +118,15 @@ read-more-spec =
     part-count-start
     part-count-end
     count-requires
-    add-t17
+    add-room-of
+    room-of-requires
     same-length
     returns
+    room-of-requires-2
     same-length-2
     returns-2
     slice-write-input
-    add-t10
+    add-room-of-2
+    room-of-requires-3
     same-length-3
     returns-3)

@@ -1,78 +1,52 @@
--- `hex_in`: the loop keeps the value of the digits that it has passed, of which there are at most 16.
-use Prim.Native.Nat.{ℕ, _≤_, _<_, _-_, _+_, _*_, _^_}
+-- `hex_in`: the loop keeps that `bad` is below 16 exactly where all bytes that it has passed are digits, and their value if they
+-- are. There are at most 16.
+use Prim.Native.Nat.{ℕ, _≤_, _<_, _-_, _+_, _*_, _%_, _^_}
 use mathlib.Core.Path.{_≡_, refl, sym, _∙_, ap}
-use mathlib.Core.Bool.{true, false}
-use mathlib.Core.List.{List}
+use mathlib.Core.Bool.{true, _&&_}
 use native.Mathlib.Omega.{arith}
 use borrow.Author.Needs.{needs}
-use borrow.Author.Tests.{eq-eqb, not-true, not-false}
+use borrow.Author.Tests.{eq-eqb, lt-ltb, le-ltb, ltb-true, ltb-false}
+use lib.Bits.{bitOr, bitAnd, or-lt, or-add-and, and-le-l, and-le-r}
+use lib.Dec.{ltb}
 use lib.ListN.{length, getD, take}
 use lib.Seq.{take-all}
+use Rattle.basics.proofs.Cases.{by-test, both}
 use Rattle.script.specs.Numbers.{isHexDigit, hexValue, allBytes, valueFrom, hexIn}
-use Rattle.script.proofs.Texts.{all-longer, value-longer, digits-lt, digits-fit, all-fails, hex-lt}
+use Rattle.script.proofs.Texts.{all-next, value-longer, digits-lt, digits-fit, hex-told}
 use Rattle.script.proofs.parse.hex_in.Statement.{statement}
 use Rattle.script.proofs.parse.hex_in.Tie as tie
 
 abbrev Inv-loop : tie.InvT-loop
-Inv-loop s v₀ i₀ v i =
-    (i ≤ length s) × (allBytes isHexDigit (take i s) ≡ true) × (v ≡ valueFrom hexValue 16 0 (take i s)) × (v < 2 ^ (4 * i))
+Inv-loop s v₀ bad₀ i₀ v bad i =
+    (i ≤ length s) × (ltb bad 16 ≡ allBytes isHexDigit (take i s))
+    × (allBytes isHexDigit (take i s) ≡ true → v ≡ valueFrom hexValue 16 0 (take i s)) × (v < 2 ^ (4 * i))
 
 abbrev μ-loop : tie.MeasureT-loop
-μ-loop s v₀ i₀ v i = length s - i
+μ-loop s v₀ bad₀ i₀ v bad i = length s - i
 
 loop-holds : tie.Need-loop-holds Inv-loop μ-loop
 unfolding allBytes valueFrom
-loop-holds c = (search needs, refl, refl, search needs)
+loop-holds c = (search needs, refl, λ e. refl, search needs)
 
-shared-slice-read-b : tie.Need-shared-slice-read-b Inv-loop μ-loop
-shared-slice-read-b c = search needs
+shared-slice-read-hex-digit : tie.Need-shared-slice-read-hex-digit Inv-loop μ-loop
+shared-slice-read-hex-digit c = search needs
 
-is-hex-digit-requires : tie.Need-is-hex-digit-requires Inv-loop μ-loop
-is-hex-digit-requires c κs = search needs
+hex-digit-requires : tie.Need-hex-digit-requires Inv-loop μ-loop
+hex-digit-requires c κs = search needs
 
-returns : tie.Need-returns Inv-loop μ-loop
-unfolding hexIn
-returns c =
-    let at = c .before .before .before .before in
-    let s = at .before .before .args .s .now in
-    let none : isHexDigit (getD s (at .loop .i) 0) ≡ false =
-    sym (c .before .is-hex-digit .ensures) ∙ not-true _ (c .if1 .taken) in
-    simp (eq-eqb (length s) (length s) refl, all-fails isHexDigit s (at .loop .i) (omega arith) none)
-
--- where the loop goes on: the byte is a digit, and the value so far has fewer than 16
-module _ (c : tie.Else1 Inv-loop μ-loop) where
-  abbrev at-loop : tie.At-loop Inv-loop μ-loop
-  at-loop = c .before .before .before .before
-
-  abbrev text : List ℕ
-  text = at-loop .before .before .args .s .now
-
-  abbrev here : ℕ
-  here = getD text (at-loop .loop .i) 0
-
-  is : isHexDigit here ≡ true
-  is = sym (c .before .is-hex-digit .ensures) ∙ not-false _ (c .if1 .left)
-
-  small : at-loop .loop .v < 2 ^ 60
-  small =
-      let few : length text ≤ 16 = at-loop .before .before .pre in
-      digits-fit (at-loop .loop .v) (at-loop .loop .i) 15 (at-loop .loop .inv .3) (omega arith)
+-- the value so far has fewer than 16 digits
+small : (c : tie.After-hex-digit Inv-loop μ-loop) → c .before .before .before .loop .v < 2 ^ 60
+small c =
+    let l = c .before .before .before .loop in
+    let start = c .before .before .before .before .before in
+    let few : length (start .args .s .now) ≤ 16 = start .pre in
+    digits-fit (l .v) (l .i) 15 (l .inv .3) (omega arith)
 
 mul-v : tie.Need-mul-v Inv-loop μ-loop
 mul-v c = omega (arith, small c)
 
-hex-value-requires : tie.Need-hex-value-requires Inv-loop μ-loop
-hex-value-requires c κs = is c
-
-cast-v : tie.Need-cast-v Inv-loop μ-loop
-cast-v c = search needs
-
--- the value of the byte
-digit : (c : tie.After-hex-value Inv-loop μ-loop) → c .hex-value .result < 16
-digit c = rw (c .hex-value .ensures) (hex-lt (here (c .before)) (is (c .before)))
-
 add-v : tie.Need-add-v Inv-loop μ-loop
-add-v c = omega (arith, small (c .before), digit c)
+add-v c = omega (arith, small c)
 
 add-i : tie.Need-add-i Inv-loop μ-loop
 add-i c = search needs
@@ -80,22 +54,49 @@ add-i c = search needs
 loop-less : tie.Need-loop-less Inv-loop μ-loop
 loop-less c = search needs
 
+-- two numbers joined by or are below 16 where both are: neither is above the join
+or-small : (a b : ℕ) → ltb (bitOr a b) 16 ≡ ltb a 16 && ltb b 16
+or-small a b =
+    let sum : bitOr a b + bitAnd a b ≡ a + b = or-add-and a b in
+    let left : bitAnd a b ≤ a = and-le-l a b in
+    let right : bitAnd a b ≤ b = and-le-r a b in
+    by-test (ltb a 16)
+    (λ p. by-test (ltb b 16) (λ q. rw (p, q) (lt-ltb _ 16 (or-lt 4 a b (ltb-true a 16 p) (ltb-true b 16 q))))
+    (λ q. rw (p, q) (le-ltb (bitOr a b) 16 (let h = ltb-false b 16 q in omega arith))))
+    (λ p. rw p (le-ltb (bitOr a b) 16 (let h = ltb-false a 16 p in omega arith)))
+
 loop-again : tie.Need-loop-again Inv-loop μ-loop
 loop-again c =
-    let l = at-loop (c .before) .loop in
-    let s = text (c .before) in (
+    let l = c .before .before .before .loop in
+    let s = c .before .before .before .before .before .args .s .now in
+    let d = c .hex-digit .result in
+    let told = hex-told (getD s (l .i) 0) d (c .hex-digit .ensures) in
+    let inside : l .i < length s = omega arith in
+    let next = all-next s (l .i) inside isHexDigit in (
       omega arith,
-      all-longer s (l .i) (omega arith) isHexDigit (l .inv .1) (is (c .before)),
-      ap (λ (d : ℕ). l .v * 16 + d) (c .hex-value .ensures) ∙ value-longer s (l .i) (omega arith) hexValue 16 (l .v) (l .inv .2),
-      digits-lt (l .v) 16 (c .hex-value .result) (l .i) (l .inv .3) (omega arith) (digit c),
+      cc (or-small (l .bad) d, told .0, next),
+      λ e. let p = both (allBytes isHexDigit (take (l .i) s)) (isHexDigit (getD s (l .i) 0)) (sym next ∙ e) in
+          ap (λ (x : ℕ). l .v * 16 + x) (told .1 (p .1))
+          ∙ value-longer s (l .i) inside hexValue 16 (l .v) (l .inv .2 (p .0)),
+      digits-lt (l .v) 16 (d % 16) (l .i) (l .inv .3) (omega arith) (omega arith),
     )
+
+returns : tie.Need-returns Inv-loop μ-loop
+unfolding hexIn
+returns c =
+    let l = c .before .before .loop in
+    let s = c .before .before .before .before .args .s .now in
+    let whole : take (l .i) s ≡ s = take-all (l .i) s (omega arith) in
+    let all = sym (l .inv .1) ∙ lt-ltb (l .bad) 16 (c .if1 .taken) in
+    simp (eq-eqb (length s) (length s) refl, rw whole at all, l .inv .2 all, whole)
 
 returns-2 : tie.Need-returns-2 Inv-loop μ-loop
 unfolding hexIn
 returns-2 c =
-    let s = c .before .before .before .args .s .now in
-    let whole : take (c .before .loop .i) s ≡ s = take-all (c .before .loop .i) s (omega arith) in
-    simp (eq-eqb (length s) (length s) refl, rw whole at (c .before .loop .inv .1), c .before .loop .inv .2, whole)
+    let l = c .before .before .loop in
+    let s = c .before .before .before .before .args .s .now in
+    let whole : take (l .i) s ≡ s = take-all (l .i) s (omega arith) in
+    simp (eq-eqb (length s) (length s) refl, rw whole at (sym (l .inv .1) ∙ le-ltb (l .bad) 16 (c .if1 .left)))
 
 pub hex-in-spec : {M : Type 1} → statement M
 hex-in-spec =
@@ -104,14 +105,12 @@ hex-in-spec =
     Inv-loop
     μ-loop
     loop-holds
-    shared-slice-read-b
-    is-hex-digit-requires
-    returns
+    shared-slice-read-hex-digit
+    hex-digit-requires
     mul-v
-    hex-value-requires
-    cast-v
     add-v
     add-i
     loop-less
     loop-again
+    returns
     returns-2)

@@ -1,30 +1,114 @@
--- `put_decimal`: as many digits as the number has, at most 20.
-use mathlib.Core.Path.{ap}
-use Prim.Native.Nat.{ℕ}
+-- `put_decimal`: the loop keeps the digits behind place i written. Where one is left at its end, the first digit is written too.
+use mathlib.Core.Path.{_≡_, refl, ap}
+use mathlib.Core.List.{List}
+use mathlib.Core.Logic.{⊎-elim}
+use Prim.Native.Nat.{ℕ, _+_, _-_, _/_, _%_, _≤_}
 use native.Mathlib.Omega.{arith}
 use borrow.Author.Needs.{needs}
-use Rattle.script.specs.Numbers.{digitsOf, digitCount}
-use Rattle.script.proofs.Digits.{count-most}
+use lib.ListN.{length, set}
+use Rattle.script.specs.Numbers.{digitsOf, decimal}
+use Rattle.script.specs.Writing.{Written}
+use Rattle.script.proofs.Digits.{count-most, digit-below-ten}
+use Rattle.script.proofs.Trailing.{Trailing, none-yet, wide, one-more, two-more, all-written}
 use Rattle.script.proofs.Writing.{keeps, reads}
 use Rattle.script.proofs.print.put_decimal.Statement.{statement}
 use Rattle.script.proofs.print.put_decimal.Tie as tie
 
-digit-count-requires : tie.Need-digit-count-requires
+abbrev Inv-loop : tie.InvT-loop
+Inv-loop out₀ at v n left₀ i₀ out left i = Trailing 10 out₀ at n v out left i
+
+abbrev μ-loop : tie.MeasureT-loop
+μ-loop out₀ at v n left₀ i₀ out left i = i
+
+digit-count-requires : tie.Need-digit-count-requires Inv-loop μ-loop
 digit-count-requires c κs = search needs
 
-put-digits-requires : tie.Need-put-digits-requires
-put-digits-requires c κs =
-    let v = c .before .before .before .args .v in
-    (omega (arith, c .digit-count .ensures, count-most 19 v), omega arith, omega arith)
+loop-holds : tie.Need-loop-holds Inv-loop μ-loop
+loop-holds c =
+    let a = c .before .before .args in
+    none-yet 10 (a .out .now) (a .at) (c .digit-count .result) (a .v)
 
-same-length : tie.Need-same-length
-same-length c = keeps (c .before .before .put-digits .ensures)
+-- the digits fit
+room : (c : tie.After-digit-count Inv-loop μ-loop)
+    → let a = c .before .before .args in a .at + c .digit-count .result ≤ length (a .out .now)
+room c = omega (arith, c .digit-count .ensures, count-most 19 (c .before .before .args .v))
 
-returns : tie.Need-returns
+sub-i : tie.Need-sub-i Inv-loop μ-loop
+sub-i c = search needs
+
+add-put-two : tie.Need-add-put-two Inv-loop μ-loop
+add-put-two c = omega (arith, room (c .before .before .before))
+
+put-two-requires : tie.Need-put-two-requires Inv-loop μ-loop
+put-two-requires c κs =
+    let at = c .before .before in
+    rw (wide (room (at .before)) (at .loop .inv)) (omega (arith, room (at .before)))
+
+loop-less : tie.Need-loop-less Inv-loop μ-loop
+loop-less c = search needs
+
+loop-again : tie.Need-loop-again Inv-loop μ-loop
+loop-again c =
+    let at = c .before .before .before .before .before in
+    two-more (at .loop .i - 2) (room (at .before)) (omega arith) (c .before .before .put-two .ensures) (at .loop .inv)
+
+cast-out : tie.Need-cast-out Inv-loop μ-loop
+cast-out c = search needs
+
+add-out : tie.Need-add-out Inv-loop μ-loop
+add-out c = search needs
+
+slice-write-out : tie.Need-slice-write-out Inv-loop μ-loop
+slice-write-out c =
+    let at = c .before .before in
+    rw (wide (room (at .before)) (at .loop .inv)) (omega (arith, room (at .before)))
+
+add-result : tie.Need-add-result Inv-loop μ-loop
+add-result c = omega (arith, room (c .before .before .before))
+
+-- where one digit is left, it is written
+alone : {before out after : List ℕ} {at n v left i : ℕ} → at + n ≤ length before → i ≡ 1 → after ≡ set out at (48 + left % 10)
+    → Trailing 10 before at n v out left i → Trailing 10 before at n v after (left / 10) 0
+alone {at} {left} fits e is t =
+    let here : at + 0 ≡ at = omega arith in
+    one-more fits 0 e (rw (here, ← digit-below-ten (left % 10) (omega arith)) is) t
+
+all-digits : (c : tie.Joined1 Inv-loop μ-loop)
+    → let start = c .before .before .before in
+    let a = start .before .before .args in
+    let n = start .digit-count .result in
+    Written (digitsOf 10 n (a .v)) (a .out .now) (a .at) (a .at + n) (c .if1 .out)
+all-digits c =
+    let at = c .before .before in
+    let fits = room (at .before) in
+    ⊎-elim (λ w. all-written fits refl refl (alone fits (omega arith) (w .1) (at .loop .inv)))
+    (λ w. all-written fits (omega arith) (w .1) (at .loop .inv)) (c .if1 .came)
+
+same-length : tie.Need-same-length Inv-loop μ-loop
+same-length c = keeps (all-digits c)
+
+returns : tie.Need-returns Inv-loop μ-loop
 returns c =
-    let v = c .before .before .before .before .before .before .args .v in
-    reads (c .before .before .put-digits .ensures) (digitsOf 10 (digitCount 19 v) v)
-    (ap (λ (n : ℕ). digitsOf 10 n v) (c .before .before .before .digit-count .ensures))
+    let start = c .before .before .before in
+    let v = start .before .before .args .v in
+    reads (all-digits c) (decimal v) (ap (λ (n : ℕ). digitsOf 10 n v) (start .digit-count .ensures))
 
 pub put-decimal-spec : {M : Type 1} → statement M
-put-decimal-spec = tie.close (tie.spec digit-count-requires put-digits-requires same-length returns)
+put-decimal-spec =
+    tie.close
+    (tie.spec
+    Inv-loop
+    μ-loop
+    digit-count-requires
+    loop-holds
+    sub-i
+    add-put-two
+    put-two-requires
+    loop-less
+    loop-again
+    cast-out
+    add-out
+    slice-write-out
+    add-result
+    same-length
+    returns)

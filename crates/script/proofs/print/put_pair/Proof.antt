@@ -64,7 +64,7 @@ put-digits-requires c κs =
     let given = number .before .before .before .pre in
     let free =
     room (two both) 42 11 (two-short (number .counter-of .result .0) (both .before .client-of .result)) (omega (arith, given)) in
-    (room (blank .put-text .ensures) 1 10 (omega arith) free, omega arith, omega arith)
+    room (blank .put-text .ensures) 1 10 (omega arith) free
 
 -- the text by the pair's parts
 named : (p : Pair) (w : WriteCounter) (d : ℕ) (e : Entry) → w ≡ counter p → d ≡ client p → e ≡ entry p

@@ -13,6 +13,8 @@ use Rattle.refusal.specs.declared.Refusal.the-variants.{FullChannel}
 use Rattle.refusal.specs.declared.Refusal.{Refusal}
 use Rattle.channel.specs.Memory.{countAt}
 use Rattle.server.specs.State.{contains}
+use Rattle.server.specs.declared.Server.{Server}
+use Rattle.state.specs.declared.Session.{Session}
 use Rattle.steps.specs.Checks.{refusalIn, lieChecks}
 use Rattle.steps.specs.Inner as inner
 use Rattle.steps.specs.Inner.{After, unless, lieStep}
@@ -24,9 +26,8 @@ use Rattle.steps.proofs.inner.lie.Statement.{statement}
 use Rattle.steps.proofs.inner.lie.Tie as tie
 
 -- what the step gives, and the check that remains
-abbrev lied : (c : tie.Start) → List ℕ → After
-lied c l =
-    let a = c .args in inner.lied (a .t) (a .stopped) (a .v) (a .c) (a .b .now) l (a .k) (a .d) (a .w)
+abbrev lied : (c : tie.Start) → Server → Session → List ℕ → After
+lied c v x l = let a = c .args in inner.lied (a .t) (a .stopped) v x (a .b .now) l (a .k) (a .d) (a .w)
 
 abbrev rest : (c : tie.Start) → List Rung
 rest c =
@@ -50,9 +51,6 @@ lie-check-requires c κs = search needs
 enum-known-n : tie.Need-enum-known-n
 enum-known-n c = search needs
 
-refused-requires : tie.Need-refused-requires
-refused-requires c κs = search needs
-
 enum-told : tie.Need-enum-told
 enum-told c = search needs
 
@@ -68,20 +66,20 @@ lie-with-requires c κs =
 returns : tie.Need-returns
 unfolding lieStep
 returns c =
-    let at-lie-check = c .before .before .before .before in
+    let at-lie-check = c .before .before .before in
     let s = at-lie-check .before in
     let a = s .args in
-    λ l. stays (a .stopped) (a .v) (a .c) (a .b .now) l (lied s l) _ _ _ (c .refused .ensures)
+    λ v x l. stays (a .stopped) v x (a .b .now) l (lied s v x l) _ _
     (lowest-some (checked s) (rest s) _
-    (sym (ap refusalIn (c .before .before .n .given .1)) ∙ at-lie-check .lie-check .ensures))
+    (sym (ap refusalIn (c .before .n .given .1)) ∙ at-lie-check .lie-check .ensures))
 
 returns-2 : tie.Need-returns-2
 unfolding lieStep
 returns-2 c =
     let s = c .before .before .before .before .before in
     let a = s .args in
-    λ l. c .lie-with .ensures l
-    ∙ ap (λ (o : Option Refusal). unless o (a .stopped) (a .v) (a .c) (a .b .now) l (lied s l))
+    λ v x l. c .lie-with .ensures (a .t) v x l
+    ∙ ap (λ (o : Option Refusal). unless o (a .stopped) v x (a .b .now) l (lied s v x l))
     (lowest-next (checked s) (rest s) _ refl (told (c .before .before)))
 
 pub lie-spec : {M : Type 1} → statement M
@@ -90,7 +88,6 @@ lie-spec =
     (tie.spec
     lie-check-requires
     enum-known-n
-    refused-requires
     enum-told
     lie-with-requires
     returns

@@ -11,6 +11,9 @@ use Rattle.refusal.specs.declared.Refusal.the-variants.{FullChannel}
 use Rattle.channel.specs.Memory.{countAt}
 use Rattle.register.specs.declared.Answer.the-variants.{Went}
 use Rattle.server.specs.State.{contains}
+use Rattle.server.specs.declared.Server.{Server}
+use Rattle.state.specs.declared.Session.{Session}
+use Rattle.state.specs.declared.Settings.{Settings}
 use Rattle.steps.specs.Inner as inner
 use Rattle.steps.specs.Inner.{After, after}
 use Rattle.state.specs.State.{downIndex}
@@ -27,15 +30,14 @@ rungs c =
     not (contains (a .stopped) (a .d) || leb (countAt (a .b .now) (downIndex (a .d - 1) (a .k - 1)) + 1) 8) ∷ []
 
 -- what the step gives
-abbrev lied : (c : tie.Start) → List ℕ → After
-lied c l =
-    let a = c .args in inner.lied (a .t) (a .stopped) (a .v) (a .c) (a .b .now) l (a .k) (a .d) (a .w)
+abbrev lied : (c : tie.Start) → Settings → Server → Session → List ℕ → After
+lied c t v x l = let a = c .args in inner.lied t (a .stopped) v x (a .b .now) l (a .k) (a .d) (a .w)
 
 has-requires : tie.Need-has-requires
 has-requires c κs = search needs
 
 returns : tie.Need-returns
-returns c = λ l. rw (is-of (c .before .has .ensures) (c .if1 .taken))
+returns c = λ t v x l. rw (is-of (c .before .has .ensures) (c .if1 .taken))
 
 sub-down : tie.Need-sub-down
 sub-down c = search needs
@@ -55,21 +57,18 @@ down-requires c κs = search needs
 has-room-requires : tie.Need-has-room-requires
 has-room-requires c κs = search needs
 
-refused-requires : tie.Need-refused-requires
-refused-requires c κs = search needs
-
 returns-2 : tie.Need-returns-2
 returns-2 c =
-    let at-down = c .before .before .before .before in
+    let at-down = c .before .before .before in
     let at-if1 = at-down .before in
     let at-has = at-if1 .before in
     let s = at-has .before in
     let a = s .args in
-    λ l. stays (a .stopped) (a .v) (a .c) (a .b .now) l (lied s l) _ _ _ (c .refused .ensures)
+    λ t v x l. stays (a .stopped) v x (a .b .now) l (lied s t v x l) _ _
     (climbs (rungs s) _ (stop (no-room _ _ (is-of (at-has .has .ensures) (at-if1 .if1 .left))
-    (is-of (c .before .before .has-room .ensures ∙ ap (λ (n : ℕ). leb (countAt (a .b .now) n + 1) 8)
+    (is-of (c .before .has-room .ensures ∙ ap (λ (n : ℕ). leb (countAt (a .b .now) n + 1) 8)
     (at-down .down .ensures))
-    (not-true _ (c .before .if2 .taken))))))
+    (not-true _ (c .if2 .taken))))))
 
 put-requires : tie.Need-put-requires
 put-requires c κs = search needs
@@ -82,10 +81,10 @@ returns-3 c =
     let s = at-has .before in
     let a = s .args in
     let works-there = is-of (at-has .has .ensures) (at-if1 .if1 .left) in
-    λ l. ap (λ (y : List ℕ). after Went (a .stopped) (a .v) (a .c) y l)
+    λ t v x l. ap (λ (y : List ℕ). after Went (a .stopped) v x y l)
     (put-lie (a .stopped) (a .d) (a .b .now) _ _ _ (a .w) works-there (at-down .down .ensures) (s .pre .4)
     (c .put .ensures))
-    ∙ works (a .stopped) (a .v) (a .c) (a .b .now) l (lied s l) _
+    ∙ works (a .stopped) v x (a .b .now) l (lied s t v x l) _
     (climbs (rungs s) _ (next (room _ _ works-there
     (is-of (c .before .before .before .has-room .ensures ∙ ap (λ (n : ℕ). leb (countAt (a .b .now) n + 1) 8)
     (at-down .down .ensures))
@@ -103,7 +102,6 @@ lie-with-spec =
     cast-down-2
     down-requires
     has-room-requires
-    refused-requires
     returns-2
     put-requires
     returns-3)

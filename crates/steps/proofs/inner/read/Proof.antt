@@ -9,6 +9,7 @@ use borrow.Author.Tests.{not-false}
 use Rattle.refusal.specs.Ladder.{Rung, lowest}
 use Rattle.refusal.specs.declared.Refusal.{Refusal}
 use Rattle.register.specs.declared.Phase.the-variants.{Reading}
+use Rattle.server.specs.declared.Server.{Server}
 use Rattle.steps.specs.Checks.{refusalIn, startChecks, beginChecks}
 use Rattle.steps.specs.Inner.{After, begun, unless, readStep}
 use Rattle.steps.proofs.Named.{client-within}
@@ -17,8 +18,8 @@ use Rattle.steps.proofs.inner.read.Statement.{statement}
 use Rattle.steps.proofs.inner.read.Tie as tie
 
 -- what a start gives
-abbrev started : (c : tie.Start) → List ℕ → After
-started c l = begun (c .args .t) (c .args .stopped) (c .args .v) (c .args .c) (c .args .b .now) l (c .args .d) Reading
+abbrev started : (c : tie.Start) → Server → List ℕ → After
+started c v l = let a = c .args in begun (a .t) (a .stopped) v (a .c) (a .b .now) l (a .d) Reading
 
 -- the first checks, and that they are passed
 abbrev checked : (c : tie.Start) → List Rung
@@ -36,9 +37,6 @@ start-check-requires c κs = search needs
 enum-known-n : tie.Need-enum-known-n
 enum-known-n c = search needs
 
-refused-requires : tie.Need-refused-requires
-refused-requires c κs = search needs
-
 enum-told : tie.Need-enum-told
 enum-told c = search needs
 
@@ -51,20 +49,20 @@ begin-requires c κs =
 returns : tie.Need-returns
 unfolding readStep
 returns c =
-    let at-start-check = c .before .before .before .before in
+    let at-start-check = c .before .before .before in
     let s = at-start-check .before in
     let a = s .args in
-    λ l. stays (a .stopped) (a .v) (a .c) (a .b .now) l (started s l) _ _ _ (c .refused .ensures)
+    λ v l. stays (a .stopped) v (a .c) (a .b .now) l (started s v l) _ _
     (lowest-some (checked s) (beginChecks (a .t) (a .c) (a .b .now) (a .d) 2) _
-    (sym (ap refusalIn (c .before .before .n .given .1)) ∙ at-start-check .start-check .ensures))
+    (sym (ap refusalIn (c .before .n .given .1)) ∙ at-start-check .start-check .ensures))
 
 returns-2 : tie.Need-returns-2
 unfolding readStep
 returns-2 c =
     let s = c .before .before .before .before .before in
     let a = s .args in
-    λ l. c .begin .ensures l
-    ∙ ap (λ (o : Option Refusal). unless o (a .stopped) (a .v) (a .c) (a .b .now) l (started s l))
+    λ v l. c .begin .ensures (a .stopped) v l
+    ∙ ap (λ (o : Option Refusal). unless o (a .stopped) v (a .c) (a .b .now) l (started s v l))
     (lowest-next (checked s) (beginChecks (a .t) (a .c) (a .b .now) (a .d) 2) _ refl
     (told (c .before .before)))
 
@@ -74,7 +72,6 @@ read-spec =
     (tie.spec
     start-check-requires
     enum-known-n
-    refused-requires
     enum-told
     begin-requires
     returns

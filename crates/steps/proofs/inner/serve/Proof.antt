@@ -10,6 +10,7 @@ use borrow.Author.Tests.{not-false}
 use Rattle.refusal.specs.Ladder.{Rung, _when_, lowest}
 use Rattle.refusal.specs.declared.Refusal.the-variants.{FullChannel}
 use Rattle.refusal.specs.declared.Refusal.{Refusal}
+use Rattle.state.specs.declared.Session.{Session}
 use Rattle.steps.specs.Checks.{refusalIn, serveChecks}
 use Rattle.steps.specs.Inner as inner
 use Rattle.steps.specs.Inner.{After, unless, roomDown, replied, serveStep}
@@ -19,16 +20,15 @@ use Rattle.steps.proofs.inner.serve.Statement.{statement}
 use Rattle.steps.proofs.inner.serve.Tie as tie
 
 -- what the step gives, and the check that remains
-abbrev served : (c : tie.Start) → List ℕ → After
-served c l =
-    let a = c .args in inner.served (a .t) (a .stopped) (a .v) (a .c) (a .b .now) l (a .k) (a .d)
+abbrev served : (c : tie.Start) → Session → List ℕ → After
+served c x l = let a = c .args in inner.served (a .t) (a .stopped) (a .v) x (a .b .now) l (a .k) (a .d)
 
-abbrev rest : (c : tie.Start) → List ℕ → List Rung
-rest c l =
+abbrev rest : (c : tie.Start) → Session → List ℕ → List Rung
+rest c x l =
     let a = c .args in
     FullChannel when
     not (roomDown (a .t) (a .stopped) (a .b .now) (a .k - 1)
-    (replied (a .t) (a .stopped) (a .v) (a .c) (a .b .now) l (a .k) (a .d))) ∷ []
+    (replied (a .t) (a .stopped) (a .v) x (a .b .now) l (a .k) (a .d))) ∷ []
 
 -- the first checks, and that they are passed
 abbrev checked : (c : tie.Start) → List Rung
@@ -46,9 +46,6 @@ serve-check-requires c κs = search needs
 enum-known-n : tie.Need-enum-known-n
 enum-known-n c = search needs
 
-refused-requires : tie.Need-refused-requires
-refused-requires c κs = search needs
-
 enum-told : tie.Need-enum-told
 enum-told c = search needs
 
@@ -62,21 +59,21 @@ serve-oldest-requires c κs =
 returns : tie.Need-returns
 unfolding serveStep
 returns c =
-    let at-serve-check = c .before .before .before .before in
+    let at-serve-check = c .before .before .before in
     let s = at-serve-check .before .before in
     let a = s .args in
-    λ l. stays (a .stopped) (a .v) (a .c) (a .b .now) l (served s l) _ _ _ (c .refused .ensures)
-    (lowest-some (checked s) (rest s l) _
-    (sym (ap refusalIn (c .before .before .n .given .1)) ∙ at-serve-check .serve-check .ensures))
+    λ x l. stays (a .stopped) (a .v) x (a .b .now) l (served s x l) _ _
+    (lowest-some (checked s) (rest s x l) _
+    (sym (ap refusalIn (c .before .n .given .1)) ∙ at-serve-check .serve-check .ensures))
 
 returns-2 : tie.Need-returns-2
 unfolding serveStep
 returns-2 c =
     let s = c .before .before .before .before .before .before in
     let a = s .args in
-    λ l. c .serve-oldest .ensures l
-    ∙ ap (λ (o : Option Refusal). unless o (a .stopped) (a .v) (a .c) (a .b .now) l (served s l))
-    (lowest-next (checked s) (rest s l) _ refl (told (c .before .before)))
+    λ x l. c .serve-oldest .ensures x l
+    ∙ ap (λ (o : Option Refusal). unless o (a .stopped) (a .v) x (a .b .now) l (served s x l))
+    (lowest-next (checked s) (rest s x l) _ refl (told (c .before .before)))
 
 pub serve-spec : {M : Type 1} → statement M
 serve-spec =
@@ -84,7 +81,6 @@ serve-spec =
     (tie.spec
     serve-check-requires
     enum-known-n
-    refused-requires
     enum-told
     serve-oldest-requires
     returns

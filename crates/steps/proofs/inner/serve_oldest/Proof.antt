@@ -6,6 +6,7 @@ use mathlib.Core.Path.{_∙_}
 use borrow.Author.Needs.{needs}
 use Rattle.refusal.specs.Ladder.{Rung, _when_}
 use Rattle.refusal.specs.declared.Refusal.the-variants.{FullChannel}
+use Rattle.state.specs.declared.Session.{Session}
 use Rattle.steps.specs.Inner as inner
 use Rattle.steps.specs.Inner.{After, roomDown, replied}
 use Rattle.steps.proofs.Rungs.{end, stop, next, climbs, not-of, stays, works}
@@ -14,17 +15,16 @@ use Rattle.steps.proofs.inner.serve_oldest.Statement.{statement}
 use Rattle.steps.proofs.inner.serve_oldest.Tie as tie
 
 -- the last rung
-abbrev rungs : (c : tie.Start) → List ℕ → List Rung
-rungs c l =
+abbrev rungs : (c : tie.Start) → Session → List ℕ → List Rung
+rungs c x l =
     let a = c .args in
     FullChannel when
     not (roomDown (a .t) (a .stopped) (a .b .now) (a .k - 1)
-    (replied (a .t) (a .stopped) (a .v) (a .c) (a .b .now) l (a .k) (a .d))) ∷ []
+    (replied (a .t) (a .stopped) (a .v) x (a .b .now) l (a .k) (a .d))) ∷ []
 
 -- what the step gives
-abbrev served : (c : tie.Start) → List ℕ → After
-served c l =
-    let a = c .args in inner.served (a .t) (a .stopped) (a .v) (a .c) (a .b .now) l (a .k) (a .d)
+abbrev served : (c : tie.Start) → Session → List ℕ → After
+served c x l = let a = c .args in inner.served (a .t) (a .stopped) (a .v) x (a .b .now) l (a .k) (a .d)
 
 sub-i : tie.Need-sub-i
 sub-i c = search needs
@@ -56,21 +56,18 @@ cast-has-room-down c = search needs
 has-room-down-requires : tie.Need-has-room-down-requires
 has-room-down-requires c κs = search needs
 
-refused-requires : tie.Need-refused-requires
-refused-requires c κs = search needs
-
 returns : tie.Need-returns
 returns c =
-    let at-after = c .before .before .before .before .before in
+    let at-after = c .before .before .before .before in
     let at-oldest = at-after .before in
     let at-up = at-oldest .before .before in
     let s = at-up .before in
     let a = s .args in
-    λ l. stays (a .stopped) (a .v) (a .c) (a .b .now) l (served s l) _ _ _ (c .refused .ensures)
-    (climbs (rungs s l) _ (stop (not-of (c .before .before .has-room-down .ensures
+    λ x l. stays (a .stopped) (a .v) x (a .b .now) l (served s x l) _ _
+    (climbs (rungs s x l) _ (stop (not-of (c .before .has-room-down .ensures
     ∙ room-served (a .v) (a .b .now) (a .k) (a .d) _ _ _ (at-up .up .ensures) (at-oldest .oldest .ensures)
     (at-after .after .ensures) (a .t) (a .stopped))
-    (c .before .if1 .taken))))
+    (c .if1 .taken))))
 
 take-requires : tie.Need-take-requires
 take-requires c κs = search needs
@@ -87,11 +84,11 @@ returns-2 c =
     let at-up = at-oldest .before .before in
     let s = at-up .before in
     let a = s .args in
-    λ l. served-gives (a .v) (a .b .now) (a .k) (a .d) _ _ _ (at-up .up .ensures) (at-oldest .oldest .ensures)
-    (at-after .after .ensures) (a .stopped) (a .c) l _ _ (s .pre .2) (c .before .before .take .ensures)
+    λ x l. served-gives (a .v) (a .b .now) (a .k) (a .d) _ _ _ (at-up .up .ensures) (at-oldest .oldest .ensures)
+    (at-after .after .ensures) (a .stopped) x l _ _ (s .pre .2) (c .before .before .take .ensures)
     (c .reply .ensures)
-    ∙ works (a .stopped) (a .v) (a .c) (a .b .now) l (served s l) _
-    (climbs (rungs s l) _ (next (not-of (at-has-room-down .has-room-down .ensures
+    ∙ works (a .stopped) (a .v) x (a .b .now) l (served s x l) _
+    (climbs (rungs s x l) _ (next (not-of (at-has-room-down .has-room-down .ensures
     ∙ room-served (a .v) (a .b .now) (a .k) (a .d) _ _ _ (at-up .up .ensures) (at-oldest .oldest .ensures)
     (at-after .after .ensures) (a .t) (a .stopped))
     (at-if1 .if1 .left)) end))
@@ -110,7 +107,6 @@ serve-oldest-spec =
     after-requires
     cast-has-room-down
     has-room-down-requires
-    refused-requires
     returns
     take-requires
     reply-requires

@@ -7,6 +7,8 @@ use native.Mathlib.Omega.{arith}
 use borrow.Author.Needs.{needs}
 use borrow.Author.Tests.{not-false}
 use Rattle.refusal.specs.Ladder.{Rung, lowest}
+use Rattle.server.specs.declared.Server.{Server}
+use Rattle.state.specs.declared.Session.{Session}
 use Rattle.steps.specs.Checks.{refusalIn, stopChecks}
 use Rattle.steps.specs.Inner.{After, left, stopStep}
 use Rattle.steps.proofs.Named.{Within, client-within}
@@ -16,9 +18,8 @@ use Rattle.steps.proofs.inner.stop.Statement.{statement}
 use Rattle.steps.proofs.inner.stop.Tie as tie
 
 -- what the step gives
-abbrev gone : (c : tie.Start) → List ℕ → After
-gone c l =
-    let a = c .args in left (a .t) (a .stopped) (a .v) (a .c) (a .b .now) l (a .d)
+abbrev gone : (c : tie.Start) → Server → Session → List ℕ → After
+gone c v x l = let a = c .args in left (a .t) (a .stopped) v x (a .b .now) l (a .d)
 
 -- the first checks, and that they are passed
 abbrev checked : (c : tie.Start) → List Rung
@@ -42,9 +43,6 @@ stop-check-requires c κs = search needs
 enum-known-n : tie.Need-enum-known-n
 enum-known-n c = search needs
 
-refused-requires : tie.Need-refused-requires
-refused-requires c κs = search needs
-
 enum-told : tie.Need-enum-told
 enum-told c = search needs
 
@@ -66,19 +64,19 @@ with-stopped-requires c κs = omega (arith, within (c .before .before))
 returns : tie.Need-returns
 unfolding stopStep
 returns c =
-    let at-stop-check = c .before .before .before .before in
+    let at-stop-check = c .before .before .before in
     let s = at-stop-check .before in
     let a = s .args in
-    λ l. stays (a .stopped) (a .v) (a .c) (a .b .now) l (gone s l) _ _ _ (c .refused .ensures)
-    (sym (ap refusalIn (c .before .before .n .given .1)) ∙ at-stop-check .stop-check .ensures)
+    λ v x l. stays (a .stopped) v x (a .b .now) l (gone s v x l) _ _
+    (sym (ap refusalIn (c .before .n .given .1)) ∙ at-stop-check .stop-check .ensures)
 
 returns-2 : tie.Need-returns-2
 unfolding stopStep
 returns-2 c =
     let s = c .before .before .before .before .before .before in
     let a = s .args in
-    λ l. gives-same _ _ (a .v) (a .c) _ _ l (c .with-stopped .ensures) (c .before .empty-down .ensures)
-    ∙ works (a .stopped) (a .v) (a .c) (a .b .now) l (gone s l) _ (told (c .before .before .before))
+    λ v x l. gives-same _ _ v x _ _ l (c .with-stopped .ensures) (c .before .empty-down .ensures)
+    ∙ works (a .stopped) v x (a .b .now) l (gone s v x l) _ (told (c .before .before .before))
 
 pub stop-spec : {M : Type 1} → statement M
 stop-spec =
@@ -86,7 +84,6 @@ stop-spec =
     (tie.spec
     stop-check-requires
     enum-known-n
-    refused-requires
     enum-told
     sub-empty-down
     cast-empty-down

@@ -12,6 +12,7 @@ use Rattle.refusal.specs.Ladder.{Rung, _when_, lowest}
 use Rattle.refusal.specs.declared.Refusal.the-variants.{FullChannel}
 use Rattle.refusal.specs.declared.Refusal.{Refusal}
 use Rattle.register.specs.Settings.{isClient, isServer}
+use Rattle.server.specs.declared.Server.{Server}
 use Rattle.steps.specs.Checks.{refusalIn, takeChecks}
 use Rattle.steps.specs.Inner.{After, unless, roomUp, tookFrom, took, takeStep}
 use Rattle.state.specs.State.{settingsOf}
@@ -21,15 +22,15 @@ use Rattle.steps.proofs.inner.take.Statement.{statement}
 use Rattle.steps.proofs.inner.take.Tie as tie
 
 -- what the step gives, and the check that remains
-abbrev given : (c : tie.Start) → After
-given c = let a = c .args in took (a .t) (a .stopped) (a .v) (a .c) (a .b .now) (a .r .now) (a .d) (a .k)
+abbrev given : (c : tie.Start) → Server → After
+given c v = let a = c .args in took (a .t) (a .stopped) v (a .c) (a .b .now) (a .r .now) (a .d) (a .k)
 
-abbrev rest : (c : tie.Start) → List Rung
-rest c =
+abbrev rest : (c : tie.Start) → Server → List Rung
+rest c v =
     let a = c .args in
     FullChannel when
     not (roomUp (a .t) (a .b .now) (a .d - 1)
-    (length (tookFrom (a .t) (a .stopped) (a .v) (a .c) (a .b .now) (a .r .now) (a .d) (a .k) .sends))) ∷ []
+    (length (tookFrom (a .t) (a .stopped) v (a .c) (a .b .now) (a .r .now) (a .d) (a .k) .sends))) ∷ []
 
 -- the checks, and that they are passed
 abbrev checked : (c : tie.Start) → List Rung
@@ -49,9 +50,6 @@ take-check-requires c κs = search needs
 
 enum-known-n : tie.Need-enum-known-n
 enum-known-n c = search needs
-
-refused-requires : tie.Need-refused-requires
-refused-requires c κs = search needs
 
 enum-told : tie.Need-enum-told
 enum-told c = search needs
@@ -73,11 +71,11 @@ take-oldest-requires c κs =
 returns : tie.Need-returns
 unfolding takeStep
 returns c =
-    let at-take-check = c .before .before .before .before in
+    let at-take-check = c .before .before .before in
     let s = at-take-check .before .before .before in
     let a = s .args in
-    stays (a .stopped) (a .v) (a .c) (a .b .now) (a .r .now) (given s) _ _ _ (c .refused .ensures)
-    (lowest-some (checked s) (rest s) _ (sym (ap refusalIn (c .before .before .n .given .1))
+    λ v. stays (a .stopped) v (a .c) (a .b .now) (a .r .now) (given s v) _ _
+    (lowest-some (checked s) (rest s v) _ (sym (ap refusalIn (c .before .n .given .1))
     ∙ at-take-check .take-check .ensures))
 
 same-length : tie.Need-same-length
@@ -89,9 +87,9 @@ returns-2 c =
     let at-5 = c .before .before .before .before .before in
     let s = at-5 .before .before .before .before .before in
     let a = s .args in
-    c .before .before .take-oldest .ensures
-    ∙ ap (λ (o : Option Refusal). unless o (a .stopped) (a .v) (a .c) (a .b .now) (a .r .now) (given s))
-    (lowest-next (checked s) (rest s) _ refl (told at-5))
+    λ v. c .before .before .take-oldest .ensures (a .stopped) v
+    ∙ ap (λ (o : Option Refusal). unless o (a .stopped) v (a .c) (a .b .now) (a .r .now) (given s v))
+    (lowest-next (checked s) (rest s v) _ refl (told at-5))
 
 pub take-spec : {M : Type 1} → statement M
 take-spec =
@@ -99,7 +97,6 @@ take-spec =
     (tie.spec
     take-check-requires
     enum-known-n
-    refused-requires
     enum-told
     take-oldest-requires
     returns

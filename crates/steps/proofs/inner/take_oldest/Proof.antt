@@ -10,30 +10,38 @@ use Rattle.refusal.specs.Ladder.{Rung, _when_}
 use Rattle.refusal.specs.declared.Refusal.the-variants.{FullChannel}
 use Rattle.client.specs.Sound.{isSound}
 use Rattle.client.specs.declared.Client.{Client}
+use Rattle.server.specs.declared.Server.{Server}
+use Rattle.state.specs.declared.Session.{Session}
+use Rattle.steps.specs.declared.inner.ClientStep.{ClientStep}
 use Rattle.steps.specs.Inner.{After, roomUp, tookFrom, took}
+use Rattle.steps.specs.Kinds.{clientGave}
 use Rattle.steps.specs.Ready.{clientFor}
 use Rattle.state.specs.State.{repliesAt}
 use Rattle.steps.proofs.Receiving.{lent-part, room-taken, taken-gives}
-use Rattle.steps.proofs.Rungs.{end, stop, next, climbs, not-of, gave-same, stays, works}
+use Rattle.steps.proofs.Rungs.{end, stop, next, climbs, not-of, stays, works}
 use Rattle.steps.proofs.inner.take_oldest.Statement.{statement}
 use Rattle.steps.proofs.inner.take_oldest.Tie as tie
 
 -- what the step gives, and the check that remains
-abbrev given : (c : tie.Start) → After
-given c = let a = c .args in took (a .t) (a .stopped) (a .v) (a .c) (a .b .now) (a .r .now) (a .d) (a .k)
+abbrev given : (c : tie.Start) → ℕ → Server → After
+given c z v = let a = c .args in took (a .t) z v (a .c) (a .b .now) (a .r .now) (a .d) (a .k)
 
-abbrev rungs : (c : tie.Start) → List Rung
-rungs c =
+abbrev rungs : (c : tie.Start) → ℕ → Server → List Rung
+rungs c z v =
     let a = c .args in
     FullChannel when
     not (roomUp (a .t) (a .b .now) (a .d - 1)
-    (length (tookFrom (a .t) (a .stopped) (a .v) (a .c) (a .b .now) (a .r .now) (a .d) (a .k) .sends))) ∷ []
+    (length (tookFrom (a .t) z v (a .c) (a .b .now) (a .r .now) (a .d) (a .k) .sends))) ∷ []
 
 -- the client and its part of the replies are sound
 sound-in : (c : tie.Start) (x : Client) (l : List ℕ) → x ≡ clientFor (c .args .t) (c .args .c) (c .args .d)
     → l ≡ repliesAt (c .args .r .now) (c .args .d - 1) → isSound x l ≡ true
 sound-in c x l e f =
     ap (λ (y : Client). isSound y l) e ∙ ap (isSound (clientFor (c .args .t) (c .args .c) (c .args .d))) f ∙ c .pre .2
+
+gave-same : (x y : ClientStep) (z : ℕ) (v : Server) (c : Session) (b r : List ℕ) → x ≡ y
+    → clientGave x z v c b r ≡ clientGave y z v c b r
+gave-same x y z v c b r e = ap (λ (w : ClientStep). clientGave w z v c b r) e
 
 sub-i : tie.Need-sub-i
 sub-i c = search needs
@@ -91,25 +99,22 @@ has-room-for-requires c κs =
       s .pre .6,
     )
 
-refused-requires : tie.Need-refused-requires
-refused-requires c κs = search needs
-
 same-length : tie.Need-same-length
 same-length c = search needs
 
 returns : tie.Need-returns
 returns c =
-    let at-client-in = c .before .before .before .before .before .before in
+    let at-client-in = c .before .before .before .before .before in
     let at-oldest = at-client-in .before in
     let at-down = at-oldest .before .before in
     let s = at-down .before .before in
     let a = s .args in
-    stays (a .stopped) (a .v) (a .c) (a .b .now) (a .r .now) (given s) _ _ _ (c .refused .ensures)
-    (climbs (rungs s) _ (stop (not-of (c .before .before .has-room-for .ensures
-    ∙ room-taken (a .t) (a .stopped) (a .v) (a .c) (a .b .now) (a .r .now) (a .d) (a .k) _ _
+    λ z v. stays z v (a .c) (a .b .now) (a .r .now) (given s z v) _ _
+    (climbs (rungs s z v) _ (stop (not-of (c .before .has-room-for .ensures
+    ∙ room-taken (a .t) z v (a .c) (a .b .now) (a .r .now) (a .d) (a .k) _ _
     (at-down .down .ensures) (at-oldest .oldest .ensures) _ _ (at-client-in .client-in .ensures) (lent-part
     (a .r .now) (a .d - 1)))
-    (c .before .if1 .taken))))
+    (c .if1 .taken))))
 
 cast-take-in : tie.Need-cast-take-in
 cast-take-in c = search needs
@@ -139,8 +144,8 @@ send-up-requires c κs =
     let s = half .before .before .before .before .before .before .before .before .before in
     omega (arith, s .pre .0, s .pre .3, s .pre .4)
 
-change-of-requires : tie.Need-change-of-requires
-change-of-requires c κs = search needs
+done-requires : tie.Need-done-requires
+done-requires c κs = search needs
 
 same-length-2 : tie.Need-same-length-2
 same-length-2 c = search needs
@@ -155,14 +160,14 @@ returns-2 c =
     let at-down = at-oldest .before .before in
     let s = at-down .before .before in
     let a = s .args in
-    gave-same _ _ _ _ (c .change-of .ensures)
-    ∙ taken-gives (a .t) (a .stopped) (a .v) (a .c) (a .b .now) (a .r .now) (a .d) (a .k) _ _
+    λ z v. gave-same _ _ z v (a .c) _ _ (c .done .ensures)
+    ∙ taken-gives (a .t) z v (a .c) (a .b .now) (a .r .now) (a .d) (a .k) _ _
     (at-down .down .ensures) (at-oldest .oldest .ensures) _ _ _ _ _
     (at-client-in .client-in .ensures) (at-take-in .take-in .ensures) (c .before .before .before .take .ensures)
     (c .before .send-up .ensures)
-    ∙ works (a .stopped) (a .v) (a .c) (a .b .now) (a .r .now) (given s) _
-    (climbs (rungs s) _ (next (not-of (at-has-room-for .has-room-for .ensures
-    ∙ room-taken (a .t) (a .stopped) (a .v) (a .c) (a .b .now) (a .r .now) (a .d) (a .k) _ _
+    ∙ works z v (a .c) (a .b .now) (a .r .now) (given s z v) _
+    (climbs (rungs s z v) _ (next (not-of (at-has-room-for .has-room-for .ensures
+    ∙ room-taken (a .t) z v (a .c) (a .b .now) (a .r .now) (a .d) (a .k) _ _
     (at-down .down .ensures) (at-oldest .oldest .ensures) _ _ (at-client-in .client-in .ensures) (lent-part
     (a .r .now) (a .d - 1)))
     (at-if1 .if1 .left)) end))
@@ -187,13 +192,12 @@ take-oldest-spec =
     part-has-room-for-start
     part-has-room-for-end
     has-room-for-requires
-    refused-requires
     same-length
     returns
     cast-take-in
     take-in-requires
     take-requires
     send-up-requires
-    change-of-requires
+    done-requires
     same-length-2
     returns-2)

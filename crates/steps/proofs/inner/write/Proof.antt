@@ -12,6 +12,7 @@ use Rattle.refusal.specs.declared.Refusal.the-variants.{NoEntry}
 use Rattle.refusal.specs.declared.Refusal.{Refusal}
 use Rattle.licence.specs.Entry.{isLicence}
 use Rattle.register.specs.declared.Phase.the-variants.{ReadingForWrite}
+use Rattle.server.specs.declared.Server.{Server}
 use Rattle.steps.specs.Checks.{refusalIn, startChecks, beginChecks}
 use Rattle.steps.specs.Inner.{After, begun, unless, writeStep}
 use Rattle.steps.proofs.Named.{client-within}
@@ -20,9 +21,8 @@ use Rattle.steps.proofs.inner.write.Statement.{statement}
 use Rattle.steps.proofs.inner.write.Tie as tie
 
 -- what a start gives, and the checks that remain
-abbrev started : (c : tie.Start) → List ℕ → After
-started c l =
-    let a = c .args in begun (a .t) (a .stopped) (a .v) (a .c) (a .b .now) l (a .d) (ReadingForWrite (a .e))
+abbrev started : (c : tie.Start) → Server → List ℕ → After
+started c v l = let a = c .args in begun (a .t) (a .stopped) v (a .c) (a .b .now) l (a .d) (ReadingForWrite (a .e))
 
 abbrev entry-rung : (c : tie.Start) → Rung
 entry-rung c = NoEntry when not (isLicence (c .args .e .0))
@@ -49,27 +49,20 @@ start-check-requires c κs = search needs
 enum-known-n : tie.Need-enum-known-n
 enum-known-n c = search needs
 
-refused-requires : tie.Need-refused-requires
-refused-requires c κs = search needs
-
 enum-told : tie.Need-enum-told
 enum-told c = search needs
 
 is-licence-requires : tie.Need-is-licence-requires
 is-licence-requires c κs = search needs
 
-refused-requires-2 : tie.Need-refused-requires-2
-refused-requires-2 c κs = search needs
-
 returns : tie.Need-returns
 unfolding writeStep
 returns c =
-    let s = c .before .before .before .before .before .before in
+    let s = c .before .before .before .before .before in
     let a = s .args in
-    λ l. stays (a .stopped) (a .v) (a .c) (a .b .now) l (started s l) _ _ _ (c .refused2 .ensures)
+    λ v l. stays (a .stopped) v (a .c) (a .b .now) l (started s v l) _ _
     (lowest-next (checked s) (rest s) _
-    (climbs (rest s) _ (stop (not-of (c .before .before .is-licence .ensures) (c .before .if1 .taken)))) (told
-    (c .before .before .before)))
+    (climbs (rest s) _ (stop (not-of (c .before .is-licence .ensures) (c .if1 .taken)))) (told (c .before .before)))
 
 begin-requires : tie.Need-begin-requires
 begin-requires c κs =
@@ -80,12 +73,12 @@ begin-requires c κs =
 returns-2 : tie.Need-returns-2
 unfolding writeStep
 returns-2 c =
-    let at-start-check = c .before .before .before .before in
+    let at-start-check = c .before .before .before in
     let s = at-start-check .before in
     let a = s .args in
-    λ l. stays (a .stopped) (a .v) (a .c) (a .b .now) l (started s l) _ _ _ (c .refused .ensures)
+    λ v l. stays (a .stopped) v (a .c) (a .b .now) l (started s v l) _ _
     (lowest-some (checked s) (rest s) _
-    (sym (ap refusalIn (c .before .before .n .given .1)) ∙ at-start-check .start-check .ensures))
+    (sym (ap refusalIn (c .before .n .given .1)) ∙ at-start-check .start-check .ensures))
 
 returns-3 : tie.Need-returns-3
 unfolding writeStep
@@ -93,8 +86,8 @@ returns-3 c =
     let at-4 = c .before .before .before .before in
     let s = at-4 .before .before .before in
     let a = s .args in
-    λ l. c .begin .ensures l
-    ∙ ap (λ (o : Option Refusal). unless o (a .stopped) (a .v) (a .c) (a .b .now) l (started s l))
+    λ v l. c .begin .ensures (a .stopped) v l
+    ∙ ap (λ (o : Option Refusal). unless o (a .stopped) v (a .c) (a .b .now) l (started s v l))
     (lowest-next (checked s) (rest s) _
     (one-passed (entry-rung s) (last s) (not-of (c .before .before .before .is-licence .ensures)
     (c .before .before .if1 .left))) (told at-4))
@@ -105,10 +98,8 @@ write-spec =
     (tie.spec
     start-check-requires
     enum-known-n
-    refused-requires
     enum-told
     is-licence-requires
-    refused-requires-2
     returns
     begin-requires
     returns-2

@@ -1,0 +1,82 @@
+-- A line that is a letter, a blank, a number, a blank and more: K, D or L.
+--
+-- Why: behind the letter and the blank, and behind the number and its blank, the line goes on as from there (`Rest`). So it ends
+-- where its rest does, and its letter says what the number and the rest mean.
+-- Assumes nothing.
+use mathlib.Core.Path.{_≡_, refl, ap, _∙_}
+use mathlib.Core.Bool.{false}
+use mathlib.Core.List.{List, _∷_}
+use Prim.Native.Nat.{ℕ, _+_, _-_, _≤_}
+use native.Mathlib.Omega.{arith}
+use lib.Dec.{eqb}
+use lib.ListN.{length, getD, drop}
+use borrow.Author.Tests.{le-leb}
+use Rattle.register.specs.declared.Step.the-variants.{K, D}
+use Rattle.script.specs.declared.next.Quick.{Quick}
+use Rattle.script.specs.declared.parse.Line.{Line}
+use Rattle.script.specs.declared.parse.Line.the-variants.{Take}
+use Rattle.script.specs.Lines.{upTo, part, lineEnd}
+use Rattle.script.specs.Grammar.{clientAfter, serverAfter, lieAfter, argumentsOf, lineOf}
+use Rattle.script.specs.Next.{foundAt, restAt, Short, IsLie, IsQuick}
+use Rattle.script.proofs.Found.{line-is}
+use Rattle.script.proofs.Rest.{then-number, then-ends, last-number, last-ends, last-few}
+use Rattle.script.proofs.Short.{one-byte}
+
+module _
+    (s : List ℕ)
+    (at x next : ℕ)
+    (room : at + 8 ≤ length s)
+    (blank : getD s (at + 1) 0 ≡ 32)
+    (first : Short s (at + 2) 32 x next)
+  where
+    abbrev letter : ℕ
+    letter = getD s at 0
+
+    -- what stands behind the letter and the blank
+    abbrev rest : List ℕ
+    rest = restAt s (at + 2)
+
+    line : eqb letter 10 ≡ false → restAt s at ≡ letter ∷ 32 ∷ rest
+    unfolding upTo
+    line differs =
+        let two : at + 1 + 1 ≡ at + 2 = omega arith in
+        let text : drop at s ≡ letter ∷ 32 ∷ drop (at + 2) s =
+        one-byte s at (omega arith)
+        ∙ ap (λ (l : List ℕ). letter ∷ l) (one-byte s (at + 1) (omega arith))
+        ∙ ap (λ (n : ℕ). letter ∷ n ∷ drop (at + 1 + 1) s) blank
+        ∙ ap (λ (n : ℕ). letter ∷ 32 ∷ drop n s) two in
+        rw (text, differs) refl
+
+    found : eqb letter 10 ≡ false → (end : ℕ) (l : Line) → lineEnd s next ≡ end → end ≤ next + 25 → argumentsOf letter rest ≡ l
+        → foundAt s at ≡ record { end = end; line = l }
+    unfolding lineOf
+    found differs end l e few is =
+        let long : length (restAt s at) ≡ 2 + length rest = ap length (line differs) ∙ omega arith in
+        let same = then-ends first in
+        let back = first .behind in
+        let short = first .few in
+        let ends : lineEnd s at ≡ end = omega arith in
+        let whole : List ℕ = letter ∷ 32 ∷ rest in
+        let says : lineOf (part s at (lineEnd s at)) ≡ l =
+        ap lineOf (line-is s at ∙ line differs)
+        ∙ rw (le-leb 3 (length whole) (omega arith), le-leb (length whole) 64 (omega arith)) is in
+        λ i. record { end = ends i; line = says i }
+
+    module _ (y last : ℕ) (second : Short s next 10 y last) where
+      pub found-k : letter ≡ 75 → foundAt s at ≡ record { end = last - 1; line = Take (K x y) }
+      unfolding argumentsOf
+      found-k e =
+          found (rw e refl) (last - 1) (Take (K x y)) (last-ends second) (omega (arith, last-few second))
+          (rw e (then-number first clientAfter ∙ rw (last-number second) refl))
+
+      pub found-d : letter ≡ 68 → foundAt s at ≡ record { end = last - 1; line = Take (D x y) }
+      unfolding argumentsOf
+      found-d e =
+          found (rw e refl) (last - 1) (Take (D x y)) (last-ends second) (omega (arith, last-few second))
+          (rw e (then-number first serverAfter ∙ rw (last-number second) refl))
+
+    pub found-l : letter ≡ 76 → (r : Quick) → IsLie r s x next → IsQuick r s at
+    unfolding argumentsOf
+    found-l e (Quick.Is y end) h =
+        found (rw e refl) end (Take y) (h .ends) (h .few) (rw e (then-number first lieAfter ∙ h .says))
+    found-l e Quick.No h = tt
