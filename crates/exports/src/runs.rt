@@ -7,6 +7,7 @@ ghost use Rattle.state.specs.Sound.{areAllowed};
 ghost use Rattle.system.specs.Setup.{setupOf};
 ghost use Rattle.exports.specs.Runs.{setupNumber, answersBy, answersOf};
 use basics::least;
+use register::Answer;
 use state::Settings;
 use system::run::run;
 use system::run::step_in;
@@ -14,6 +15,7 @@ use system::run::write_answer;
 use system::setup::Setup;
 use system::setup::set_up;
 use system::setup::settings_of;
+use system::step::Stepped;
 use system::step::step;
 
 // The numbers of a step, and of an answer.
@@ -38,15 +40,20 @@ fn step_through(t: Settings, steps: &[u64], n: usize, out: &mut [u64])
 {
     let mut b = channel::empty_slots();
     let mut r = [0u64; 546];
-    let mut s = set_up(t, &mut b, &mut r);
+    let first = set_up(t, &mut b, &mut r);
+    // What the step before gave, of which only the state is read; before the first step it is the state at setup.
+    let mut last = Stepped {
+        answer: Answer::Went,
+        system: first,
+    };
     let mut i = 0;
     while i < n {
         let x = step_in(steps, i);
+        let s = last.system;
         let z = step(s, x, &mut b, &mut r);
         let a = z.answer;
         write_answer(out, i, a);
-        let u = z.system;
-        s = u;
+        last = z;
         i += 1;
     }
 }

@@ -1,10 +1,8 @@
 -- Awaiting: for a working client that stores, each honest server has its WRITE_INFO still to take, or its
 -- acknowledgement is on its way, or is counted.
 --
--- Why: the write puts WRITE_INFO on every channel to an honest server, where nothing is lost; the server that
--- takes
--- it sends WRITE_ACK with its counter, which a working client gets; and the client counts it when it takes
--- it, for it
+-- Why: the write puts WRITE_INFO on every channel to an honest server, where nothing is lost; the server that takes
+-- it sends WRITE_ACK with its counter, which a working client gets; and the client counts it when it takes it, for it
 -- is storing with that counter.
 -- In order: on the channels; at the client; along a run.
 -- Assumes nothing.

@@ -1,7 +1,6 @@
 -- Delivered: a pair that was sent is on its way to an honest server, or the server is at or above it.
 --
--- Why: WRITE_INFO is put on every channel to an honest server, where nothing is lost; it leaves the channel
--- only when
+-- Why: WRITE_INFO is put on every channel to an honest server, where nothing is lost; it leaves the channel only when
 -- the server takes it, and then the server is at or above its pair, for ever (`Grows`).
 -- Assumes nothing.
 use mathlib.Core.Path.{_≡_, refl}

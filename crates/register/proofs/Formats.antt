@@ -1,8 +1,7 @@
 -- Demand 3, with this repository's formats: for every accepted setting and every list of steps.
 --
--- Why: the theorem asks two laws of the formats. A licence entry has 40 bits, and what unpacks is well
--- formed, so its fields are
--- in their widths.
+-- Why: the theorem asks two laws of the formats. A licence entry has 40 bits, and what unpacks is well formed, so its
+-- fields are in their widths.
 -- Assumes nothing.
 use mathlib.Core.Path.{_≡_}
 use mathlib.Core.Bool.{true}

@@ -1,9 +1,8 @@
 -- The ladders of refusals stand in the table's order, and a ladder that refuses nothing has no rung that
 -- applies.
 --
--- So the first rung that applies is the lowest number that applies (`ladder-rises`, `setup-rises`: by looking
--- at each list), and an
--- accepted step passed every test (`climbed`: each rung that applied would have been given).
+-- So the first rung that applies is the lowest number that applies (`ladder-rises`, `setup-rises`: by looking at each
+-- list), and an accepted step passed every test (`climbed`: each rung that applied would have been given).
 -- Assumes nothing.
 use mathlib.Core.Path.{_≡_, refl}
 use mathlib.Core.Bool.{true, false}

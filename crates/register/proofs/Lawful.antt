@@ -1,5 +1,4 @@
--- What the proofs ask of the formats: a licence entry has 40 bits, and an unpacked message has its fields in
--- their
+-- What the proofs ask of the formats: a licence entry has 40 bits, and an unpacked message has its fields in their
 -- widths.
 -- Assumes nothing.
 use mathlib.Core.Path.{_≡_}

@@ -1,7 +1,6 @@
 -- A working client that reads waits, at every event.
 --
--- `Waiting` and `WaitingTakes` have the changes at one client and one server; here each event is one of them,
--- or
+-- `Waiting` and `WaitingTakes` have the changes at one client and one server; here each event is one of them, or
 -- leaves the client, the server and their two channels as they are.
 -- Assumes nothing.
 use mathlib.Core.Path.{_≡_, refl, subst}

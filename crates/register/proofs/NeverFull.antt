@@ -1,11 +1,8 @@
 -- A step D of a run is never refused 12 (FullChannel).
 --
--- Why: a start is accepted only where every channel to an honest server has room for all that the operation
--- will put
--- there (`places`: a read's GET_INFO and DONE, a write's WRITE_INFO too); only the client itself puts
--- messages on its
--- channels, and at each choice it puts no more than it has kept. So on every such channel the messages and
--- the places
+-- Why: a start is accepted only where every channel to an honest server has room for all that the operation will put
+-- there (`places`: a read's GET_INFO and DONE, a write's WRITE_INFO too); only the client itself puts messages on its
+-- channels, and at each choice it puts no more than it has kept. So on every such channel the messages and the places
 -- that are kept fit into the slots.
 -- In order: what an outcome puts and keeps; what an event does; along a list of steps; the step D.
 -- Assumes nothing.

@@ -1,9 +1,7 @@
 -- One pair for one timestamp: two genuine pairs with the same timestamp are the same pair.
 --
--- Why: no two writes have one timestamp (`Unique`), a write sends one pair, and a sent pair's counter is at
--- least 1,
--- so its timestamp is not the initial pair's. Hence of two genuine pairs the one with the higher timestamp is
--- the
+-- Why: no two writes have one timestamp (`Unique`), a write sends one pair, and a sent pair's counter is at least 1,
+-- so its timestamp is not the initial pair's. Hence of two genuine pairs the one with the higher timestamp is the
 -- higher pair (`not-above`).
 -- Assumes nothing.
 use mathlib.Core.Path.{_≡_, sym, ap, _∙_, subst}

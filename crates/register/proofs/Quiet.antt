@@ -1,16 +1,11 @@
 -- Quiet: a working client with nothing on its way is idle.
 --
--- Why, for a client that reads: no WRITE_INFO is on its way to an honest server, so every honest server is at
--- or
--- above every pair that was sent (`Delivered`), and so all hold the same pair, the highest (`OnePair`).
--- Nothing is on
--- the client's channels, so each of them has answered, and its pair is in the client's set for it
--- (`WaitingRun`); at
--- least n − f servers are honest. That pair counts: it is in n − f sets and at or above n − f noted
--- timestamps, and n
--- − f is 2f + 1. So the client would have chosen (`Still`).
--- For one that stores: the n − f honest servers have all acknowledged (`Awaiting`), so the write would have
--- ended.
+-- Why, for a client that reads: no WRITE_INFO is on its way to an honest server, so every honest server is at or
+-- above every pair that was sent (`Delivered`), and so all hold the same pair, the highest (`OnePair`). Nothing is on
+-- the client's channels, so each of them has answered, and its pair is in the client's set for it (`WaitingRun`); at
+-- least n − f servers are honest. That pair counts: it is in n − f sets and at or above n − f noted timestamps, and n
+-- − f is 2f + 1. So the client would have chosen (`Still`). For one that stores: the n − f honest servers have all
+-- acknowledged (`Awaiting`), so the write would have ended.
 -- In order: all honest servers hold one pair; reading; storing; idle.
 -- Assumes nothing.
 use mathlib.Core.Path.{_≡_, refl, sym, _∙_, subst}

@@ -1,7 +1,6 @@
 -- Every world that a list of steps leads to is well formed.
 --
--- Why: the setup is, and every event keeps it so: servers change only by a client's message (`WellServer`),
--- clients
+-- Why: the setup is, and every event keeps it so: servers change only by a client's message (`WellServer`), clients
 -- only by a start or a server's message (`WellClient`), and channels within their room (`WellChannels`). Only
 -- servers, clients and channels that are used change at all.
 -- Assumes nothing.

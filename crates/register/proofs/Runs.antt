@@ -1,5 +1,4 @@
--- Runs computed from the definitions, so that the theorems are about something: what each answers is what
--- 01's rules
+-- Runs computed from the definitions, so that the theorems are about something: what each answers is what 01's rules
 -- give.
 --
 -- In order: the answers of a list of steps, one by one; the entry that they write. The runs are in the files

@@ -1,23 +1,15 @@
 -- What a reading client still waits for from an honest server.
 --
--- Either its GET_INFO is the last message on its channel to the server, and nothing of this read has come
--- back
--- (`Asks`); or that channel is empty, the client is among the server's readers, its INFO is either on its way
--- back or
--- noted, one of the two, and the server's present pair is in the client's set or on its way to it (`Hears`).
--- So a
+-- Either its GET_INFO is the last message on its channel to the server, and nothing of this read has come back
+-- (`Asks`); or that channel is empty, the client is among the server's readers, its INFO is either on its way back or
+-- noted, one of the two, and the server's present pair is in the client's set or on its way to it (`Hears`). So a
 -- client that waits with nothing on its channels has all it needs (`Quiet`).
 --
--- Why: GET_INFO makes the client a reader and sends it INFO with the present pair; from then on a newer pair
--- is
--- forwarded to it. A set keeps its highest pair (`PairSets`), and nothing from the server is higher than its
--- present
--- pair (`Low`).
--- Here are the changes at one client and one server, of values alone, by a start (`asks-start`) and by the
--- server: it
--- takes a message of this client (`asks-served`) or of another (`waits-other`). `WaitingTakes` has those by
--- the
--- client, `Live` all along a run.
+-- Why: GET_INFO makes the client a reader and sends it INFO with the present pair; from then on a newer pair is
+-- forwarded to it. A set keeps its highest pair (`PairSets`), and nothing from the server is higher than its present
+-- pair (`Low`). Here are the changes at one client and one server, of values alone, by a start (`asks-start`) and by
+-- the server: it takes a message of this client (`asks-served`) or of another (`waits-other`). `WaitingTakes` has
+-- those by the client, `Live` all along a run.
 -- Assumes nothing.
 use mathlib.Core.Path.{_≡_, refl, sym, _∙_}
 use mathlib.Core.Bool.{true, false}

@@ -1,11 +1,8 @@
 -- Along a run, a working client that reads waits for each honest server as `Waiting` says.
 --
--- Why: the setup reads nothing, and `Live` has every event. What it asks for: no message of a later read is
--- on the
--- channels when a client starts (`Fresh`); and nothing from an honest server, on a channel or in a set, is
--- above its
--- present pair, since its timestamp is not (`Low`), both are genuine (`Genuine`), and one timestamp has one
--- pair
+-- Why: the setup reads nothing, and `Live` has every event. What it asks for: no message of a later read is on the
+-- channels when a client starts (`Fresh`); and nothing from an honest server, on a channel or in a set, is above its
+-- present pair, since its timestamp is not (`Low`), both are genuine (`Genuine`), and one timestamp has one pair
 -- (`OnePair`).
 -- Assumes nothing.
 use mathlib.Core.Path.{_≡_, refl}

@@ -1,13 +1,11 @@
--- What a reading client waits for, when the client takes a message (`Waiting` says what that is, and has the
--- server's
+-- What a reading client waits for, when the client takes a message (`Waiting` says what that is, and has the server's
 -- part).
 --
 -- Why: INFO of this read moves from the channel to the noted timestamps; a pair moves from the channel to the
 -- set;
 -- and a set keeps its highest pair, which is the server's present one, since nothing from the server is
 -- higher.
--- In order: a message of this server that is dropped (`waits-dropped`) or taken (`waits-grown`); one of
--- another
+-- In order: a message of this server that is dropped (`waits-dropped`) or taken (`waits-grown`); one of another
 -- server (`waits-elsewhere`).
 -- Assumes nothing.
 use mathlib.Core.Path.{_≡_, refl, sym}

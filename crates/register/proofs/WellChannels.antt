@@ -1,9 +1,7 @@
 -- Well-formed channels stay well formed at every event.
 --
--- Why: what an event puts on a channel was given room by its checks and is of the right kind; what is dropped
--- changes
--- nothing; what is taken off or emptied leaves fewer. A message goes only to an honest server or a working
--- client, so
+-- Why: what an event puts on a channel was given room by its checks and is of the right kind; what is dropped changes
+-- nothing; what is taken off or emptied leaves fewer. A message goes only to an honest server or a working client, so
 -- a channel that is unused or drops stays empty.
 -- In order: lists of messages; channels to servers; channels to clients.
 -- Assumes nothing.

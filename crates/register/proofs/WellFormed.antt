@@ -1,10 +1,8 @@
 -- A well-formed world: what 01 asks of a sound state, said of the model (01, 'Rehearsal': 'A state is sound
 -- when ..').
 --
--- In order: the messages of a channel; a channel; a server; a phase, a set, a client; the world. What is not
--- used has
--- its value at setup exactly, so that a world is the view of its table of 13 servers, 6 clients and 156
--- channels.
+-- In order: the messages of a channel; a channel; a server; a phase, a set, a client; the world. What is not used has
+-- its value at setup exactly, so that a world is the view of its table of 13 servers, 6 clients and 156 channels.
 -- That every world that a list of steps leads to is well formed is `Reachable.well-formed`.
 -- Assumes nothing.
 use mathlib.Core.Path.{_≡_}
@@ -69,8 +67,7 @@ pub record WellSet (l : List Pair) : Type 0 where
   pub few : length l ≤ setLimit
   pub pairs : (p : Pair) → Member p l → p .0 < 2 ^ 64
 
--- a client: its parts are in range; it has nothing of what is no server; noted timestamps and sets are empty
--- outside
+-- a client: its parts are in range; it has nothing of what is no server; noted timestamps and sets are empty outside
 -- a reading phase, acknowledgements outside storing
 pub record WellClient (S : Settings) (F : Formats) (x : Client) : Type 0 where
   pub phase : WellPhase F (x .phase)

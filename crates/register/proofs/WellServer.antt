@@ -1,9 +1,7 @@
 -- A well-formed server stays well formed when it takes a message of a client.
 --
--- Why: GET_INFO and DONE change one reader, the sender, who is a client; WRITE_INFO may bring a pair, and
--- messages on
--- channels have their fields in their widths. What it sends is of the kinds that servers send, in the widths
--- of what
+-- Why: GET_INFO and DONE change one reader, the sender, who is a client; WRITE_INFO may bring a pair, and messages on
+-- channels have their fields in their widths. What it sends is of the kinds that servers send, in the widths of what
 -- it took.
 -- Assumes nothing.
 use mathlib.Core.Path.{_≡_, refl, sym, ap, _∙_}

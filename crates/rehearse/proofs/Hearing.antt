@@ -9,11 +9,17 @@ use Rattle.script.specs.declared.parse.Line.{Line}
 use Rattle.script.specs.declared.parse.Line.the-variants as line
 use Rattle.script.specs.declared.print.Output.the-variants as output
 use Rattle.steps.specs.Kinds.{isOfServer, isOfClient, isOfNeither}
+use Rattle.system.specs.declared.setup.Setup.{Setup}
 use Rattle.system.specs.Step.{stepped}
-use Rattle.rehearse.specs.declared.Heard.{Heard}
-use Rattle.rehearse.specs.declared.Heard.the-variants as heard
-use Rattle.rehearse.specs.Saying.{Stage, counted, moved, says, after}
-use Rattle.rehearse.specs.Turns.{sorted, heardAs}
+use Rattle.rehearse.specs.declared.lines.Heard.{Heard}
+use Rattle.rehearse.specs.declared.lines.Heard.the-variants as heard
+use Rattle.rehearse.specs.Saying.{Stage, counted, moved, setupSays, setUp, says, after}
+use Rattle.rehearse.specs.Blocks.{sorted, heardAs}
+
+-- line l is a setup, which is accepted or refused
+pub record Sets (p : Stage) (l : Line) (s : Setup) : Type 0 where
+  pub says-it : says p l ≡ setupSays s
+  pub leaves : after p l ≡ setUp p s
 
 -- line l is the step x, which is taken
 pub record Steps (p : Stage) (l : Line) (x : Step) : Type 0 where
@@ -26,7 +32,7 @@ pub record Passed (p : Stage) (l : Line) : Type 0 where
   pub leaves : after p l ≡ counted p
 
 abbrev pub Means : Stage → Line → Heard → Type 0
-Means p l (heard.Setup f c m) = l ≡ line.Setup f c m
+Means p l (heard.Setup s) = Sets p l s
 Means p l heard.Unread = Passed p l
 Means p l (heard.Server x) = Steps p l x × (isOfServer x ≡ true)
 Means p l (heard.Client x) = Steps p l x × (isOfClient x ≡ true)
@@ -47,7 +53,7 @@ module _ (p : Stage) where
 
   line-means : (l : Line) → Means p l (heardAs (p .isSet) l)
   unfolding says after
-  line-means (line.Setup f c m) = refl
+  line-means (line.Setup f c m) = record { says-it = refl; leaves = refl }
   line-means (line.Take x) =
       by-test (p .isSet)
       (λ t. subst (λ (i : Bool). Means p (line.Take x) (cond i (sorted x) heard.Unread)) (sym t) (step-means x t))

@@ -1,8 +1,9 @@
-pub mod Blocks
-pub mod Setups
+pub mod Printing
 pub mod Hearing
-pub mod Scripts
-pub mod Taking
 pub mod Parts
-pub mod Reading
-pub mod Keeping
+pub mod Scripts
+pub mod Staying
+pub mod Taking
+pub mod Closing
+pub mod Going
+pub mod Whole

@@ -9,17 +9,15 @@ use mathlib.Core.Option.{none, some}
 use Prim.Native.Nat.{ℕ, suc, _+_, _-_, _≤_, _<_}
 use native.Mathlib.Omega.{arith}
 use lib.Dec.{eqb}
-use lib.ListN.{length, take, drop, length-drop}
+use lib.ListN.{length, take, drop, length-take, length-drop}
 use lib.Seq.{drop-drop}
-use borrow.Author.Tests.{eqb-true}
 use Rattle.basics.proofs.Cases.{by-test, clash}
 use Rattle.script.specs.Grammar.{lineOf}
-use Rattle.script.specs.Lines.{upTo, behind, linesOf, part, lineEnd}
+use Rattle.script.specs.Lines.{upTo, behind, part, lineEnd}
 use Rattle.script.specs.Printed.{printed}
 use Rattle.script.proofs.Places.{up-to-take, behind-some, behind-none}
-use Rattle.script.proofs.Split.{first-line}
 use Rattle.rehearse.specs.Saying.{Stage, says, after, textOf, stageAfter}
-use Rattle.rehearse.specs.Turns.{ended}
+use Rattle.rehearse.specs.Blocks.{inFirst, wholeLines, lengthOf}
 
 -- ---- lines behind lines
 
@@ -54,57 +52,49 @@ text-more p ls l =
     ∙ ap (λ (z : List ℕ). textOf p ls ++ z)
     (append-nil (printed (stageAfter p ls .number) (says (stageAfter p ls) (lineOf l))))
 
--- the same with their ends
-pub ended-more : (ls : List (List ℕ)) (l rest : List ℕ)
-    → ended (ls ++ l ∷ []) ++ rest ≡ ended ls ++ (l ++ 10 ∷ rest)
-unfolding ended
-ended-more [] l rest = append-assoc l (10 ∷ []) rest
-ended-more (k ∷ ls) l rest =
-    append-assoc k (10 ∷ ended (ls ++ l ∷ [])) rest
-    ∙ ap (λ (z : List ℕ). k ++ 10 ∷ z) (ended-more ls l rest)
-    ∙ sym (append-assoc k (10 ∷ ended ls) (l ++ 10 ∷ rest))
+pub length-more : (ls : List (List ℕ)) (l : List ℕ) → lengthOf (ls ++ l ∷ []) ≡ lengthOf ls + (length l + 1)
+unfolding lengthOf
+length-more [] l = omega arith
+length-more (k ∷ ls) l = let more = length-more ls l in omega arith
 
 -- ---- the next line of a block
 
-cut-at : (s rest : List ℕ) → behind 10 s ≡ some rest → s ≡ upTo 10 s ++ 10 ∷ rest
-unfolding upTo behind
-cut-at [] rest e = clash cc
-cut-at (b ∷ s) rest e =
+first-whole : (s rest : List ℕ) → behind 10 s ≡ some rest → wholeLines s ≡ upTo 10 s ∷ wholeLines rest
+unfolding upTo behind wholeLines
+first-whole [] rest e = clash cc
+first-whole (b ∷ s) rest e =
     by-test (eqb b 10)
-    (λ t. let is : s ≡ rest = let q = rw t at e in cc in
-    rw t (λ i. eqb-true b 10 t i ∷ is i))
-    (λ t. rw t (ap (λ (z : List ℕ). b ∷ z) (cut-at s rest (rw t at e))))
+    (λ t. let is : s ≡ rest = let q = rw t at e in cc in rw t (ap (λ (l : List ℕ). [] ∷ wholeLines l) is))
+    (λ t. rw t (ap (λ (ls : List (List ℕ)). inFirst b ls) (first-whole s rest (rw t at e))))
+
+no-whole : (s : List ℕ) → behind 10 s ≡ none → wholeLines s ≡ []
+unfolding behind wholeLines
+no-whole [] e = refl
+no-whole (b ∷ s) e =
+    by-test (eqb b 10) (λ t. let q = rw t at e in clash cc)
+    (λ t. rw t (ap (λ (ls : List (List ℕ)). inFirst b ls) (no-whole s (rw t at e))))
 
 module _ (input : List ℕ) (at end : ℕ) (inside : at ≤ length input) (e : end ≡ lineEnd input at) where
   abbrev left : List ℕ
   left = drop at input
 
-  pub next-line : end < length input → linesOf left ≡ part input at end ∷ linesOf (drop (end + 1) input)
+  long : length left ≡ length input - at
+  long = length-drop at input
+
+  pub next-line : end < length input → wholeLines left ≡ part input at end ∷ wholeLines (drop (end + 1) input)
   next-line less =
       let n : ℕ = length (upTo 10 left) in
-      let long : length left ≡ length input - at = length-drop at input in
+      let wide = long in
       let here : end - at ≡ n = omega arith in
       let more : at + suc n ≡ end + 1 = omega arith in
-      first-line left (drop (suc n) left) (behind-some 10 left (omega arith))
-      ∙ ap (λ (l : List ℕ). l ∷ linesOf (drop (suc n) left)) (sym (up-to-take 10 left))
-      ∙ ap (λ (k : ℕ). take k left ∷ linesOf (drop (suc n) left)) (sym here)
-      ∙ ap (λ (l : List ℕ). part input at end ∷ linesOf l) (drop-drop (suc n) at input)
-      ∙ ap (λ (k : ℕ). part input at end ∷ linesOf (drop k input)) more
+      first-whole left (drop (suc n) left) (behind-some 10 left (omega arith))
+      ∙ ap (λ (l : List ℕ). l ∷ wholeLines (drop (suc n) left)) (sym (up-to-take 10 left))
+      ∙ ap (λ (k : ℕ). take k left ∷ wholeLines (drop (suc n) left)) (sym here)
+      ∙ ap (λ (l : List ℕ). part input at end ∷ wholeLines l) (drop-drop (suc n) at input)
+      ∙ ap (λ (k : ℕ). part input at end ∷ wholeLines (drop k input)) more
 
-  -- and with its end
-  pub next-bytes : end < length input → left ≡ part input at end ++ 10 ∷ drop (end + 1) input
-  next-bytes less =
-      let n : ℕ = length (upTo 10 left) in
-      let long : length left ≡ length input - at = length-drop at input in
-      let here : end - at ≡ n = omega arith in
-      let more : at + suc n ≡ end + 1 = omega arith in
-      cut-at left (drop (suc n) left) (behind-some 10 left (omega arith))
-      ∙ ap (λ (l : List ℕ). l ++ 10 ∷ drop (suc n) left) (sym (up-to-take 10 left))
-      ∙ ap (λ (k : ℕ). take k left ++ 10 ∷ drop (suc n) left) (sym here)
-      ∙ ap (λ (l : List ℕ). part input at end ++ 10 ∷ l) (drop-drop (suc n) at input)
-      ∙ ap (λ (k : ℕ). part input at end ++ 10 ∷ drop k input) more
+  pub line-length : end < length input → at + (length (part input at end) + 1) ≡ end + 1
+  line-length less = let wide = long in rw (length-take (end - at) left, wide) (omega arith)
 
-  pub no-line : length input ≤ end → behind 10 left ≡ none
-  no-line far =
-      let long : length left ≡ length input - at = length-drop at input in
-      behind-none 10 left (omega arith)
+  pub no-line : length input ≤ end → wholeLines left ≡ []
+  no-line far = let wide = long in no-whole left (behind-none 10 left (omega arith))

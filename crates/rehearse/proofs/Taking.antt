@@ -1,255 +1,178 @@
--- Lines taken one by one: the text of one line more stands behind the text of the others, and what is known
--- after it follows from what was known before.
+-- Lines taken one by one: the text of one line more stands behind the text of the others, and what is known after it follows
+-- from what was known before. There is room for it, since no line prints more than 80 bytes.
 --
--- In order: one line more taken, by what it is; the end of the lines; a setup.
+-- In order: what a line leaves, by what it is taken for; the lines so far; one line more; the end of the lines.
 -- Assumes nothing.
 use mathlib.Core.Path.{_≡_, refl, sym, ap, subst, _∙_}
-use mathlib.Core.Bool.{Bool, true}
-use mathlib.Core.List.{List, [], _∷_, _++_}
-use Prim.Native.Nat.{ℕ, _+_, _≤_, _<_}
+use mathlib.Core.Bool.{Bool, true, _||_}
+use mathlib.Core.List.{List, [], _∷_, _++_, append-nil}
+use Prim.Native.Nat.{ℕ, _+_, _*_, _≤_, _<_}
 use native.Mathlib.Omega.{arith}
 use lib.ListN.{length, drop}
 use lib.Seq.{append-snoc}
 use Rattle.register.specs.declared.Step.{Step}
+use Rattle.script.specs.declared.next.Found.{Found}
 use Rattle.script.specs.declared.parse.Line.{Line}
-use Rattle.script.specs.declared.parse.Line.the-variants as line
+use Rattle.script.specs.declared.print.Output.{Output}
 use Rattle.script.specs.declared.print.Output.the-variants as output
 use Rattle.script.specs.Grammar.{lineOf}
-use Rattle.script.specs.declared.next.Found.{Found}
-use Rattle.script.specs.Lines.{linesOf, part, lineEnd}
+use Rattle.script.specs.Lines.{part, lineEnd}
 use Rattle.script.specs.Next.{foundAt}
 use Rattle.script.specs.Printed.{printed}
 use Rattle.script.specs.Writing.{Written}
+use Rattle.script.proofs.Lengths.{printed-short}
 use Rattle.script.proofs.Writing.{then, reads, keeps, written-none}
 use Rattle.state.specs.declared.System.{System}
-use Rattle.state.specs.Sound.{isSound}
-use Rattle.system.specs.Setup.{setupOf}
+use Rattle.system.specs.declared.setup.Setup.{Setup}
 use Rattle.system.specs.Step.{Result, stepped}
-use Rattle.system.proofs.Histories.{kept}
-use Rattle.rehearse.specs.declared.Need.{Need}
-use Rattle.rehearse.specs.declared.Need.the-variants as need
-use Rattle.rehearse.specs.declared.Room.{Room}
+use Rattle.rehearse.specs.declared.lines.Turn.{Turn}
 use Rattle.rehearse.specs.Saying.{Stage, stage, nextNumber, moved, setupSays, setUp}
 use Rattle.rehearse.specs.Saying.{says, after, textOf, stageAfter}
-use Rattle.rehearse.specs.Turns.{ended, roomOf, stageIn, Stops, Taken, LinesTaken}
-use Rattle.rehearse.proofs.Hearing.{Steps, Passed}
-use Rattle.rehearse.proofs.Scripts.{stage-more, text-more, ended-more, next-line, next-bytes, no-line}
+use Rattle.rehearse.specs.Blocks.{isAccepted, wholeLines, lengthOf, turnOf, stageIn, LinesTaken}
+use Rattle.rehearse.proofs.Hearing.{Sets, Steps, Passed}
+use Rattle.rehearse.proofs.Scripts.{stage-more, text-more, length-more, next-line, line-length, no-line}
+use Rattle.rehearse.proofs.Staying.{Sound, line-sound}
 
--- ---- one line more taken
+-- ---- what a line leaves: what is printed of it, and the parts of the state, before the lines are counted
 
--- a text that was written ends inside the buffer
-inside : {text out out′ : List ℕ} {at used : ℕ} → Written text out at used out′ → used + 0 ≤ length out
-inside w = let fits = w .fits in let ends = w .ends in omega arith
+pub record Left (p : Stage) (l : Line) (what : Output) (isSet : Bool) (s : System) (b r : List ℕ) : Type 0 where
+  pub says-it : what ≡ says p l
+  pub leaves : stage isSet s b r (nextNumber (p .number)) ≡ after p l
 
-module _ {p : Stage} {input : List ℕ} {start : ℕ} {out : List ℕ} {first : ℕ} where
-  module _ {q : Stage} {at used : ℕ} {mid : List ℕ}
-      (h : Taken p input start out first q at used need.Lines mid) where
-    module _ (z : Found) (found : z ≡ foundAt input at) where
-      abbrev end : ℕ
-      end = z .end
+module _ {p : Stage} {l : Line} where
+  pub left-unread : Passed p l → Left p l output.Unread (p .isSet) (p .system) (p .slots) (p .replies)
+  left-unread m = record { says-it = sym (m .says-it); leaves = sym (m .leaves) }
 
+  pub left-setup : {s : Setup} {u : System} {b r : List ℕ} {what : Output} → Sets p l s → what ≡ setupSays s
+      → ((i : Bool) (n : ℕ) → stage (i || isAccepted s) u b r (nextNumber n) ≡ setUp (stage i (p .system) (p .slots) (p .replies) n) s)
+      → Left p l what (p .isSet || isAccepted s) u b r
+  left-setup m e f = record { says-it = e ∙ sym (m .says-it); leaves = f (p .isSet) (p .number) ∙ sym (m .leaves) }
+
+  pub left-step : {x : Step} → Steps p l x → (o : Result) → o ≡ stepped (p .system) (p .slots) (p .replies) x
+      → {what : Output} → what ≡ output.Answered (o .answer)
+      → Left p l what (p .isSet) (o .system) (o .slots) (o .replies)
+  left-step m o e w =
+      record {
+        says-it = w ∙ ap (λ (y : Result). output.Answered (y .answer)) e ∙ sym (m .says-it);
+        leaves = ap (moved p) e ∙ sym (m .leaves);
+      }
+
+  -- the same, said of what the code has
+  pub renamed : {w w′ : Output} {i i′ : Bool} {u u′ : System} {b b′ r r′ : List ℕ}
+      → b′ ≡ b → r′ ≡ r → u′ ≡ u → i′ ≡ i → w′ ≡ w → Left p l w i u b r → Left p l w′ i′ u′ b′ r′
+  renamed eb er eu ei ew h =
+      record {
+        says-it = ew ∙ h .says-it;
+        leaves = (λ k. stage (ei k) (eu k) (eb k) (er k) (nextNumber (p .number))) ∙ h .leaves;
+      }
+
+-- ---- the lines so far
+
+pub record Taken (p : Stage) (input out : List ℕ) (q : Stage) (at used : ℕ) (out′ : List ℕ) : Type 0 where
+  pub lines : List (List ℕ)
+  pub split : wholeLines input ≡ lines ++ wholeLines (drop at input)
+  pub place : at ≡ lengthOf lines
+  pub within : at ≤ length input
+  pub text : Written (textOf p lines) out 0 used out′
+  pub state : q ≡ stageAfter p lines
+  pub few : used ≤ at * 80
+  pub sound : Sound q
+
+module _ {p : Stage} {input out : List ℕ} where
+  -- before the first line
+  pub none-yet : Sound p → Taken p input out p 0 0 out
+  unfolding textOf stageAfter lengthOf
+  none-yet sound =
+      record {
+        lines = [];
+        split = refl;
+        place = refl;
+        within = omega arith;
+        text = record { fits = omega arith; ends = refl; holds = written-none out 0 };
+        state = refl;
+        few = omega arith;
+        sound = sound;
+      }
+
+  module _ {q : Stage} {at used : ℕ} {mid : List ℕ} (h : Taken p input out q at used mid)
+      (z : Found) (found : z ≡ foundAt input at) where
+    ends : z .end ≡ lineEnd input at
+    ends = ap (λ (y : Found). y .end) found
+
+    module _ (less : z .end < length input) where
+      -- there is room for what is printed of the next line
+      pub room : length input * 80 ≤ length out → used + 80 ≤ length mid
+      room wide =
+          let same = keeps (h .text) in
+          let few = h .few in
+          let end = ends in
+          omega arith
+
+      -- ---- one line more
       abbrev text : List ℕ
-      text = part input at end
-
-      ends : end ≡ lineEnd input at
-      ends = ap (λ (y : Found). y .end) found
+      text = part input at (z .end)
 
       reads-as : z .line ≡ lineOf text
       reads-as =
           ap (λ (y : Found). y .line) found ∙ ap (λ (k : ℕ). lineOf (part input at k)) (sym ends)
 
-      module _ (less : end < length input) where
-        one-more : {used′ : ℕ} {out′ : List ℕ}
-            → Written (printed (q .number) (says q (z .line))) mid used used′ out′
-            → (q′ : Stage) → q′ ≡ after q (z .line) → isSound (q′ .system) (q′ .slots) (q′ .replies) ≡ true
-            → Taken p input start out first q′ (end + 1) used′ need.Lines out′
-        one-more w q′ is sound =
-            record {
-              lines = h .lines ++ text ∷ [];
-              rest = drop (end + 1) input;
-              whole =
-                  h .whole
-                  ∙ ap (λ (l : List ℕ). ended (h .lines) ++ l)
-                  (h .left ∙ next-bytes input at end (h .within) ends less)
-                  ∙ sym (ended-more (h .lines) text (drop (end + 1) input));
-              split =
-                  h .split
-                  ∙ ap (λ (l : List ℕ). h .lines ++ linesOf l) (h .left)
-                  ∙ ap (λ (ls : List (List ℕ)). h .lines ++ ls)
-                  (next-line input at end (h .within) ends less)
-                  ∙ sym (append-snoc (h .lines) text (linesOf (drop (end + 1) input)));
-              left = refl;
-              text =
-                  reads (then (h .text) w) (textOf p (h .lines ++ text ∷ []))
-                  (ap (λ (l : Line). textOf p (h .lines) ++ printed (q .number) (says q l)) reads-as
-                  ∙ ap (λ (y : Stage). textOf p (h .lines) ++ printed (y .number) (says y (lineOf text)))
-                  (h .state)
-                  ∙ sym (text-more p (h .lines) text));
-              state =
-                  is ∙ ap (after q) reads-as ∙ ap (λ (y : Stage). after y (lineOf text)) (h .state)
-                  ∙ sym (stage-more p (h .lines) text);
-              sound = sound;
-              within = omega arith;
-              room = inside (then (h .text) w);
-              due = tt;
-            }
-
-        module _ {used′ : ℕ} {out′ : List ℕ} (n : ℕ) (en : n ≡ nextNumber (q .number)) where
-          pub unread-more : Passed q (z .line) → Written (printed (q .number) output.Unread) mid used used′ out′
-              → Taken p input start out first (stage (q .isSet) (q .system) (q .slots) (q .replies) n)
-              (end + 1) used′ need.Lines out′
-          unread-more means w =
-              one-more
-              (reads w (printed (q .number) (says q (z .line))) (ap (printed (q .number)) (sym (means .says-it))))
-              (stage (q .isSet) (q .system) (q .slots) (q .replies) n)
-              (ap (stage (q .isSet) (q .system) (q .slots) (q .replies)) en ∙ sym (means .leaves)) (h .sound)
-
-          pub step-more : {x : Step} → Steps q (z .line) x
-              → (o : Result) → o ≡ stepped (q .system) (q .slots) (q .replies) x
-              → Written (printed (q .number) (output.Answered (o .answer))) mid used used′ out′
-              → Taken p input start out first (stage (q .isSet) (o .system) (o .slots) (o .replies) n)
-              (end + 1) used′ need.Lines out′
-          step-more {x} means o eo w =
-              one-more
-              (reads w (printed (q .number) (says q (z .line)))
-              (ap (λ (y : Result). printed (q .number) (output.Answered (y .answer))) eo
-              ∙ ap (printed (q .number)) (sym (means .says-it))))
-              (stage (q .isSet) (o .system) (o .slots) (o .replies) n)
-              (ap (stage (q .isSet) (o .system) (o .slots) (o .replies)) en ∙ ap (moved q) eo
-              ∙ sym (means .leaves))
-              (subst (λ (y : Result). isSound (y .system) (y .slots) (y .replies) ≡ true) (sym eo)
-              (kept (q .system) (q .slots) (q .replies) x (h .sound)))
-
-        -- ---- the end of the lines
-
-        pub at-setup : used + 80 ≤ length mid → (f c m : ℕ) → z .line ≡ line.Setup f c m
-            → Taken p input start out first q (end + 1) used (need.Setup f c m) mid
-        at-setup free f c m is =
-            record {
-              lines = h .lines;
-              rest = drop at input;
-              whole = h .whole ∙ ap (λ (l : List ℕ). ended (h .lines) ++ l) (h .left);
-              split = h .split ∙ ap (λ (l : List ℕ). h .lines ++ linesOf l) (h .left);
-              left =
-                  record {
-                    setup = text;
-                    is = sym reads-as ∙ is;
-                    bytes-are = next-bytes input at end (h .within) ends less;
-                    lines-are = next-line input at end (h .within) ends less;
-                  };
-              text = h .text;
-              state = h .state;
-              sound = h .sound;
-              within = omega arith;
-              room = let same = keeps (h .text) in omega arith;
-              due = tt;
-            }
-
-      pub at-cut : length input ≤ end → Taken p input start out first q at used need.Input mid
-      at-cut far =
+      pub one-more : {what : Output} {i : Bool} {u : System} {b r : List ℕ} → Left q (z .line) what i u b r
+          → {used′ : ℕ} {out′ : List ℕ} → Written (printed (q .number) what) mid used used′ out′
+          → (n : ℕ) → n ≡ nextNumber (q .number)
+          → Taken p input out (stage i u b r n) (z .end + 1) used′ out′
+      one-more {what} {i} {u} {b} {r} g {used′} w n en =
+          let is : stage i u b r n ≡ after q (z .line) = ap (stage i u b r) en ∙ g .leaves in
+          let short = printed-short (q .number) what in
+          let fits = w .ends in
+          let few = h .few in
+          let end = ends in
           record {
-            lines = h .lines;
-            rest = h .rest;
-            whole = h .whole;
-            split = h .split;
-            left = (h .left, no-line input at end (h .within) ends far);
-            text = h .text;
-            state = h .state;
-            sound = h .sound;
-            within = h .within;
-            room = h .room;
-            due = tt;
+            lines = h .lines ++ text ∷ [];
+            split =
+                h .split
+                ∙ ap (λ (ls : List (List ℕ)). h .lines ++ ls) (next-line input at (z .end) (h .within) ends less)
+                ∙ sym (append-snoc (h .lines) text (wholeLines (drop (z .end + 1) input)));
+            place =
+                sym (line-length input at (z .end) (h .within) ends less)
+                ∙ ap (λ (k : ℕ). k + (length text + 1)) (h .place) ∙ sym (length-more (h .lines) text);
+            within = omega arith;
+            text =
+                reads (then (h .text) w) (textOf p (h .lines ++ text ∷ []))
+                (ap (λ (o : Output). textOf p (h .lines) ++ printed (q .number) o)
+                (g .says-it ∙ ap (says q) reads-as)
+                ∙ ap (λ (y : Stage). textOf p (h .lines) ++ printed (y .number) (says y (lineOf text)))
+                (h .state)
+                ∙ sym (text-more p (h .lines) text));
+            state =
+                is ∙ ap (after q) reads-as ∙ ap (λ (y : Stage). after y (lineOf text)) (h .state)
+                ∙ sym (stage-more p (h .lines) text);
+            few = omega arith;
+            sound = subst Sound (sym is) (line-sound q (z .line) (h .sound));
           }
 
-  -- the same, said of what the code has
-  pub renamed : {i : Bool} {u u′ : System} {b b′ r r′ : List ℕ} {n at used used′ : ℕ} {after after′ : List ℕ}
-      → after′ ≡ after → b′ ≡ b → r′ ≡ r → u′ ≡ u → used′ ≡ used
-      → Taken p input start out first (stage i u b r n) at used need.Lines after
-      → Taken p input start out first (stage i u′ b′ r′ n) at used′ need.Lines after′
-  renamed {i} {u} {u′} {b} {b′} {r} {r′} {n} {at} {used} {used′} {after} {after′} eo eb er eu es h =
-      subst (λ (z : List ℕ). Taken p input start out first (stage i u′ b′ r′ n) at used′ need.Lines z) (sym eo)
-      (subst (λ (z : List ℕ). Taken p input start out first (stage i u′ z r′ n) at used′ need.Lines after) (sym eb)
-      (subst (λ (z : List ℕ). Taken p input start out first (stage i u′ b z n) at used′ need.Lines after) (sym er)
-      (subst (λ (z : System). Taken p input start out first (stage i z b r n) at used′ need.Lines after) (sym eu)
-      (subst (λ (z : ℕ). Taken p input start out first (stage i u b r n) at z need.Lines after) (sym es) h))))
+    -- ---- the end of the lines: where no whole line is left, all are taken
 
-  -- before the first line
-  pub none-yet : isSound (p .system) (p .slots) (p .replies) ≡ true → start ≤ length input → first ≤ length out
-      → Taken p input start out first p start first need.Lines out
-  unfolding textOf stageAfter ended
-  none-yet sound inside fits =
-      record {
-        lines = [];
-        rest = drop start input;
-        whole = refl;
-        split = refl;
-        left = refl;
-        text = record { fits = omega arith; ends = omega arith; holds = written-none out first };
-        state = refl;
-        sound = sound;
-        within = inside;
-        room = omega arith;
-        due = tt;
-      }
+    all : length input ≤ z .end → h .lines ≡ wholeLines input
+    all far =
+        sym (append-nil (h .lines))
+        ∙ ap (λ (ls : List (List ℕ)). h .lines ++ ls) (sym (no-line input at (z .end) (h .within) ends far))
+        ∙ sym (h .split)
 
--- ---- where the lines end
+    pub at-end : length input ≤ z .end
+        → (Written (textOf p (wholeLines input)) out 0 used mid) × (q ≡ stageAfter p (wholeLines input))
+        × (at ≡ lengthOf (wholeLines input))
+    at-end far = (
+      reads (h .text) (textOf p (wholeLines input)) (ap (textOf p) (all far)),
+      h .state ∙ ap (stageAfter p) (all far),
+      h .place ∙ ap lengthOf (all far),
+    )
 
--- a buffer without room for a line
-pub at-full : {p q : Stage} {input out mid : List ℕ} {start first at used : ℕ}
-    → Taken p input start out first q at used need.Lines mid → length mid < used + 80
-    → Taken p input start out first q at used need.Space mid
-at-full h full =
-    record {
-      lines = h .lines;
-      rest = h .rest;
-      whole = h .whole;
-      split = h .split;
-      left = h .left;
-      text = h .text;
-      state = h .state;
-      sound = h .sound;
-      within = h .within;
-      room = h .room;
-      due = let same = keeps (h .text) in omega arith;
-    }
-
-pub at-stop : {q : Room} {input out b r b′ r′ out′ : List ℕ} {s : System} {n at used : ℕ} {e : Need} (z : Room)
-    → z ≡ roomOf s (q .«is_set») n at (q .total) used e → Stops e
-    → Taken (stageIn q b r) input (q .at) out (q .used) (stage (q .«is_set») s b′ r′ n) at used e out′
+-- what the code answers there
+pub lines-taken : {q : Turn} {input out b r b′ r′ out′ : List ℕ} {s : System} {i : Bool} {n at used : ℕ} (z : Turn)
+    → z ≡ turnOf s i n at used
+    → (Written (textOf (stageIn q b r) (wholeLines input)) out 0 used out′)
+    × (stage i s b′ r′ n ≡ stageAfter (stageIn q b r) (wholeLines input)) × (at ≡ lengthOf (wholeLines input))
     → LinesTaken q input b r out z b′ r′ out′
-at-stop {q} {input} {out} {b} {r} {b′} {r′} {out′} z is stops h =
-    subst (λ (y : Room). LinesTaken q input b r out y b′ r′ out′) (sym is) (record { taken = h; total = refl; stops = stops })
-
--- a setup's line is one line more
-pub setup-more : {p q q′ : Stage} {input out mid out′ : List ℕ} {start first at used used′ f c m : ℕ}
-    → Taken p input start out first q at used (need.Setup f c m) mid
-    → q′ ≡ setUp q (setupOf f c m) → isSound (q′ .system) (q′ .slots) (q′ .replies) ≡ true
-    → Written (printed (q .number) (setupSays (setupOf f c m))) mid used used′ out′
-    → Taken p input start out first q′ at used′ need.Lines out′
-unfolding after says
-setup-more {p} {q} {q′} {input} {start = start} {at = at} {f = f} {c = c} {m = m} h is sound w =
-    let l = h .left in
-    let last : List ℕ = l .setup in
-    record {
-      lines = h .lines ++ last ∷ [];
-      rest = drop at input;
-      whole =
-          h .whole ∙ ap (λ (z : List ℕ). ended (h .lines) ++ z) (l .bytes-are)
-          ∙ sym (ended-more (h .lines) last (drop at input));
-      split =
-          h .split ∙ ap (λ (ls : List (List ℕ)). h .lines ++ ls) (l .lines-are)
-          ∙ sym (append-snoc (h .lines) last (linesOf (drop at input)));
-      left = refl;
-      text =
-          reads (then (h .text) w) (textOf p (h .lines ++ last ∷ []))
-          (ap (λ (z : Line). textOf p (h .lines) ++ printed (q .number) (says q z)) (sym (l .is))
-          ∙ ap (λ (z : Stage). textOf p (h .lines) ++ printed (z .number) (says z (lineOf last))) (h .state)
-          ∙ sym (text-more p (h .lines) last));
-      state =
-          is ∙ ap (after q) (sym (l .is)) ∙ ap (λ (z : Stage). after z (lineOf last)) (h .state)
-          ∙ sym (stage-more p (h .lines) last);
-      sound = sound;
-      within = h .within;
-      room = inside (then (h .text) w);
-      due = tt;
-    }
+lines-taken {q} {input} {out} {b} {r} {b′} {r′} {out′} z is h =
+    subst (λ (y : Turn). LinesTaken q input b r out y b′ r′ out′) (sym is)
+    (record { state = h .1; text = h .0; place = h .2 })

@@ -1,2 +1,2 @@
 pub mod Saying
-pub mod Turns
+pub mod Blocks

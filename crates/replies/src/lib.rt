@@ -294,10 +294,10 @@ pub fn copied(r: &[u64]) -> [u64; 91]
     ensures { λ x. ⌜ x ≡ now (r .entry) ⌝ }
 {
     let mut x = [0u64; 91];
-    let mut i = 0;
-    while i < WORDS {
-        x[i] = r[i];
-        i += 1;
+    let mut k = 0;
+    while k < WORDS {
+        x[k] = r[k];
+        k += 1;
     }
     x
 }

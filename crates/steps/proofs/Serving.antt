@@ -1,9 +1,11 @@
 -- K: what the code does one after the other is the definition's step.
 -- Assumes nothing.
 use mathlib.Core.Path.{_≡_, ap, _∙_}
+use mathlib.Core.Bool.{Bool, true, false, cond, not}
 use mathlib.Core.List.{List}
 use Prim.Native.Nat.{ℕ, suc, _-_, _≤_}
 use native.Mathlib.Omega.{arith}
+use borrow.Author.Tests.{not-true, not-false}
 use Rattle.message.specs.declared.Message.{Message}
 use Rattle.channel.specs.Memory.{taken}
 use Rattle.register.specs.declared.Answer.the-variants.{Went}
@@ -14,6 +16,14 @@ use Rattle.state.specs.declared.Session.{Session}
 use Rattle.state.specs.declared.Settings.{Settings}
 use Rattle.state.specs.State.{upIndex, messageAt}
 use Rattle.steps.specs.Inner.{after, roomDown, sendDown}
+
+-- the slots after `take_if`: as they were if the reply does not fit, without the oldest message of the channel if it does
+module _ (b : List ℕ) (from : ℕ) (fits : Bool) (b₁ : List ℕ) (e : b₁ ≡ cond fits (taken b from) b) where
+  pub refused-keeps : not fits ≡ true → b₁ ≡ b
+  refused-keeps h = e ∙ ap (λ (x : Bool). cond x (taken b from) b) (not-true fits h)
+
+  pub passed-takes : not fits ≡ false → b₁ ≡ taken b from
+  passed-takes h = e ∙ ap (λ (x : Bool). cond x (taken b from) b) (not-false fits h)
 
 module _ (v : Server) (b : List ℕ) (k d : ℕ) (from : ℕ) (m : Message) (s : Served)
     (place : from ≡ upIndex (d - 1) (k - 1)) (first : m ≡ messageAt b from) (result : s ≡ servedOf v d m) where

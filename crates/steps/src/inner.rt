@@ -36,6 +36,7 @@ use crate::transport::has_room_up;
 use crate::transport::oldest;
 use crate::transport::reply;
 use crate::transport::send_up;
+use crate::transport::take_if;
 use crate::transport::up;
 use channel::Slots;
 use client::Client;
@@ -190,10 +191,11 @@ fn serve_oldest(t: Settings, stopped: u8, v: Server, k: u32, d: u32, b: &mut Slo
     let served = server::after(v, d as u8, oldest(b, from));
     let sends = served.sends;
     let next = served.server;
-    if !has_room_down(t, stopped, b, j, d as u8, sends) {
+    let fits = has_room_down(t, stopped, b, j, d as u8, sends);
+    take_if(b, from, fits);
+    if !fits {
         return ServerStep::Refused(Refusal::FullChannel);
     }
-    channel::take(b, from);
     reply(stopped, b, i, j, sends);
     ServerStep::Went(next)
 }

@@ -1,10 +1,10 @@
 // Room on the channels, and messages put on them. A client and a server are named by their places, counted from 0.
-ghost use mathlib.Core.Bool.{_||_};
+ghost use mathlib.Core.Bool.{cond, _||_};
 ghost use mathlib.Core.Path.{_≡_};
 ghost use lib.Dec.{leb};
 ghost use lib.ListN.{length};
 ghost use Prim.Native.Nat.{suc, _+_, _≤_, _<_};
-ghost use Rattle.channel.specs.Memory.{countAt};
+ghost use Rattle.channel.specs.Memory.{countAt, taken};
 ghost use Rattle.client.specs.Sends.{messagesOf};
 ghost use Rattle.register.specs.Server.{forwards, sent, sentTo};
 ghost use Rattle.register.specs.Thresholds.{size};
@@ -127,6 +127,16 @@ pub fn oldest(b: &Slots, c: usize) -> Message
     match message::of_words(channel::oldest(b, c)) {
         Unpacked::Good(m) => m,
         Unpacked::Bad => Message::Done,
+    }
+}
+
+// Takes the oldest message off a channel if the reply to it fits; if not, the channel stays as it is.
+pub fn take_if(b: &mut Slots, c: usize, fits: bool)
+    requires { ⌜ c < 156 ⌝ }
+    ensures { λ r. ⌜ now (b .exit) ≡ cond fits (taken (now (b .entry)) c) (now (b .entry)) ⌝ }
+{
+    if fits {
+        channel::take(b, c);
     }
 }
 

@@ -1,5 +1,4 @@
--- The listing of 01, 'The program rehearse': one server, one client; a write, then a read, step by step with
--- their
+-- The listing of 01, 'The program rehearse': one server, one client; a write, then a read, step by step with their
 -- answers.
 -- Assumes nothing.
 use mathlib.Core.Path.{_≡_, refl}

@@ -1,10 +1,8 @@
--- In the run of `Disagree` no rows of the two reads agree on its two writes: the first row has the write of
--- step 0 before that of
--- step 16, the second has them the other way round. So 01 cannot ask for agreement on all writes.
+-- In the run of `Disagree` no rows of the two reads agree on its two writes: the first row has the write of step 0
+-- before that of step 16, the second has them the other way round. So 01 cannot ask for agreement on all writes.
 --
--- Why: both reads show the pair of the write of step 0, so each stands right after it. The first read ended
--- before the write of step
--- 16 began, and this write ended before the second read began.
+-- Why: both reads show the pair of the write of step 0, so each stands right after it. The first read ended before
+-- the write of step 16 began, and this write ended before the second read began.
 -- In order: what the run answers; its operations; places in a row; the two rows.
 -- Assumes nothing.
 use mathlib.Core.Path.{_≡_, refl, sym, ap, _∙_, subst}

@@ -1,175 +1,176 @@
--- `main`: the program starts with a sound state, and keeps one whatever it does next (`Keeping`).
+-- `main`: from turn to turn the program is where the definition of its turns says (`Going`).
+--
+-- In order: the start; the block that is read; its lines; what they print; what is kept, and the next turn.
 -- Assumes nothing.
-use Prim.Native.Nat.{_+_, _≤_}
-use mathlib.Core.Path.{_≡_, sym, ap, _∙_}
+use Prim.Native.Nat.{_+_, _*_, _≤_}
+use mathlib.Core.Path.{_≡_, sym, _∙_}
 use native.Mathlib.Omega.{arith}
+use lib.ListN.{length, take, drop}
+use lib.Seq.{length-take-le}
 use borrow.Author.Needs.{needs}
-use Rattle.basics.proofs.Cases.{by-either}
-use Rattle.system.specs.Setup.{settingsBy}
-use Rattle.rehearse.specs.declared.Room.{Room}
-use Rattle.rehearse.specs.Turns.{asks}
-use Rattle.rehearse.proofs.Blocks.{taken-length}
-use Rattle.rehearse.proofs.Keeping.{Going, same-going, first-fine, lines-fine, setup-fine, flushed-fine, more-fine}
-use Rattle.rehearse.proofs.Setups.{setup-allowed, first-allowed, setup-sound}
+use Rattle.script.proofs.Writing.{keeps}
+use Rattle.rehearse.specs.Blocks.{stageIn}
+use Rattle.rehearse.proofs.Going.{Going, none-read, one-turn}
+use Rattle.rehearse.proofs.Staying.{first-sound}
 use Rattle.rehearse.proofs.main.Statement.{statement}
 use Rattle.rehearse.proofs.main.Tie as tie
 
 abbrev Inv-loop : tie.InvT-loop
-Inv-loop b₀ r₀ input₀ out₀ q₀ turns₀ b r input out q turns = Going q b r input out
+Inv-loop b₀ r₀ input₀ out₀ q₀ have₀ turns₀ b r input out q have turns =
+    Going (stageIn q₀ b₀ r₀) q b r input have out
 
 abbrev μ-loop : tie.MeasureT-loop
-μ-loop b₀ r₀ input₀ out₀ q₀ turns₀ b r input out q turns = turns
+μ-loop b₀ r₀ input₀ out₀ q₀ have₀ turns₀ b r input out q have turns = turns
+
+-- ---- the start
 
 empty-slots-requires : tie.Need-empty-slots-requires Inv-loop μ-loop
 empty-slots-requires c κs = search needs
 
-large-buffer-requires : tie.Need-large-buffer-requires Inv-loop μ-loop
-large-buffer-requires c κs = search needs
+new-input-requires : tie.Need-new-input-requires Inv-loop μ-loop
+new-input-requires c κs = search needs
 
-large-buffer-requires-2 : tie.Need-large-buffer-requires-2 Inv-loop μ-loop
-large-buffer-requires-2 c κs = search needs
+new-output-requires : tie.Need-new-output-requires Inv-loop μ-loop
+new-output-requires c κs = search needs
 
 set-up-requires : tie.Need-set-up-requires Inv-loop μ-loop
 set-up-requires c κs = search needs
 
-room-of-requires : tie.Need-room-of-requires Inv-loop μ-loop
-room-of-requires c κs = search needs
+turn-of-requires : tie.Need-turn-of-requires Inv-loop μ-loop
+turn-of-requires c κs = search needs
 
 loop-holds : tie.Need-loop-holds Inv-loop μ-loop
 loop-holds c =
-    record {
-      fine =
-          first-fine (c .room-of .ensures)
-          (setup-sound (settingsBy 0 1 0) first-allowed _ _ _ (c .before .set-up .ensures));
-      long = sym (c .before .before .before .before .before .large-buffer .ensures);
-      wide = sym (c .before .before .before .before .large-buffer2 .ensures);
-    }
+    let set = c .before in
+    let made = set .before .before .before in
+    none-read (c .turn-of .ensures) (first-sound _ _ _ (set .set-up .ensures))
+    (sym (made .before .new-input .ensures)) (sym (made .new-output .ensures))
 
--- ---- lines
+-- ---- the block
 
-enum-told : tie.Need-enum-told Inv-loop μ-loop
-enum-told c = search needs
+slice-aggregate-read-behind : tie.Need-slice-aggregate-read-behind Inv-loop μ-loop
+slice-aggregate-read-behind c = sym (c .before .before .loop .inv .long)
 
-array-share-prefix-input : tie.Need-array-share-prefix-input Inv-loop μ-loop
-array-share-prefix-input c = let few = c .before .before .before .loop .inv .fine .within in search needs
-
-slice-aggregate-take-lines : tie.Need-slice-aggregate-take-lines Inv-loop μ-loop
-slice-aggregate-take-lines c =
-    let l = c .before .before .before .before .loop .inv in
-    let few = l .fine .within in
-    let long = l .long in
-    taken-length _ _ (omega arith)
-
-slice-aggregate-take-lines-2 : tie.Need-slice-aggregate-take-lines-2 Inv-loop μ-loop
-slice-aggregate-take-lines-2 c = sym (c .before .before .before .before .before .loop .inv .wide)
-
-take-lines-requires : tie.Need-take-lines-requires Inv-loop μ-loop
-take-lines-requires c κs =
-    let l = c .before .before .before .before .before .before .before .loop .inv in
-    let few = l .fine .within in
-    let long = l .long in
-    let wide = l .wide in
-    let room = l .fine .room in
-    (l .fine, sym (taken-length _ _ (omega arith)), omega arith)
-
--- ---- a setup's line
-
-enum-known-need : tie.Need-enum-known-need Inv-loop μ-loop
-enum-known-need c = search needs
-
-settings-of-requires : tie.Need-settings-of-requires Inv-loop μ-loop
-settings-of-requires c κs = search needs
-
-slice-aggregate-take-setup : tie.Need-slice-aggregate-take-setup Inv-loop μ-loop
-slice-aggregate-take-setup c = sym (c .before .before .before .before .before .before .loop .inv .wide)
-
-take-setup-requires : tie.Need-take-setup-requires Inv-loop μ-loop
-take-setup-requires c κs =
-    let l = c .before .before .before .before .before .before .before .before .loop .inv in
-    let asked = ap asks (c .before .before .before .before .before .need .given .1) in
-    let wide = l .wide in
-    let room = l .fine .room in
-    (setup-allowed _ _ _ _ (c .before .before .before .settings-of .ensures), l .fine, omega arith)
-
--- ---- output, and more input
-
-enum-told-2 : tie.Need-enum-told-2 Inv-loop μ-loop
-enum-told-2 c = search needs
-
-slice-aggregate-flush : tie.Need-slice-aggregate-flush Inv-loop μ-loop
-slice-aggregate-flush c = sym (c .before .before .before .before .loop .inv .wide)
-
-flush-requires : tie.Need-flush-requires Inv-loop μ-loop
-flush-requires c κs =
-    let l = c .before .before .before .before .loop .inv in
-    let wide = l .wide in
-    let room = l .fine .room in
+read-behind-requires : tie.Need-read-behind-requires Inv-loop μ-loop
+read-behind-requires c κs =
+    let g = c .before .before .loop .inv in
+    let few = g .few in
+    let long = g .long in
     omega arith
 
-enum-told-3 : tie.Need-enum-told-3 Inv-loop μ-loop
-enum-told-3 c = search needs
+-- it keeps its length
+read-long : (c : tie.After-read-behind Inv-loop μ-loop) → length (c .read-behind .last .0) ≡ 16384
+read-long c = c .read-behind .kept .0 ∙ c .before .before .before .loop .inv .long
 
-slice-aggregate-flush-2 : tie.Need-slice-aggregate-flush-2 Inv-loop μ-loop
-slice-aggregate-flush-2 c = sym (c .before .before .before .before .loop .inv .wide)
+slice-aggregate-close : tie.Need-slice-aggregate-close Inv-loop μ-loop
+slice-aggregate-close c = sym (read-long (c .before .before))
 
-flush-requires-2 : tie.Need-flush-requires-2 Inv-loop μ-loop
-flush-requires-2 c κs =
-    let l = c .before .before .before .before .loop .inv in
-    let wide = l .wide in
-    let room = l .fine .room in
+close-requires : tie.Need-close-requires Inv-loop μ-loop
+close-requires c κs =
+    let read = c .before .before in
+    let few = read .before .before .before .loop .inv .few in
+    let long = read-long read in
+    (omega arith, read .read-behind .ensures .1)
+
+closed-long : (c : tie.After-close Inv-loop μ-loop) → length (c .close .last .0) ≡ 16384
+closed-long c = c .close .kept .0 ∙ read-long (c .before .before .before)
+
+closed-fits : (c : tie.After-close Inv-loop μ-loop) → c .close .result ≤ 16384
+closed-fits c =
+    let long = read-long (c .before .before .before) in
+    let fits = c .close .ensures .fits in
+    let ends = c .close .ensures .ends in
     omega arith
-
-slice-aggregate-read-more : tie.Need-slice-aggregate-read-more Inv-loop μ-loop
-slice-aggregate-read-more c = sym (c .before .before .before .before .before .before .loop .inv .long)
-
-read-more-requires : tie.Need-read-more-requires Inv-loop μ-loop
-read-more-requires c κs = c .before .before .before .before .before .before .loop .inv .long
-
-enum-told-4 : tie.Need-enum-told-4 Inv-loop μ-loop
-enum-told-4 c = search needs
 
 returns : tie.Need-returns Inv-loop μ-loop
 returns c = search needs
 
--- ---- and again
+-- ---- its lines
+
+array-share-prefix-input : tie.Need-array-share-prefix-input Inv-loop μ-loop
+array-share-prefix-input c = let fits = closed-fits (c .before .before) in search needs
+
+-- a part of the block has the length that it was cut to
+block-long : (c : tie.After-close Inv-loop μ-loop) → c .close .result ≤ length (c .close .last .0)
+block-long c = let fits = closed-fits c in let long = closed-long c in omega arith
+
+slice-aggregate-take-lines : tie.Need-slice-aggregate-take-lines Inv-loop μ-loop
+slice-aggregate-take-lines c = sym (length-take-le _ _ (block-long (c .before .before .before)))
+
+slice-aggregate-take-lines-2 : tie.Need-slice-aggregate-take-lines-2 Inv-loop μ-loop
+slice-aggregate-take-lines-2 c =
+    let closed = c .before .before .before .before in
+    sym (closed .before .before .before .before .before .before .loop .inv .wide)
+
+take-lines-requires : tie.Need-take-lines-requires Inv-loop μ-loop
+take-lines-requires c κs =
+    let closed = c .before .before .before .before .before .before in
+    let g = closed .before .before .before .before .before .before .loop .inv in
+    let wide = g .wide in
+    let fits = closed-fits closed in
+    let long = length-take-le (closed .close .result) (closed .close .last .0) (block-long closed) in
+    (g .sound, omega arith)
+
+-- ---- what they print
+
+-- where the block was closed whose lines were taken
+abbrev closing : tie.After-take-lines Inv-loop μ-loop → tie.After-close Inv-loop μ-loop
+closing c = c .before .before .before .before .before .before .before
+
+-- it fits the space for it
+printed-fits : (c : tie.After-take-lines Inv-loop μ-loop) → c .take-lines .result .used ≤ 1310720
+printed-fits c =
+    let wide = closing c .before .before .before .before .before .before .loop .inv .wide in
+    let fits = c .take-lines .ensures .text .fits in
+    let ends = c .take-lines .ensures .text .ends in
+    omega arith
+
+printed-long : (c : tie.After-take-lines Inv-loop μ-loop) → c .take-lines .result .used ≤ length (c .take-lines .last .1 .1 .0)
+printed-long c =
+    let fits = c .take-lines .ensures .text .fits in
+    let ends = c .take-lines .ensures .text .ends in
+    let same = keeps (c .take-lines .ensures .text) in
+    omega arith
+
+array-share-prefix-out : tie.Need-array-share-prefix-out Inv-loop μ-loop
+array-share-prefix-out c = let fits = printed-fits (c .before) in search needs
+
+slice-aggregate-write-all : tie.Need-slice-aggregate-write-all Inv-loop μ-loop
+slice-aggregate-write-all c = sym (length-take-le _ _ (printed-long (c .before .before)))
+
+write-all-requires : tie.Need-write-all-requires Inv-loop μ-loop
+write-all-requires c κs = search needs
+
+-- ---- what is kept, and the next turn
+
+slice-aggregate-keep : tie.Need-slice-aggregate-keep Inv-loop μ-loop
+slice-aggregate-keep c = sym (closed-long (closing (c .before .before .before .before)))
+
+keep-requires : tie.Need-keep-requires Inv-loop μ-loop
+keep-requires c κs = search needs
 
 sub-turns : tie.Need-sub-turns Inv-loop μ-loop
-sub-turns c = search needs
+sub-turns c =
+    let taken = c .before .before .before .before .before .before in
+    let test = closing taken .before .before .before .before .before .loop-test .taken in
+    search needs
 
 loop-less : tie.Need-loop-less Inv-loop μ-loop
-loop-less c = search needs
+loop-less c =
+    let taken = c .before .before .before .before .before .before in
+    let test = closing taken .before .before .before .before .before .loop-test .taken in
+    omega arith
 
 loop-again : tie.Need-loop-again Inv-loop μ-loop
 loop-again c =
-    let l = c .before .before .loop .inv in
-    let few = l .fine .within in
-    let long = l .long in
-    by-either (c .match .came)
-    (λ w. same-going (w .8) (w .9) (w .10) (w .11) (w .12)
-    (record {
-      fine = lines-fine (w .6 .ensures) (sym (taken-length _ _ (omega arith))) (l .fine .within) (l .wide);
-      long = l .long;
-      wide = w .6 .kept .1 .1 .0 ∙ l .wide;
-    }))
-    (λ v. by-either v
-    (λ w. same-going (w .9) (w .10) (w .11) (w .12) (w .13)
-    (record {
-      fine = setup-fine (w .7 .ensures) (l .fine) (l .wide);
-      long = l .long;
-      wide = w .7 .kept .1 .1 .0 ∙ l .wide;
-    }))
-    (λ u. by-either u
-    (λ w. same-going (w .4) (w .5) (w .6) (w .7) (w .8)
-    (record { fine = flushed-fine (w .3 .ensures) (l .fine); long = l .long; wide = l .wide }))
-    (λ w. same-going (w .7) (w .8) (w .9) (w .10) (w .11)
-    (record {
-      fine =
-          more-fine (w .5 .ensures) (flushed-fine (w .3 .ensures) (l .fine) .sound)
-          (ap (λ (z : Room). z .used) (w .3 .ensures))
-          (w .5 .kept .1 .0 ∙ l .long);
-      long = w .5 .kept .1 .0 ∙ l .long;
-      wide = l .wide;
-    }))))
+    let taken = c .before .before .before .before .before .before in
+    let test = taken .before .before .before .before .before in
+    let closed = test .before .before in
+    let read = closed .before .before .before in
+    let l = read .before .before .before .loop in
+    one-turn (l .inv) (read .read-behind .last .0) (take (read .read-behind .result) (drop (l .have) (read .read-behind .last .0)))
+    (read .read-behind .ensures .0) (closed .close .ensures) (omega (arith, test .if1 .left))
+    (taken .take-lines .ensures) (c .before .keep .ensures) (read-long read) (keeps (taken .take-lines .ensures .text))
 
 returns-2 : tie.Need-returns-2 Inv-loop μ-loop
 returns-2 c = search needs
@@ -181,30 +182,25 @@ main-spec =
     Inv-loop
     μ-loop
     empty-slots-requires
-    large-buffer-requires
-    large-buffer-requires-2
+    new-input-requires
+    new-output-requires
     set-up-requires
-    room-of-requires
+    turn-of-requires
     loop-holds
-    enum-told
+    slice-aggregate-read-behind
+    read-behind-requires
+    slice-aggregate-close
+    close-requires
+    returns
     array-share-prefix-input
     slice-aggregate-take-lines
     slice-aggregate-take-lines-2
     take-lines-requires
-    enum-known-need
-    settings-of-requires
-    slice-aggregate-take-setup
-    take-setup-requires
-    enum-told-2
-    slice-aggregate-flush
-    flush-requires
-    enum-told-3
-    slice-aggregate-flush-2
-    flush-requires-2
-    slice-aggregate-read-more
-    read-more-requires
-    enum-told-4
-    returns
+    array-share-prefix-out
+    slice-aggregate-write-all
+    write-all-requires
+    slice-aggregate-keep
+    keep-requires
     sub-turns
     loop-less
     loop-again

@@ -1,4 +1,4 @@
--- `copied`: after i turns the first i numbers are copied.
+-- `copied`: after k turns the first k numbers are copied.
 -- Assumes nothing.
 use Prim.Native.Nat.{ℕ, _+_, _-_, _≤_, _<_}
 use mathlib.Core.Path.{_≡_, refl, sym, ap, _∙_}
@@ -13,10 +13,10 @@ use Rattle.replies.proofs.copied.Statement.{statement}
 use Rattle.replies.proofs.copied.Tie as tie
 
 abbrev Inv-loop : tie.InvT-loop
-Inv-loop r x₀ i₀ x i = (i ≤ 91) × (length x ≡ 91) × (x ≡ take i r ++ drop i (replicate 91 0))
+Inv-loop r x₀ k₀ x k = (k ≤ 91) × (length x ≡ 91) × (x ≡ take k r ++ drop k (replicate 91 0))
 
 abbrev μ-loop : tie.MeasureT-loop
-μ-loop r x₀ i₀ x i = 91 - i
+μ-loop r x₀ k₀ x k = 91 - k
 
 loop-holds : tie.Need-loop-holds Inv-loop μ-loop
 loop-holds c = (omega arith, length-replicate {A = ℕ} 91 0, refl)
@@ -33,8 +33,8 @@ mul-x-2 c = search needs
 array-write-x : tie.Need-array-write-x Inv-loop μ-loop
 array-write-x c = search needs
 
-add-i : tie.Need-add-i Inv-loop μ-loop
-add-i c = search needs
+add-k : tie.Need-add-k Inv-loop μ-loop
+add-k c = search needs
 
 loop-less : tie.Need-loop-less Inv-loop μ-loop
 loop-less c = search needs
@@ -51,16 +51,16 @@ loop-again c =
     let l = c .before .before .loop in
     let r = c .before .before .before .args .r .now in (
       omega arith,
-      length-set (l .x) (l .i) (getD r (l .i) 0) ∙ l .inv .1,
-      ap (λ (x : List ℕ). set x (l .i) (getD r (l .i) 0)) (l .inv .2)
-          ∙ copy-more r (replicate 91 0) (l .i) (omega (arith, length-replicate {A = ℕ} 91 0)) (omega arith),
+      length-set (l .x) (l .k) (getD r (l .k) 0) ∙ l .inv .1,
+      ap (λ (x : List ℕ). set x (l .k) (getD r (l .k) 0)) (l .inv .2)
+          ∙ copy-more r (replicate 91 0) (l .k) (omega (arith, length-replicate {A = ℕ} 91 0)) (omega arith),
     )
 
 returns : tie.Need-returns Inv-loop μ-loop
 returns c =
     let l = c .before .loop in
     let r = c .before .before .args .r .now in
-    let end : l .i ≡ 91 = omega arith in
+    let end : l .k ≡ 91 = omega arith in
     l .inv .2 ∙ ap (λ (k : ℕ). take k r ++ drop k (replicate 91 0)) end ∙ append-nil (take 91 r)
     ∙ take-all 91 r (omega arith)
 
@@ -75,7 +75,7 @@ copied-spec =
     shared-slice-read-x
     mul-x-2
     array-write-x
-    add-i
+    add-k
     loop-less
     loop-again
     returns)

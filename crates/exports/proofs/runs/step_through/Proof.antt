@@ -20,11 +20,11 @@ use Rattle.exports.proofs.runs.step_through.Statement.{statement}
 use Rattle.exports.proofs.runs.step_through.Tie as tie
 
 abbrev Inv-loop : tie.InvT-loop
-Inv-loop steps n out₀ b₀ r₀ s₀ i₀ out b r s i =
-    (i ≤ n) × (length out ≡ length out₀) × Run (s₀ .settings) steps out₀ n i s b r out
+Inv-loop steps n out₀ b₀ r₀ last₀ i₀ out b r last i =
+    (i ≤ n) × (length out ≡ length out₀) × Run (last₀ .system .settings) steps out₀ n i (last .system) b r out
 
 abbrev μ-loop : tie.MeasureT-loop
-μ-loop steps n out₀ b₀ r₀ s₀ i₀ out b r s i = n - i
+μ-loop steps n out₀ b₀ r₀ last₀ i₀ out b r last i = n - i
 
 empty-slots-requires : tie.Need-empty-slots-requires Inv-loop μ-loop
 empty-slots-requires c κs = search needs
@@ -47,7 +47,7 @@ step-requires c κs = search needs
 
 write-answer-requires : tie.Need-write-answer-requires Inv-loop μ-loop
 write-answer-requires c κs =
-    let inside = c .before .before .before .before .before .before in
+    let inside = c .before .before .before .before .before .before .before in
     let p = inside .before .before .before .before .before .before .before .pre .2 in
     let same = inside .loop .inv .1 in
     omega arith
@@ -64,9 +64,9 @@ loop-less c = search needs
 
 loop-again : tie.Need-loop-again Inv-loop μ-loop
 loop-again c =
-    let written = c .before .before .before in
+    let written = c .before .before in
     let stepped = written .before .before in
-    let read = stepped .before .before .before in
+    let read = stepped .before .before .before .before in
     let test = read .before in
     let l = test .before .loop in
     let set = test .before .before in
@@ -78,7 +78,7 @@ loop-again c =
       omega arith,
       search needs,
       step-more u (allowed-facts u kept) (a .steps .now) (a .n) (a .out .now) (l .i) (test .loop-test .taken)
-          (l .s) (l .b) (l .r) (l .out) (l .inv .2) (read .step-in .result) (read .step-in .ensures) _ _ _ _ _
+          (l .last .system) (l .b) (l .r) (l .out) (l .inv .2) (read .step-in .result) (read .step-in .ensures) _ _ _ _ _
           (stepped .step .ensures) (written .write-answer .ensures),
     )
 

@@ -1,0 +1,135 @@
+-- From turn to turn the program is where the definition of its turns says (`Blocks.turns`), for the parts of input that it has
+-- read: it knows what that says, and what stands at the start of its block is what that keeps.
+--
+-- Why: each deed of a turn has an equation for its contract, and together they are one turn. A last line without its end gets
+-- one, as if it had been read.
+-- In order: parts; a block and what is kept of it; one turn more.
+-- Assumes nothing.
+use mathlib.Core.Path.{_≡_, refl, sym, ap, subst, _∙_}
+use mathlib.Core.Bool.{true, false}
+use mathlib.Core.List.{List, [], _∷_, _++_}
+use Prim.Native.Nat.{ℕ, zero, suc, _+_, _-_, _≤_, _<_}
+use native.Mathlib.Nat.{zero-add}
+use native.Mathlib.Omega.{arith}
+use lib.ListN.{length, take, drop, length-take}
+use lib.Seq.{take-nil, take-append-seam}
+use Rattle.basics.proofs.Cases.{clash}
+use Rattle.script.specs.Lines.{kept}
+use Rattle.script.specs.Writing.{Written}
+use Rattle.script.proofs.Writing.{keeps}
+use Rattle.state.specs.declared.System.{System}
+use Rattle.state.specs.Sound.{isSound}
+use Rattle.rehearse.specs.declared.lines.Turn.{Turn}
+use Rattle.rehearse.specs.Saying.{Stage, stageAfter}
+use Rattle.rehearse.specs.Blocks.{wholeLines, lengthOf, cutLine, joined, turnOf, stageIn, LinesTaken, Progress, progress, turn, turns}
+use Rattle.rehearse.proofs.Staying.{Sound, stage-sound}
+
+-- ---- parts
+
+-- one part more
+turns-more : (g : Progress) (xs : List (List ℕ)) (x : List ℕ) → turns g (xs ++ x ∷ []) ≡ turn (turns g xs) x
+unfolding turns
+turns-more g [] x = refl
+turns-more g (y ∷ xs) x = turns-more (turn g y) xs x
+
+-- what a block has behind what was kept: what was read, or the end of the last line
+partOf : List ℕ → List ℕ
+partOf [] = 10 ∷ []
+partOf (x ∷ xs) = x ∷ xs
+
+joined-part : (left xs : List ℕ) → 0 < length (joined left xs) → joined left xs ≡ left ++ partOf xs
+unfolding partOf
+joined-part [] [] h = clash (omega arith)
+joined-part (y ∷ left) [] h = refl
+joined-part left (x ∷ xs) h = refl
+
+-- ---- a block, and what is kept of it
+
+-- what is written at the start of a buffer is what the buffer starts with
+pub starts : {text s s′ : List ℕ} {r : ℕ} → Written text s 0 r s′ → take r s′ ≡ text
+starts {text} {s} {s′} {r} w =
+    let many : r ≡ length text = w .ends ∙ zero-add (length text) in
+    ap (λ (k : ℕ). take k s′) many ∙ ap (take (length text)) (w .holds) ∙ take-append-seam text (drop (0 + length text) s)
+
+-- a part of a list, from a place on up to another
+part-is : (at n : ℕ) (s : List ℕ) → take (n - at) (drop at s) ≡ drop at (take n s)
+part-is zero n s = let e : n - 0 ≡ n = omega arith in ap (λ (k : ℕ). take k s) e
+part-is (suc at) zero s =
+    let e : 0 - suc at ≡ 0 = omega arith in ap (λ (k : ℕ). take k (drop (suc at) s)) e
+part-is (suc at) (suc n) [] = take-nil (suc n - suc at)
+part-is (suc at) (suc n) (x ∷ s) =
+    let e : suc n - suc at ≡ n - at = omega arith in ap (λ (k : ℕ). take k (drop at s)) e ∙ part-is at n s
+
+kept-is : (s block : List ℕ) (at n : ℕ) → take n s ≡ block → kept s at n ≡ take 65 (drop at block)
+kept-is s block at n e = ap (take 65) (part-is at n s ∙ ap (drop at) e)
+
+-- ---- one turn more
+
+-- the program q, with the slots b and the replies r, has `have` bytes of a line at the start of its block
+pub record Going (start : Stage) (q : Turn) (b r input : List ℕ) (have : ℕ) (out : List ℕ) : Type 0 where
+  pub parts : List (List ℕ)
+  pub known : stageIn q b r ≡ turns (progress start [] []) parts .known
+  pub left : take have input ≡ turns (progress start [] []) parts .left
+  pub sound : Sound (stageIn q b r)
+  pub few : have ≤ 65
+  pub long : length input ≡ 16384
+  pub wide : length out ≡ 1310720
+
+-- at first nothing was read
+pub none-read : {s : System} {q : Turn} {b r input out : List ℕ} → q ≡ turnOf s false 0 0 0 → isSound s b r ≡ true
+    → length input ≡ 16384 → length out ≡ 1310720 → Going (stageIn q b r) q b r input 0 out
+unfolding turns
+none-read {s} {q} {b} {r} is sound long wide =
+    record {
+      parts = [];
+      known = refl;
+      left = refl;
+      sound = subst (λ (z : Turn). Sound (stageIn z b r)) (sym is) sound;
+      few = omega arith;
+      long = long;
+      wide = wide;
+    }
+
+-- bytes xs were read behind what was kept, the block was closed, its lines taken, and the cut one kept
+module _ {start : Stage} {q : Turn} {b r input : List ℕ} {have : ℕ} {out : List ℕ} (g : Going start q b r input have out)
+    (read xs : List ℕ) (same : take have read ≡ take have input)
+    {closed : List ℕ} {total : ℕ} (c : Written (joined (take have read) xs) read 0 total closed) (some : 1 ≤ total)
+    {z : Turn} {b′ r′ out′ : List ℕ} (t : LinesTaken q (take total closed) b r out z b′ r′ out′)
+    {have′ : ℕ} {next : List ℕ} (k : Written (kept closed (z .at) total) closed 0 have′ next) where
+  abbrev before : Progress
+  before = turns (progress start [] []) (g .parts)
+
+  abbrev part : List ℕ
+  part = partOf xs
+
+  block-is : take total closed ≡ before .left ++ part
+  block-is =
+      let ends = c .ends in
+      starts c ∙ joined-part (take have read) xs (omega arith) ∙ ap (λ (l : List ℕ). l ++ part) (same ∙ g .left)
+
+  known-is : stageIn z b′ r′ ≡ stageAfter (before .known) (wholeLines (before .left ++ part))
+  known-is = t .state ∙ (λ i. stageAfter (g .known i) (wholeLines (block-is i)))
+
+  left-is : take have′ next ≡ take 65 (cutLine (before .left ++ part))
+  left-is =
+      starts k ∙ kept-is closed (before .left ++ part) (z .at) total block-is
+      ∙ ap (λ (n : ℕ). take 65 (drop n (before .left ++ part)))
+      (t .place ∙ ap (λ (l : List ℕ). lengthOf (wholeLines l)) block-is)
+
+  pub one-turn : length read ≡ 16384 → length out′ ≡ length out → Going start z b′ r′ next have′ out′
+  one-turn long wide =
+      let turned = turns-more (progress start [] []) (g .parts) part in
+      let ends = k .ends in
+      let closed-long = keeps c in
+      let next-long = keeps k in
+      let was-wide = g .wide in
+      let most : length (kept closed (z .at) total) ≤ 65 = simp length-take (omega arith) in
+      record {
+        parts = g .parts ++ part ∷ [];
+        known = known-is ∙ sym (ap (λ (y : Progress). y .known) turned);
+        left = left-is ∙ sym (ap (λ (y : Progress). y .left) turned);
+        sound = subst Sound (sym (t .state)) (stage-sound (stageIn q b r) (wholeLines (take total closed)) (g .sound));
+        few = omega arith;
+        long = omega arith;
+        wide = omega arith;
+      }

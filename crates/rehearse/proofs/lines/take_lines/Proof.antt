@@ -1,0 +1,333 @@
+-- `take_lines`: the text of the lines so far is written, and the state is that after them. Each line adds its own text; a step
+-- goes by the part of the system that it can change, and with that put back it is the step of the whole (`Parts`).
+--
+-- In order: the lines so far; what a line means; what each kind of step is asked for; what a line leaves; one line more.
+-- Assumes nothing.
+use Prim.Native.Nat.{ℕ, _+_, _≤_, _<_, _-_}
+use mathlib.Core.Path.{_≡_, refl, sym, ap, _∙_}
+use mathlib.Core.Bool.{Bool, _||_}
+use native.Mathlib.Omega.{arith}
+use lib.ListN.{length, getD}
+use borrow.Author.Needs.{needs}
+use Rattle.basics.proofs.Cases.{by-either}
+use Rattle.script.proofs.Writing.{keeps}
+use Rattle.script.specs.declared.next.Found.{Found}
+use Rattle.register.specs.declared.Step.{Step}
+use Rattle.server.specs.declared.Server.{Server}
+use Rattle.state.specs.declared.Session.{Session}
+use Rattle.state.specs.State.{emptyServer, emptySession}
+use Rattle.state.proofs.SoundFacts.{facts}
+use Rattle.steps.specs.declared.inner.ClientStep.the-variants as client
+use Rattle.steps.specs.declared.inner.ServerStep.the-variants as server
+use Rattle.steps.specs.Ready.{Ready}
+use Rattle.steps.proofs.ReadyParts.{client-ready}
+use Rattle.system.specs.Ends.{serverPlace, clientPlace}
+use Rattle.system.proofs.EndLaws.{server-within, client-within}
+use Rattle.system.proofs.ReadyLaws.{ready}
+use Rattle.rehearse.specs.declared.lines.Heard.{Heard}
+use Rattle.rehearse.specs.Saying.{Stage, stage}
+use Rattle.rehearse.proofs.Hearing.{Means, means}
+use Rattle.rehearse.proofs.Parts.{server-ready, other-ready}
+use Rattle.rehearse.proofs.Parts.{server-went, server-refused, client-done, client-refused, other-went, other-refused}
+use Rattle.rehearse.proofs.Taking.{Left, left-unread, left-setup, left-step, renamed}
+use Rattle.rehearse.proofs.Taking.{Taken, none-yet, room, one-more, at-end, lines-taken}
+use Rattle.rehearse.proofs.lines.take_lines.Statement.{statement}
+use Rattle.rehearse.proofs.lines.take_lines.Tie as tie
+
+-- ---- the lines so far
+
+abbrev Inv-loop : tie.InvT-loop
+Inv-loop input out₀ b₀ r₀ u₀ is-set₀ number₀ at₀ used₀ out b r u is-set number at used =
+    Taken (stage is-set₀ u₀ b₀ r₀ number₀) input out₀ (stage is-set u b r number) at used out
+
+abbrev μ-loop : tie.MeasureT-loop
+μ-loop input out₀ b₀ r₀ u₀ is-set₀ number₀ at₀ used₀ out b r u is-set number at used = length input - at
+
+loop-holds : tie.Need-loop-holds Inv-loop μ-loop
+loop-holds c = none-yet (c .before .before .before .pre .0)
+
+next-requires : tie.Need-next-requires Inv-loop μ-loop
+next-requires c κs = search needs
+
+-- ---- the end of the lines
+
+turn-of-requires : tie.Need-turn-of-requires Inv-loop μ-loop
+turn-of-requires c κs = search needs
+
+same-length : tie.Need-same-length Inv-loop μ-loop
+same-length c = keeps (c .before .before .before .before .loop .inv .text)
+
+returns : tie.Need-returns Inv-loop μ-loop
+returns c =
+    lines-taken (c .turn-of .result) (c .turn-of .ensures)
+    (at-end (c .before .before .before .before .loop .inv) _ (c .before .before .before .next .ensures) (c .before .if1 .taken))
+
+-- ---- what a line means
+
+hear-requires : tie.Need-hear-requires Inv-loop μ-loop
+hear-requires c κs = search needs
+
+-- what the program knows where a line is heard, and what the line then means
+abbrev known : tie.After-hear Inv-loop μ-loop → Stage
+known c =
+    let l = c .before .before .before .before .loop in
+    stage (l .is-set) (l .u) (l .b) (l .r) (l .number)
+
+meant : (c : tie.After-hear Inv-loop μ-loop) (h : Heard) → c .hear .result ≡ h
+    → Means (known c) (c .before .before .before .next .result .line) h
+meant c h e = means (known c) (c .before .before .before .next .result .line) h (sym e ∙ c .hear .ensures)
+
+-- a step is asked for what a sound state has
+asked : (c : tie.After-hear Inv-loop μ-loop) (x : Step) (j i : ℕ) → j ≡ serverPlace x → i ≡ clientPlace x
+    → (v : Server) (e : Session)
+    → let s = known c .system in
+    Ready (s .settings) (s .stopped) (getD (s .servers) j v) (getD (s .clients) i e) (known c .replies) x
+asked c =
+    let l = c .before .before .before .before .loop in
+    ready (l .u) (l .b) (l .r) (facts (l .u) (l .b) (l .r) (l .inv .sound))
+
+-- ---- a setup, and a line that is not read
+
+enum-known-s : tie.Need-enum-known-s Inv-loop μ-loop
+enum-known-s c = search needs
+
+setup-says-requires : tie.Need-setup-says-requires Inv-loop μ-loop
+setup-says-requires c κs = search needs
+
+set-afresh-requires : tie.Need-set-afresh-requires Inv-loop μ-loop
+set-afresh-requires c κs = search needs
+
+is-accepted-requires : tie.Need-is-accepted-requires Inv-loop μ-loop
+is-accepted-requires c κs = search needs
+
+enum-told : tie.Need-enum-told Inv-loop μ-loop
+enum-told c = search needs
+
+-- ---- a server's step
+
+enum-known-x : tie.Need-enum-known-x Inv-loop μ-loop
+enum-known-x c = search needs
+
+server-place-requires : tie.Need-server-place-requires Inv-loop μ-loop
+server-place-requires c κs = search needs
+
+server-inside : (c : tie.After-server-place Inv-loop μ-loop) → c .server-place .result < 13
+server-inside c = rw (c .server-place .ensures) (server-within _)
+
+mul-server-step : tie.Need-mul-server-step Inv-loop μ-loop
+mul-server-step c = let at = server-inside (c .before) in search needs
+
+element-copy-out-server-step : tie.Need-element-copy-out-server-step Inv-loop μ-loop
+element-copy-out-server-step c = server-inside (c .before)
+
+server-step-requires : tie.Need-server-step-requires Inv-loop μ-loop
+server-step-requires c κs =
+    let place = c .before .before .before in
+    let told = place .before .before in
+    let h = told .before .before in
+    server-ready (asked h _ _ _ (place .server-place .ensures) refl _ emptySession) (meant h _ (told .x .given .1) .1)
+
+enum-known-w : tie.Need-enum-known-w Inv-loop μ-loop
+enum-known-w c = search needs
+
+server-anew-requires : tie.Need-server-anew-requires Inv-loop μ-loop
+server-anew-requires c κs = search needs
+
+mul-t46 : tie.Need-mul-t46 Inv-loop μ-loop
+mul-t46 c = let at = server-inside (c .before .before .before .before .before .before .before .before) in search needs
+
+element-set-from-u : tie.Need-element-set-from-u Inv-loop μ-loop
+element-set-from-u c = server-inside (c .before .before .before .before .before .before .before .before)
+
+enum-known-n : tie.Need-enum-known-n Inv-loop μ-loop
+enum-known-n c = search needs
+
+refused-requires : tie.Need-refused-requires Inv-loop μ-loop
+refused-requires c κs = search needs
+
+-- ---- a client's step
+
+enum-known-x-2 : tie.Need-enum-known-x-2 Inv-loop μ-loop
+enum-known-x-2 c = search needs
+
+client-place-requires : tie.Need-client-place-requires Inv-loop μ-loop
+client-place-requires c κs = search needs
+
+client-inside : (c : tie.After-client-place Inv-loop μ-loop) → c .client-place .result < 6
+client-inside c = rw (c .client-place .ensures) (client-within _)
+
+mul-client-step : tie.Need-mul-client-step Inv-loop μ-loop
+mul-client-step c = let at = client-inside (c .before) in search needs
+
+element-copy-out-client-step : tie.Need-element-copy-out-client-step Inv-loop μ-loop
+element-copy-out-client-step c = client-inside (c .before)
+
+client-step-requires : tie.Need-client-step-requires Inv-loop μ-loop
+client-step-requires c κs =
+    let place = c .before .before .before .before in
+    let told = place .before .before in
+    let h = told .before .before in (
+      client-ready (asked h _ _ _ refl (place .client-place .ensures) emptyServer _),
+      meant h _ (told .x2 .given .1) .1,
+    )
+
+enum-known-a : tie.Need-enum-known-a Inv-loop μ-loop
+enum-known-a c = search needs
+
+client-anew-requires : tie.Need-client-anew-requires Inv-loop μ-loop
+client-anew-requires c κs = search needs
+
+mul-t59 : tie.Need-mul-t59 Inv-loop μ-loop
+mul-t59 c =
+    let at = client-inside (c .before .before .before .before .before .before .before .before .before) in search needs
+
+element-set-from-u-2 : tie.Need-element-set-from-u-2 Inv-loop μ-loop
+element-set-from-u-2 c = client-inside (c .before .before .before .before .before .before .before .before .before)
+
+enum-known-n-2 : tie.Need-enum-known-n-2 Inv-loop μ-loop
+enum-known-n-2 c = search needs
+
+refused-requires-2 : tie.Need-refused-requires-2 Inv-loop μ-loop
+refused-requires-2 c κs = search needs
+
+-- ---- another step
+
+enum-known-x-3 : tie.Need-enum-known-x-3 Inv-loop μ-loop
+enum-known-x-3 c = search needs
+
+other-step-requires : tie.Need-other-step-requires Inv-loop μ-loop
+other-step-requires c κs =
+    let told = c .before .before .before in
+    let h = told .before .before in
+    other-ready (asked h (told .x3 .given .0 .0) _ _ refl refl emptyServer emptySession) (meant h _ (told .x3 .given .1) .1)
+
+enum-known-w-2 : tie.Need-enum-known-w-2 Inv-loop μ-loop
+enum-known-w-2 c = search needs
+
+enum-known-n-3 : tie.Need-enum-known-n-3 Inv-loop μ-loop
+enum-known-n-3 c = search needs
+
+refused-requires-3 : tie.Need-refused-requires-3 Inv-loop μ-loop
+refused-requires-3 c κs = search needs
+
+-- ---- what a line leaves
+
+leaves : (c : tie.At-match-came Inv-loop μ-loop)
+    → Left (known (c .before)) (c .before .before .before .before .next .result .line) (c .match .what)
+    (c .match .is-set) (c .match .u) (c .match .b) (c .match .r)
+leaves c =
+    let l = c .before .before .before .before .before .loop in
+    let s = l .inv .sound in
+    by-either (c .match .came)
+    (λ w. renamed (w .8) (w .9) (w .10) (w .11 ∙ ap (λ (t : Bool). l .is-set || t) (w .7 .ensures)) (w .12)
+    (left-setup (meant (c .before) _ (w .1 .given .1)) (w .3 .ensures) (w .6 .ensures)))
+    (λ more. by-either more
+    (λ w. renamed (w .2) (w .3) (w .4) (w .5) (w .6) (left-unread (meant (c .before) _ (w .1 .given .1))))
+    (λ more. by-either more
+    (λ w. renamed (w .12) (w .13) (w .14) (w .15) (w .16)
+    (left-step (meant (c .before) _ (w .1 .given .1) .0) _
+    (server-went (l .u) (l .b) (l .r) s _ _ (w .3 .ensures) _ emptySession _ _ (w .7 .ensures) _
+    (w .9 .given .1 ∙ ap server.Went (sym (w .11 .ensures)))) refl))
+    (λ more. by-either more
+    (λ w. renamed (w .12) (w .13) (w .14) (w .15) (w .16)
+    (left-step (meant (c .before) _ (w .1 .given .1) .0) _
+    (server-refused (l .u) (l .b) (l .r) s _ _ (w .3 .ensures) _ emptySession _ _ (w .7 .ensures) _ (w .9 .given .1))
+    (w .11 .ensures)))
+    (λ more. by-either more
+    (λ w. renamed (w .13) (w .14) (w .15) (w .16) (w .17)
+    (left-step (meant (c .before) _ (w .1 .given .1) .0) _
+    (client-done (l .u) (l .b) (l .r) s _ _ (w .3 .ensures) emptyServer _ _ _ _ (w .8 .ensures) _ _
+    (w .10 .given .1 ∙ ap (client.Done (w .10 .given .0 .0)) (sym (w .12 .ensures)))) refl))
+    (λ more. by-either more
+    (λ w. renamed (w .13) (w .14) (w .15) (w .16) (w .17)
+    (left-step (meant (c .before) _ (w .1 .given .1) .0) _
+    (client-refused (l .u) (l .b) (l .r) s _ _ (w .3 .ensures) emptyServer _ _ _ _ (w .8 .ensures) _ (w .10 .given .1))
+    (w .12 .ensures)))
+    (λ more. by-either more
+    (λ w. renamed (w .9) (w .10) (w .11) (w .12) (w .13)
+    (left-step (meant (c .before) _ (w .1 .given .1) .0) _
+    (other-went (l .u) (l .b) (l .r) s _ emptyServer emptySession _ _ (w .5 .ensures) _ (w .7 .given .1)) refl))
+    (λ w. renamed (w .10) (w .11) (w .12) (w .13) (w .14)
+    (left-step (meant (c .before) _ (w .1 .given .1) .0) _
+    (other-refused (l .u) (l .b) (l .r) s _ emptyServer emptySession _ _ (w .5 .ensures) _ (w .7 .given .1))
+    (w .9 .ensures)))))))))
+
+-- ---- one line more
+
+put-line-requires : tie.Need-put-line-requires Inv-loop μ-loop
+put-line-requires c κs =
+    let found = c .before .before .before .before .before in
+    let l = found .before in
+    room (l .loop .inv) _ (found .next .ensures) (c .before .before .before .if1 .left) (l .before .before .before .before .pre .1)
+
+add-at : tie.Need-add-at Inv-loop μ-loop
+add-at c = search needs
+
+next-number-requires : tie.Need-next-number-requires Inv-loop μ-loop
+next-number-requires c κs = search needs
+
+loop-less : tie.Need-loop-less Inv-loop μ-loop
+loop-less c =
+    let tested = c .before .before .before .before .before .before .before .before in
+    let less = tested .if1 .left in
+    let end = ap (λ (z : Found). z .end) (tested .before .before .next .ensures) in
+    omega arith
+
+loop-again : tie.Need-loop-again Inv-loop μ-loop
+loop-again c =
+    let put = c .before .before .before .before in
+    let left = put .before .before in
+    let tested = left .before .before in
+    let found = tested .before .before in
+    one-more (found .before .loop .inv) _ (found .next .ensures) (tested .if1 .left) (leaves left) (put .put-line .ensures)
+    (c .next-number .result) (c .next-number .ensures)
+
+pub take-lines-spec : {M : Type 1} → statement M
+take-lines-spec =
+    tie.close
+    (tie.spec
+    Inv-loop
+    μ-loop
+    loop-holds
+    next-requires
+    turn-of-requires
+    same-length
+    returns
+    hear-requires
+    enum-known-s
+    setup-says-requires
+    set-afresh-requires
+    is-accepted-requires
+    enum-told
+    enum-known-x
+    server-place-requires
+    mul-server-step
+    element-copy-out-server-step
+    server-step-requires
+    enum-known-w
+    server-anew-requires
+    mul-t46
+    element-set-from-u
+    enum-known-n
+    refused-requires
+    enum-known-x-2
+    client-place-requires
+    mul-client-step
+    element-copy-out-client-step
+    client-step-requires
+    enum-known-a
+    client-anew-requires
+    mul-t59
+    element-set-from-u-2
+    enum-known-n-2
+    refused-requires-2
+    enum-known-x-3
+    other-step-requires
+    enum-known-w-2
+    enum-known-n-3
+    refused-requires-3
+    put-line-requires
+    add-at
+    next-number-requires
+    loop-less
+    loop-again)
