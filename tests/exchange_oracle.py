@@ -4,9 +4,9 @@
   exchange_oracle.py            write crates/exchange/stdout
   exchange_oracle.py --check    fail if crates/exchange/stdout is not what this script works out
 
-Nothing here is taken from the crates: keepers and desks are 01's sentences, and every message goes over a wire of its own,
-first in first out. A line for each message when it is put on a wire, and a line for each outcome. First one desk writes,
-reads, writes and reads, and then two desks work at once, each with f = 0 and with f = 1.
+Nothing here is taken from the crates: servers and clients (01: keepers, desks) are 01's sentences, and every message goes over a channel
+(01: wire), first in first out. A line for each message when it is put on a channel, and a line for each outcome. First one client writes,
+reads, writes and reads, and then two clients work at once, each with f = 0 and with f = 1.
 """
 import collections
 import pathlib
@@ -15,14 +15,14 @@ import sys
 STDOUT = pathlib.Path(__file__).resolve().parent.parent / "crates" / "exchange" / "stdout"
 GET_INFO, INFO, DONE, WRITE_INFO, FWD, WRITE_ACK = range(1, 7)
 SET_SIZE = 4
-DESKS = 2
+CLIENTS = 2
 
-Pair = collections.namedtuple("Pair", "counter desk entry")
+Pair = collections.namedtuple("Pair", "counter client entry")
 START = Pair(0, 0, 0)
 
 
 def stamp(pair):
-    return pair.counter, pair.desk
+    return pair.counter, pair.client
 
 
 def licence(year, month, day, copies, state):
@@ -31,40 +31,40 @@ def licence(year, month, day, copies, state):
 
 
 def packed(kind, tag=0, pair=START):
-    """Eleven bytes: kind 4 bits, tag 20, counter 20, desk 4, entry 40; a field not used is zero."""
-    bits = f"{kind:04b}{tag:020b}{pair.counter:020b}{pair.desk:04b}{pair.entry:040b}"
+    """Eleven bytes: kind 4 bits, tag 20, counter 20, client 4, entry 40; a field not used is zero."""
+    bits = f"{kind:04b}{tag:020b}{pair.counter:020b}{pair.client:04b}{pair.entry:040b}"
     return int(bits, 2).to_bytes(11, "big")
 
 
 def unpacked(message):
     bits = f"{int.from_bytes(message, 'big'):088b}"
-    kind, tag, counter, desk, entry = (int(bits[a:b], 2) for a, b in ((0, 4), (4, 24), (24, 44), (44, 48), (48, 88)))
-    return kind, tag, Pair(counter, desk, entry)
+    kind, tag, counter, client, entry = (int(bits[a:b], 2) for a, b in ((0, 4), (4, 24), (24, 44), (44, 48), (48, 88)))
+    return kind, tag, Pair(counter, client, entry)
 
 
-class Keeper:
-    """Algorithm 3: one pair, and the desks that read."""
+class Server:
+    """Algorithm 3: one pair, and the clients that read."""
 
     def __init__(self):
         self.pair, self.readers = START, set()
 
-    def take(self, desk, message):
-        """The desks that it sends to, each with its message, in order."""
+    def take(self, client, message):
+        """The clients that it sends to, each with its message, in order."""
         kind, tag, pair = unpacked(message)
         if kind == GET_INFO:
-            self.readers.add(desk)
-            return [(desk, packed(INFO, tag, self.pair))]
+            self.readers.add(client)
+            return [(client, packed(INFO, tag, self.pair))]
         if kind == DONE:
-            self.readers.discard(desk)
+            self.readers.discard(client)
             return []
         if stamp(pair) > stamp(self.pair):
             self.pair = pair
         forwards = [(reader, packed(FWD, 0, pair)) for reader in sorted(self.readers)]
-        return forwards + [(desk, packed(WRITE_ACK, 0, Pair(pair.counter, 0, 0)))]
+        return forwards + [(client, packed(WRITE_ACK, 0, Pair(pair.counter, 0, 0)))]
 
 
-class Desk:
-    """Algorithms 1 and 2. What it sends goes to every keeper."""
+class Client:
+    """Algorithms 1 and 2. What it sends goes to every server."""
 
     def __init__(self, number, f):
         self.number, self.f, self.n = number, f, 3 * f + 1
@@ -82,16 +82,16 @@ class Desk:
         holders = sum(pair in pairs for pairs in self.sets.values())
         return below >= 2 * self.f + 1 and holders >= self.f + 1
 
-    def take(self, keeper, message):
-        """What goes to every keeper, and the outcome."""
+    def take(self, server, message):
+        """What goes to every server, and the outcome."""
         kind, tag, pair = unpacked(message)
         if kind == WRITE_ACK:
-            return self.acknowledged(keeper, pair.counter)
-        if self.phase != "reading" or kind == INFO and (tag != self.reads or keeper in self.noted):
+            return self.acknowledged(server, pair.counter)
+        if self.phase != "reading" or kind == INFO and (tag != self.reads or server in self.noted):
             return [], None
         if kind == INFO:
-            self.noted[keeper] = stamp(pair)
-        self.sets[keeper] = set(sorted(self.sets[keeper] | {pair})[-SET_SIZE:])
+            self.noted[server] = stamp(pair)
+        self.sets[server] = set(sorted(self.sets[server] | {pair})[-SET_SIZE:])
         counting = [p for pairs in self.sets.values() for p in pairs if self.counts(p)]
         if len(self.noted) < self.n - self.f or not counting:
             return [], None
@@ -105,10 +105,10 @@ class Desk:
         self.own = Pair(pair.counter + 1, self.number, self.entry)
         return [packed(DONE), packed(WRITE_INFO, 0, self.own)], None
 
-    def acknowledged(self, keeper, counter):
+    def acknowledged(self, server, counter):
         if self.phase != "storing" or counter != self.own.counter:
             return [], None
-        self.acks.add(keeper)
+        self.acks.add(server)
         if len(self.acks) < self.n - self.f:
             return [], None
         self.phase = "idle"
@@ -118,70 +118,70 @@ class Desk:
 class Exchange:
     def __init__(self, title, f):
         self.lines = [f"{title}, f = {f}"]
-        self.keepers = {k: Keeper() for k in range(1, 3 * f + 2)}
-        self.desks = {d: Desk(d, f) for d in range(1, DESKS + 1)}
+        self.servers = {k: Server() for k in range(1, 3 * f + 2)}
+        self.clients = {d: Client(d, f) for d in range(1, CLIENTS + 1)}
         self.up, self.down = collections.defaultdict(collections.deque), collections.defaultdict(collections.deque)
 
-    def put(self, desk, messages):
+    def put(self, client, messages):
         for message in messages:
-            for k in self.keepers:
-                self.lines.append(f"client {desk} to server {k}: {message.hex().upper()}")
-                self.up[desk, k].append(message)
+            for k in self.servers:
+                self.lines.append(f"client {client} to server {k}: {message.hex().upper()}")
+                self.up[client, k].append(message)
 
-    def read(self, desk):
-        self.put(desk, self.desks[desk].start())
+    def read(self, client):
+        self.put(client, self.clients[client].start())
 
-    def write(self, desk, entry):
-        self.put(desk, self.desks[desk].start(entry))
+    def write(self, client, entry):
+        self.put(client, self.clients[client].start(entry))
 
-    def keeper_takes(self, k, desk):
-        """Keeper k takes the oldest message of a desk; then the desks take what it sent, in order."""
-        sent = self.keepers[k].take(desk, self.up[desk, k].popleft())
+    def server_takes(self, k, client):
+        """Server k takes the oldest message of a client; then the clients take what it sent, in order."""
+        sent = self.servers[k].take(client, self.up[client, k].popleft())
         for to, message in sent:
             self.lines.append(f"server {k} to client {to}: {message.hex().upper()}")
             self.down[k, to].append(message)
         for to, _ in sent:
-            self.desk_takes(to, k)
+            self.client_takes(to, k)
 
-    def desk_takes(self, desk, k):
-        messages, outcome = self.desks[desk].take(k, self.down[k, desk].popleft())
-        self.put(desk, messages)
+    def client_takes(self, client, k):
+        messages, outcome = self.clients[client].take(k, self.down[k, client].popleft())
+        self.put(client, messages)
         if outcome:
             word, pair = outcome
-            self.lines.append(f"client {desk} {word} {pair.counter} {pair.desk} {pair.entry:010X}")
+            self.lines.append(f"client {client} {word} {pair.counter} {pair.client} {pair.entry:010X}")
 
 
-    def each(self, desk, keepers, times=1):
-        """Each of the keepers takes a message of the desk, one keeper after the other; as often as said."""
+    def each(self, client, servers, times=1):
+        """Each of the servers takes a message of the client, one server after the other; as often as said."""
         for _ in range(times):
-            for k in keepers:
-                self.keeper_takes(k, desk)
+            for k in servers:
+                self.server_takes(k, client)
 
 
-def one_desk(f):
-    """Desk 1 alone; every keeper takes every message."""
+def one_client(f):
+    """Client 1 alone; every server takes every message."""
     x = Exchange("one client", f)
     for year in (2024, 2028):
         x.write(1, licence(year, 2, 29, 40, 1))
-        x.each(1, x.keepers, times=3)  # GET_INFO, DONE, WRITE_INFO
+        x.each(1, x.servers, times=3)  # GET_INFO, DONE, WRITE_INFO
         x.read(1)
-        x.each(1, x.keepers, times=2)  # GET_INFO, DONE
+        x.each(1, x.servers, times=2)  # GET_INFO, DONE
     return x.lines
 
 
-def two_desks(f):
-    """With f = 1 keeper 4 takes nothing: 2f + 1 = n - f keepers work."""
+def two_clients(f):
+    """With f = 1 server 4 takes nothing: 2f + 1 = n - f servers work."""
     x, working = Exchange("two clients", f), range(1, 2 * f + 2)
     x.write(1, licence(2024, 2, 29, 40, 1))
     x.each(1, working, times=3)  # GET_INFO, DONE, WRITE_INFO
     x.read(1)
     x.each(1, working, times=2)  # GET_INFO, DONE
     x.read(2)
-    x.each(2, working)  # GET_INFO; its DONE stays on the wires
+    x.each(2, working)  # GET_INFO; its DONE stays on the channels
     x.write(1, licence(2028, 2, 29, 40, 1))
     x.each(1, working, times=2)  # GET_INFO, DONE
     x.read(2)
-    x.each(1, [1])  # WRITE_INFO reaches keeper 1, which forwards it
+    x.each(1, [1])  # WRITE_INFO reaches server 1, which forwards it
     x.each(2, working, times=2)  # the late DONE, GET_INFO
     x.each(1, working[1:])  # WRITE_INFO reaches the others
     x.each(2, working)  # DONE
@@ -189,7 +189,7 @@ def two_desks(f):
 
 
 def main():
-    text = "".join(line + "\n" for scenario in (one_desk, two_desks) for f in (0, 1) for line in scenario(f))
+    text = "".join(line + "\n" for scenario in (one_client, two_clients) for f in (0, 1) for line in scenario(f))
     if sys.argv[1:] == ["--check"]:
         if STDOUT.read_text() != text:
             sys.exit("exchange_oracle: crates/exchange/stdout is not what 01 gives")

@@ -1,4 +1,4 @@
--- The laws of the channels for messages and their eleven bytes: what `system` uses.
+-- The laws of the channels for messages and their eleven bytes: what `state` uses.
 --
 -- A slot that passes its test is a message's packing, and a well-formed message unpacks to itself (the round trip of `message`).
 -- Assumes nothing.

@@ -1,7 +1,7 @@
 -- When the channels' memory is sound, and which messages sound memory holds.
 --
 -- 01, of a sound state: 'lengths and fields are in range, desk wires hold kinds 1, 3, 4 and keeper wires 2, 5, 6, none a
--- misprint, .. unused places are zero'. That wires that drop are empty is judged in `system`, which knows which ones drop.
+-- misprint, .. unused places are zero'. That channels that drop are empty is judged in `state`, which knows which ones drop.
 --
 -- In order: bytes that are zero; a channel, for any test of its slots; all channels; what they hold; the test of messages.
 -- Assumes nothing.

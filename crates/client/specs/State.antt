@@ -2,7 +2,8 @@
 -- that the two show.
 --
 -- In order: what a state shows; the state of what a model's client holds. That a sound state is the state of what
--- it shows, and that the model's client is shown again by its state, is proved in proofs/Views.
+-- it shows, and that the model's client is shown again by its state, is proved in proofs/Outcomes
+-- (`store-view`) and proofs/Keeping (`shows`).
 -- Assumes nothing.
 use Prim.Native.Nat.{ℕ}
 use mathlib.Core.List.{List}

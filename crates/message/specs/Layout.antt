@@ -8,13 +8,10 @@
 use Prim.Native.Nat.{ℕ, _+_, _*_, _/_, _%_, _^_}
 use mathlib.Core.Bool.{Bool, true, cond, _&&_}
 use mathlib.Core.List.{List, [], _∷_}
-use mathlib.Core.Option.{Option, none, some}
 use lib.Dec.{eqb, ltb}
 use lib.ListN.{length}
 use lib.Pow.{areBytes}
 use Rattle.basics.specs.Bytes.{bigEndian, spelt}
-use Rattle.refusal.specs.declared.Refusal.{Refusal}
-use Rattle.refusal.specs.declared.Refusal.the-variants.{Malformed}
 use Rattle.message.specs.declared.Message.{Message}
 use Rattle.message.specs.declared.Message.the-variants.{GetInfo, Info, Done, WriteInfo, Fwd, WriteAck}
 use Rattle.message.specs.declared.Pair.{Pair}
@@ -154,11 +151,6 @@ bytesOf m = bigEndian messageBytes (numberOf m)
 -- numbers unpacked: those that are not eleven bytes are no message
 unfoldable pub unpackOf : List ℕ → Unpacked
 unpackOf s = cond (eqb (length s) messageBytes && areBytes s) (messageOf (spelt 0 s)) Bad
-
--- what is no message is refused (9)
-abbrev pub refusalOf : Unpacked → Option Refusal
-refusalOf (Good m) = none
-refusalOf Bad = some Malformed
 
 -- a number in two words, the last 64 bits and those before, and back
 abbrev pub words : ℕ → Words

@@ -27,13 +27,12 @@ use Rattle.register.specs.Steps.{eventOf}
 use Rattle.register.proofs.Ladders.{climbed}
 use Rattle.register.proofs.Bounds.{honest-of}
 
--- the slots that a start keeps free on every channel to an honest server: a read's DONE, a write's WRITE_INFO
--- too
-abbrev pub places : Phase → ℕ
-places Idle = 1
-places Reading = 2
-places (ReadingForWrite e) = 3
-places (Storing e c) = 1
+-- the slots that a start keeps free on every channel to an honest server: a read's DONE, a write's WRITE_INFO too
+abbrev pub slotsFor : Phase → ℕ
+slotsFor Idle = 1
+slotsFor Reading = 2
+slotsFor (ReadingForWrite e) = 3
+slotsFor (Storing e c) = 1
 
 -- the phase of a start, with an entry that the system takes
 abbrev pub Starts : Formats → Phase → Type 0
@@ -51,7 +50,7 @@ module _ (S : Settings) (F : Formats) (w : World) where
     idle : isIdle (w .clients d .phase) ≡ true;
     below : w .clients d .reads .0 < highest;
     phase : Starts F ph;
-    room : roomUp S F w d (places ph) ≡ true;
+    room : roomUp S F w d (slotsFor ph) ≡ true;
   }
   Enabled (serves k d m ms) = record {
     client : isClient S d ≡ true;

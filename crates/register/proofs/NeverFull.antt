@@ -1,9 +1,9 @@
 -- A step D of a run is never refused 12 (FullChannel).
 --
 -- Why: a start is accepted only where every channel to an honest server has room for all that the operation will put
--- there (`places`: a read's GET_INFO and DONE, a write's WRITE_INFO too); only the client itself puts messages on its
--- channels, and at each choice it puts no more than it has kept. So on every such channel the messages and the places
--- that are kept fit into the slots.
+-- there (`slotsFor`: a read's GET_INFO and DONE, a write's WRITE_INFO too); only the client itself puts messages on its
+-- channels, and at each choice it puts no more than it has kept. So on every such channel the messages fit, and with
+-- them the slots that are kept.
 -- In order: what an outcome puts and keeps; what an event does; along a list of steps; the step D.
 -- Assumes nothing.
 use mathlib.Core.Path.{_≡_, refl, ap}
@@ -32,7 +32,7 @@ use Rattle.register.specs.Steps.{refusalOf}
 use Rattle.register.specs.Steps.{eventOf}
 use Rattle.register.specs.History.{stepAt, worldAt}
 use Rattle.register.proofs.Bounds.{honest-server, honest-not-faulty}
-use Rattle.register.proofs.Enabled.{Enabled, places, enabled}
+use Rattle.register.proofs.Enabled.{Enabled, slotsFor, enabled}
 use Rattle.register.proofs.Outcomes.{Outcome, dropped, waits, shows, spends, sends, acks, ends}
 use Rattle.register.proofs.Outcomes.{outcome}
 use Rattle.register.proofs.Outcomes.{grown-phase}
@@ -41,29 +41,29 @@ use Rattle.register.proofs.Dropping.{nothing-put}
 
 -- ---- an outcome puts no more than was kept
 
-some-place : (ph : Phase) → 1 ≤ places ph
-some-place Idle = le-refl _
-some-place Reading = omega arith
-some-place (ReadingForWrite e) = omega arith
-some-place (Storing e c) = le-refl _
+some-slot : (ph : Phase) → 1 ≤ slotsFor ph
+some-slot Idle = le-refl _
+some-slot Reading = omega arith
+some-slot (ReadingForWrite e) = omega arith
+some-slot (Storing e c) = le-refl _
 
-outcome-places : (S : Settings) (d : ℕ) (x : Client) (k : ℕ) (m : Message) (o : Taken) → Outcome S d x k m o
-    → length (o .sends) + places (o .client .phase) ≤ places (x .phase)
+outcome-slots : (S : Settings) (d : ℕ) (x : Client) (k : ℕ) (m : Message) (o : Taken) → Outcome S d x k m o
+    → length (o .sends) + slotsFor (o .client .phase) ≤ slotsFor (x .phase)
 unfolding withAck
-outcome-places S d x k m o (dropped _) = omega arith
-outcome-places S d x k m o (waits y g _ _) =
-    let same : places (y .phase) ≡ places (x .phase) = ap places (grown-phase S d x k m y g) in omega arith
-outcome-places S d x k m o (shows y p g ph _) = rw ph (omega arith)
-outcome-places S d x k m o (spends y p e g ph _ _) = rw ph (omega arith)
-outcome-places S d x k m o (sends y p e g ph _ _) = rw ph (omega arith)
-outcome-places S d x k m o (acks e c _ _ _) = omega arith
-outcome-places S d x k m o (ends e c _ ph _) = rw ph (omega arith)
+outcome-slots S d x k m o (dropped _) = omega arith
+outcome-slots S d x k m o (waits y g _ _) =
+    let same : slotsFor (y .phase) ≡ slotsFor (x .phase) = ap slotsFor (grown-phase S d x k m y g) in omega arith
+outcome-slots S d x k m o (shows y p g ph _) = rw ph (omega arith)
+outcome-slots S d x k m o (spends y p e g ph _ _) = rw ph (omega arith)
+outcome-slots S d x k m o (sends y p e g ph _ _) = rw ph (omega arith)
+outcome-slots S d x k m o (acks e c _ _ _) = omega arith
+outcome-slots S d x k m o (ends e c _ ph _) = rw ph (omega arith)
 
--- ---- the messages on a channel, and the places kept there
+-- ---- the messages on a channel, and the slots kept there
 
--- the first of the kept places is for a GET_INFO that is on the channel already, or not kept at all
+-- the first of the kept slots is for a GET_INFO that is on the channel already, or not kept at all
 abbrev Kept : ℕ → List Message → Phase → Type 0
-Kept n up ph = length up + places ph ≤ suc n
+Kept n up ph = length up + slotsFor ph ≤ suc n
 
 module _ (S : Settings) (F : Formats) (w : World)
     (kept : (d k : ℕ) → isHonest S k ≡ true → Kept slots (w .up d k) (w .clients d .phase)) where
@@ -75,7 +75,7 @@ module _ (S : Settings) (F : Formats) (w : World)
       rw (honest-not-faulty S k honest, honest-server S k honest)
       (by-test (eqb c d)
       (λ e. let same = eqb-true c d e in
-      let room : length (w .up d k) + places ph ≤ slots = rw same at (room-up S F w c (places ph) (en .room)
+      let room : length (w .up d k) + slotsFor ph ≤ slots = rw same at (room-up S F w c (slotsFor ph) (en .room)
       k honest) in
       rw (e, length-append) (omega arith))
       (λ e. rw (e, append-nil (w .up d k)) (kept d k honest)))
@@ -91,7 +91,7 @@ module _ (S : Settings) (F : Formats) (w : World)
   kept-next (takes c j m ms) en d k honest =
       rw (honest-not-faulty S k honest, honest-server S k honest)
       (by-test (eqb c d)
-      (λ e. let fewer = outcome-places S d (w .clients d) j m _ (outcome S d (w .clients d) j m) in
+      (λ e. let fewer = outcome-slots S d (w .clients d) j m _ (outcome S d (w .clients d) j m) in
       let old = kept d k honest in
       rw (e, eqb-true c d e, length-append) (omega arith))
       (λ e. rw (e, append-nil (w .up d k)) (kept d k honest)))
@@ -107,9 +107,9 @@ module _ (S : Settings) (F : Formats) (w : World)
       fits : (i : ℕ) → isHonest S (suc i) ≡ true
           → leb (length (w .up d (suc i)) + length (takenBy S w d k m .sends)) slots ≡ true
       fits i honest =
-          let fewer = outcome-places S d (w .clients d) k m _ (outcome S d (w .clients d) k m) in
+          let fewer = outcome-slots S d (w .clients d) k m _ (outcome S d (w .clients d) k m) in
           let old = kept d (suc i) honest in
-          let one = some-place (takenBy S w d k m .client .phase) in
+          let one = some-slot (takenBy S w d k m .client .phase) in
           let room : length (w .up d (suc i)) + length (takenBy S w d k m .sends) ≤ slots = omega arith in
           le-leb _ _ room
 

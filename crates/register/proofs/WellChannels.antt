@@ -32,7 +32,7 @@ use Rattle.register.specs.World.{putsUp}
 use Rattle.register.specs.World.{putsDown, leavesUp, leavesDown, nextUp, nextDown, nextStopped}
 use Rattle.register.specs.Steps.{Formats, slots, hasRoom, isReply, roomUp}
 use Rattle.register.proofs.Bounds.{client-small, honest-server, honest-of}
-use Rattle.register.proofs.Enabled.{Enabled, places, Starts}
+use Rattle.register.proofs.Enabled.{Enabled, slotsFor, Starts}
 use Rattle.register.proofs.Dropping.{put-or-dropped, nothing-put}
 use Rattle.register.proofs.Rooms.{unless, room-up, room-down}
 use Rattle.register.proofs.Lawful.{Lawful, FieldsFit}
@@ -149,7 +149,7 @@ module _ (S : Settings) (F : Formats) (w : World) (well : WellFormed S F w) wher
 
 -- ---- events
 
-starts-phase : (F : Formats) (ph : Phase) → Starts F ph → 1 ≤ places ph
+starts-phase : (F : Formats) (ph : Phase) → Starts F ph → 1 ≤ slotsFor ph
 starts-phase F Idle s = absurd s
 starts-phase F Reading s = omega arith
 starts-phase F (ReadingForWrite e) s = omega arith
@@ -184,7 +184,7 @@ module _ (S : Settings) (F : Formats) (accepted : Accepted S) (lawful : Lawful F
   unfolding nextUp leavesUp putsUp
   up-next (refuses r) en d k = rw (nothing-put (S .faulty k) (w .up d k)) (up-now S F w well d k)
   up-next (begins c ph) en d k =
-      up-put S F w well c (places ph) _ (en .client) (en .room) (starts-phase F ph (en .phase)) (tag-only c
+      up-put S F w well c (slotsFor ph) _ (en .client) (en .room) (starts-phase F ph (en .phase)) (tag-only c
       (en .below)) d k
   up-next (serves j c m ms) en d k =
       rw (nothing-put (S .faulty k) (cond (eqb j k && eqb c d) ms (w .up d k)))

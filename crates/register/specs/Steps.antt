@@ -1,7 +1,7 @@
 -- The six steps, with any arguments: when each is refused, and which event it is (01, 'Rehearsal' and the table).
 --
 -- In order: the steps; room on channels; the ladder of refusals of each step, in the table's order; the event of a step.
--- Soundness (3) is not here, since a world is always sound; the code's states are judged in `system`.
+-- Soundness (3) is not here, since every world of a run is well formed; the code's states are judged in `state`.
 -- Assumes nothing.
 use Prim.Native.Nat.{ℕ, suc, _+_}
 use mathlib.Core.Bool.{Bool, true, false, not, _&&_, _||_}
@@ -77,7 +77,7 @@ module _ (S : Settings) (F : Formats) where
       (λ i. w .stopped (suc i)
       || hasRoom (w .down (suc i) k) (length (sentTo (suc i) (serverSends (w .servers k) d m)))) (S .clients)
 
-  -- the refusals of a step, lowest first; a read's start counts 2 places, a write's 3
+  -- the refusals of a step, lowest first; a read's start counts 2 slots, a write's 3
   unfoldable pub ladder : World → Step → List Rung
   ladder w (R d) =
       no.NoSuchProcess when not (isClient S d)

@@ -1,12 +1,12 @@
--- From turn to turn the program is where the definition of its turns says (`Blocks.turns`), for the parts of input that it has
--- read: it knows what that says, and what stands at the start of its block is what that keeps.
+-- From turn to turn the program is where the definition of its turns says (`Blocks.turns`), for some parts of input: it knows
+-- what that says, and what stands at the start of its block is what that keeps.
 --
--- Why: each deed of a turn has an equation for its contract, and together they are one turn. A last line without its end gets
--- one, as if it had been read.
+-- Why: each function that a turn calls has equations for its contract, and together they are one turn, with the bytes that were
+-- read as its part. A last line without its end gets one, as if it had been read.
 -- In order: parts; a block and what is kept of it; one turn more.
 -- Assumes nothing.
 use mathlib.Core.Path.{_≡_, refl, sym, ap, subst, _∙_}
-use mathlib.Core.Bool.{true, false}
+use mathlib.Core.Bool.{false}
 use mathlib.Core.List.{List, [], _∷_, _++_}
 use Prim.Native.Nat.{ℕ, zero, suc, _+_, _-_, _≤_, _<_}
 use native.Mathlib.Nat.{zero-add}
@@ -17,12 +17,15 @@ use Rattle.basics.proofs.Cases.{clash}
 use Rattle.script.specs.Lines.{kept}
 use Rattle.script.specs.Writing.{Written}
 use Rattle.script.proofs.Writing.{keeps}
+use Rattle.register.specs.World.{newWorld}
 use Rattle.state.specs.declared.System.{System}
-use Rattle.state.specs.Sound.{isSound}
+use Rattle.system.specs.Setup.{settingsBy}
+use Rattle.system.specs.Stored.{Stored}
 use Rattle.rehearse.specs.declared.lines.Turn.{Turn}
-use Rattle.rehearse.specs.Saying.{Stage, stageAfter}
-use Rattle.rehearse.specs.Blocks.{wholeLines, lengthOf, cutLine, joined, turnOf, stageIn, LinesTaken, Progress, progress, turn, turns}
-use Rattle.rehearse.proofs.Staying.{Sound, stage-sound}
+use Rattle.rehearse.specs.Saying.{stage, stageAfter}
+use Rattle.rehearse.specs.Blocks.{wholeLines, lengthOf, cutLine, turnOf, stageIn, LinesTaken, joined}
+use Rattle.rehearse.specs.Blocks.{Progress, progress, beginning, turn, turns}
+use Rattle.rehearse.proofs.Staying.{Sound, first-sound, stage-sound}
 
 -- ---- parts
 
@@ -66,38 +69,40 @@ kept-is s block at n e = ap (take 65) (part-is at n s ∙ ap (drop at) e)
 -- ---- one turn more
 
 -- the program q, with the slots b and the replies r, has `have` bytes of a line at the start of its block
-pub record Going (start : Stage) (q : Turn) (b r input : List ℕ) (have : ℕ) (out : List ℕ) : Type 0 where
+pub record Going (q : Turn) (b r input : List ℕ) (have : ℕ) (out : List ℕ) : Type 0 where
   pub parts : List (List ℕ)
-  pub known : stageIn q b r ≡ turns (progress start [] []) parts .known
-  pub left : take have input ≡ turns (progress start [] []) parts .left
+  pub known : stageIn q b r ≡ turns (progress beginning [] []) parts .known
+  pub left : take have input ≡ turns (progress beginning [] []) parts .left
   pub sound : Sound (stageIn q b r)
   pub few : have ≤ 65
   pub long : length input ≡ 16384
   pub wide : length out ≡ 1310720
 
 -- at first nothing was read
-pub none-read : {s : System} {q : Turn} {b r input out : List ℕ} → q ≡ turnOf s false 0 0 0 → isSound s b r ≡ true
-    → length input ≡ 16384 → length out ≡ 1310720 → Going (stageIn q b r) q b r input 0 out
+pub none-read : {s : System} {q : Turn} {b r input out : List ℕ} → q ≡ turnOf s false 0 0 0
+    → Stored (settingsBy 0 1 0) newWorld s b r → length input ≡ 16384 → length out ≡ 1310720 → Going q b r input 0 out
 unfolding turns
-none-read {s} {q} {b} {r} is sound long wide =
+none-read {s} {q} {b} {r} is st long wide =
     record {
       parts = [];
-      known = refl;
+      known =
+          ap (λ (z : Turn). stageIn z b r) is
+          ∙ (λ k. stage false (st .system k) (st .slots k) (st .replies k) 0);
       left = refl;
-      sound = subst (λ (z : Turn). Sound (stageIn z b r)) (sym is) sound;
+      sound = subst (λ (z : Turn). Sound (stageIn z b r)) (sym is) (first-sound s b r st);
       few = omega arith;
       long = long;
       wide = wide;
     }
 
 -- bytes xs were read behind what was kept, the block was closed, its lines taken, and the cut one kept
-module _ {start : Stage} {q : Turn} {b r input : List ℕ} {have : ℕ} {out : List ℕ} (g : Going start q b r input have out)
+module _ {q : Turn} {b r input : List ℕ} {have : ℕ} {out : List ℕ} (g : Going q b r input have out)
     (read xs : List ℕ) (same : take have read ≡ take have input)
     {closed : List ℕ} {total : ℕ} (c : Written (joined (take have read) xs) read 0 total closed) (some : 1 ≤ total)
     {z : Turn} {b′ r′ out′ : List ℕ} (t : LinesTaken q (take total closed) b r out z b′ r′ out′)
     {have′ : ℕ} {next : List ℕ} (k : Written (kept closed (z .at) total) closed 0 have′ next) where
   abbrev before : Progress
-  before = turns (progress start [] []) (g .parts)
+  before = turns (progress beginning [] []) (g .parts)
 
   abbrev part : List ℕ
   part = partOf xs
@@ -116,9 +121,9 @@ module _ {start : Stage} {q : Turn} {b r input : List ℕ} {have : ℕ} {out : L
       ∙ ap (λ (n : ℕ). take 65 (drop n (before .left ++ part)))
       (t .place ∙ ap (λ (l : List ℕ). lengthOf (wholeLines l)) block-is)
 
-  pub one-turn : length read ≡ 16384 → length out′ ≡ length out → Going start z b′ r′ next have′ out′
+  pub one-turn : length read ≡ 16384 → length out′ ≡ length out → Going z b′ r′ next have′ out′
   one-turn long wide =
-      let turned = turns-more (progress start [] []) (g .parts) part in
+      let turned = turns-more (progress beginning [] []) (g .parts) part in
       let ends = k .ends in
       let closed-long = keeps c in
       let next-long = keeps k in

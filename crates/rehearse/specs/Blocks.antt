@@ -14,10 +14,12 @@ use Rattle.register.specs.declared.Step.the-variants.{R, W, K, D, C, L}
 use Rattle.script.specs.declared.parse.Line.{Line}
 use Rattle.script.specs.declared.parse.Line.the-variants as line
 use Rattle.script.specs.Writing.{Written}
+use Rattle.register.specs.World.{newWorld}
 use Rattle.state.specs.declared.System.{System}
+use Rattle.state.specs.State.{storeSystem, storeSlots, storeAllReplies}
 use Rattle.system.specs.declared.setup.Setup.{Setup}
 use Rattle.system.specs.declared.setup.Setup.the-variants as setup
-use Rattle.system.specs.Setup.{setupOf}
+use Rattle.system.specs.Setup.{settingsBy, setupOf}
 use Rattle.rehearse.specs.declared.lines.Heard.{Heard}
 use Rattle.rehearse.specs.declared.lines.Heard.the-variants as heard
 use Rattle.rehearse.specs.declared.lines.Turn.{Turn}
@@ -105,6 +107,10 @@ pub record Progress : Type 0 where
 
 abbrev pub progress : Stage → List ℕ → List ℕ → Progress
 progress p left said = record { known = p; left = left; said = said }
+
+-- at first no setup was accepted, and the next line is number 0; no step reaches the system that is there
+abbrev pub beginning : Stage
+beginning = stage false (storeSystem (settingsBy 0 1 0) newWorld) (storeSlots newWorld) (storeAllReplies newWorld) 0
 
 -- it reads some bytes, and writes the text of the lines that are then whole
 abbrev pub turn : Progress → List ℕ → Progress

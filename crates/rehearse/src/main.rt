@@ -41,8 +41,8 @@ fn read_behind(input: &mut [u8], have: usize) -> usize
     io::count(got, &input[have..])
 }
 
-// Where the block ends that is left of the last one, `have` bytes, and has n bytes behind it that were read. None were at the
-// input's end: a last line that has no end gets one there.
+// Closes the block: `have` bytes kept of the last one, and n bytes that were read behind them. At the input's end n is 0, and a
+// last line without its end gets one. Answers where the block ends.
 fn close(input: &mut [u8], have: usize, n: usize) -> usize
     requires { ⌜ (have < length (now input)) × (have + n ≤ length (now input)) ⌝ }
     ensures { λ r. ⌜ Written (joined (take have (now (input .entry))) (take n (drop have (now (input .entry)))))

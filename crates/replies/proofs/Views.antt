@@ -1,7 +1,7 @@
 -- What a memory shows after one server's part is replaced: the same, but for that server.
 --
--- Two memories with the same numbers for the servers show the same (`noted-from`, `sets-from`, `acks-from`). So a
--- store to one server's part is one update of what is shown (`note-shows`, `set-shows`, `ack-shows`), and the empty
+-- Two memories with the same numbers for the servers show the same (`noted-from`, `set-from`, `ack-from`). So a
+-- store to one server's part is one update of what is shown (`note-noted`, `set-sets`, `ack-acks`), and the empty
 -- memory shows nothing.
 -- Assumes nothing.
 use mathlib.Core.Path.{_≡_, refl, sym, ap, _∙_}

@@ -25,7 +25,7 @@ use Rattle.server.specs.declared.Server.{Server}
 use Rattle.server.specs.State.{view, store, sound}
 use Rattle.server.specs.Taking.{sentBy, sendsOf, servedOf, isRequest, takenOf}
 use Rattle.server.proofs.Views.{store-sound, view-store, view-formed, after-formed, new-formed}
-use Rattle.server.proofs.Outcomes.{unsound, nobody-low, nobody-high, malformed, taken}
+use Rattle.server.proofs.Outcomes.{unsound, no-process-low, no-process-high, malformed, taken}
 
 -- ---- a message taken
 
@@ -76,8 +76,8 @@ module _ (P : Server → Type 0) (s : Server) (d : ℕ) (bytes : List ℕ) (same
       (λ h. by-test (leb 1 d)
       (λ low. by-test (leb d 6)
       (λ top. by-message h (leb-true 1 d low) (leb-true d 6 top) (unpackOf bytes) refl)
-      (λ over. rw (nobody-high s d bytes h (leb-true 1 d low) (leb-false d 6 over)) same))
-      (λ no. rw (nobody-low s d bytes h (leb-false 1 d no)) same))
+      (λ over. rw (no-process-high s d bytes h (leb-true 1 d low) (leb-false d 6 over)) same))
+      (λ no. rw (no-process-low s d bytes h (leb-false 1 d no)) same))
       (λ no. rw (unsound s d bytes no) same)
 
 pub sound-kept : (s : Server) (d : ℕ) (bytes : List ℕ) → sound s ≡ true → sound (takenOf s d bytes .server) ≡ true

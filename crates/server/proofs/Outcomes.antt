@@ -1,4 +1,4 @@
--- What taking bytes comes to, case by case in the order of the ladder: unsound, nobody there, malformed, taken.
+-- What taking bytes comes to, case by case in the order of the ladder: unsound, no such process, malformed, taken.
 -- Assumes nothing.
 use mathlib.Core.Path.{_≡_, refl}
 use mathlib.Core.Bool.{true, false}
@@ -24,13 +24,13 @@ module _ (s : Server) (d : ℕ) (bytes : List ℕ) where
   unsound h = rw h
 
   module _ (h : sound s ≡ true) where
-    pub nobody-low : d < 1 → takenOf s d bytes ≡ unchanged s NoSuchProcess
+    pub no-process-low : d < 1 → takenOf s d bytes ≡ unchanged s NoSuchProcess
     unfolding takenOf
-    nobody-low low = rw (h, lt-leb 1 d low)
+    no-process-low low = rw (h, lt-leb 1 d low)
 
-    pub nobody-high : 1 ≤ d → 6 < d → takenOf s d bytes ≡ unchanged s NoSuchProcess
+    pub no-process-high : 1 ≤ d → 6 < d → takenOf s d bytes ≡ unchanged s NoSuchProcess
     unfolding takenOf
-    nobody-high low over = rw (h, le-leb 1 d low, lt-leb d 6 over)
+    no-process-high low over = rw (h, le-leb 1 d low, lt-leb d 6 over)
 
     module _ (low : 1 ≤ d) (top : d ≤ 6) where
       pub malformed : isRequest (unpackOf bytes) ≡ false → takenOf s d bytes ≡ unchanged s Malformed

@@ -27,7 +27,7 @@ use Rattle.register.specs.World.{World, begins, apply, answerOf, nextServers, n
 use Rattle.register.specs.World.{leavesUp, leavesDown, putsUp, putsDown}
 use Rattle.register.proofs.Bounds.{client-small}
 use Rattle.register.proofs.Dropping.{nothing-put}
-use Rattle.register.proofs.Enabled.{Enabled, places}
+use Rattle.register.proofs.Enabled.{Enabled, slotsFor}
 use Rattle.register.proofs.WellFormed.{WellClient, WellFormed}
 use Rattle.server.specs.State.{store}
 use Rattle.replies.specs.Replies.{storeReplies}
@@ -66,11 +66,11 @@ idle-empty S F x well idle =
     let acks : x .acks ≡ (λ k. false) = fun-ext (λ k. well .acksIdle (not-storing (x .phase) idle) k) in
     λ i. record { phase = x .phase; reads = x .reads; noted = noted i; sets = sets i; acks = acks i }
 
-one-place : (ph : Phase) → 1 ≤ places ph
-one-place Idle = omega arith
-one-place Reading = omega arith
-one-place (ReadingForWrite e) = omega arith
-one-place (Storing e c) = omega arith
+one-slot : (ph : Phase) → 1 ≤ slotsFor ph
+one-slot Idle = omega arith
+one-slot Reading = omega arith
+one-slot (ReadingForWrite e) = omega arith
+one-slot (Storing e c) = omega arith
 
 -- ---- a start
 
@@ -86,7 +86,7 @@ module _ (t : Settings) (accepted : Accepted (settingsOf t)) (w : World) (well :
           let w′ = apply (settingsOf t) w (begins d ph) in
           ap (λ (b : List ℕ). sendUp t b (d - 1) (m ∷ [])) (store-slots w)
           ∙ send-up t d (c .0) (c .1) (few-servers t accepted w well) (w .down) (down-short t accepted w well) (m ∷ []) (w .up)
-          (up-short t accepted w well) (room-of t accepted w well d client 1 (places ph) (one-place ph) (en .room))
+          (up-short t accepted w well) (room-of t accepted w well d client 1 (slotsFor ph) (one-slot ph) (en .room))
           ∙ slots-same _ (w′ .up) (w .down) (w′ .down) (λ e j. refl) (λ e j. sym (nothing-put (w .stopped e) (w .down e j)))
           ∙ sym (store-slots w′)
 

@@ -47,7 +47,7 @@ module _ (t : Settings) where
       ∷ no.Busy when not (isIdle (c .phase))
       ∷ []
 
-  -- and last, with the places that a start counts
+  -- and last, with the slots that a start counts
   abbrev pub beginChecks : Session → List ℕ → ℕ → ℕ → List Rung
   beginChecks c b d more =
       no.Exhausted when leb highest (c .reads .0)

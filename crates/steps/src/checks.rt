@@ -79,10 +79,10 @@ pub fn start_check(t: Settings, stopped: u8, c: Session, d: u32) -> Check
     if !is_client(t, d) {
         return Check::Refused(Refusal::NoSuchProcess);
     }
-    let gone = has(stopped as u16, d);
+    let has_stopped = has(stopped as u16, d);
     let ph = c.phase;
     let busy = !client::is_idle(ph);
-    if gone {
+    if has_stopped {
         return Check::Refused(Refusal::Stopped);
     }
     if busy {

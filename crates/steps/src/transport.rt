@@ -141,7 +141,7 @@ pub fn take_if(b: &mut Slots, c: usize, fits: bool)
 }
 
 // How many messages go to the client at place i when a server replies to client d.
-fn places(s: Sends, d: u8, i: usize) -> u32
+fn count_to(s: Sends, d: u8, i: usize) -> u32
     requires { ⌜ i < 6 ⌝ }
     ensures { λ r. ⌜ (r ≡ length (sentTo (suc i) (sentBy d s))) × (r ≤ 2) ⌝ }
 {
@@ -162,7 +162,7 @@ fn has_room_from(stopped: u8, b: &Slots, i: usize, j: usize, d: u8, s: Sends) ->
     if is_in(stopped as u16, i) {
         return true;
     }
-    has_room(b, down(i, j), places(s, d, i))
+    has_room(b, down(i, j), count_to(s, d, i))
 }
 
 // Whether every channel from a server to a working client has room for the server's reply to client d.

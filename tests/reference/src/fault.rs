@@ -36,7 +36,7 @@ impl Fault {
         Fault::FewAcknowledgements,
     ];
 
-    /// The fault's name on the command line, and of its script in `directed/`.
+    /// The fault's name on the command line.
     pub fn name(self) -> &'static str {
         match self {
             Fault::OneVariable => "one-variable",

@@ -7,10 +7,10 @@ use crate::fault::Fault;
 use crate::message::{Message, Pair, HIGHEST};
 use crate::plan::{Move, Plan};
 use crate::random::Random;
-use crate::samples::{licence_entry, misprint, no_licence_entry};
+use crate::samples::{licence_entry, malformed, no_licence_entry};
 use crate::session::{Reply, Session};
 use crate::system::{Refusal, MOST_CLIENTS, MOST_SERVERS};
-use crate::unreadable::spoil;
+use crate::unreadable::damage;
 use std::io::{self, Write};
 
 /// An endless script.
@@ -60,7 +60,7 @@ impl Generator {
             _ if self.hunting => self.useful(),
             0..20 => {
                 let line = self.useful();
-                spoil(&mut self.random, &line)
+                damage(&mut self.random, &line)
             }
             20..60 => self.refused(),
             60..64 => self.refused_setup(),
@@ -124,7 +124,7 @@ impl Generator {
         match chosen {
             Move::ServerTakes { server, client } => {
                 if let Some(Message::WriteInfo(pair)) = system.up[client][server].front() {
-                    self.plan.liar.hears(*pair);
+                    self.plan.faulty.hears(*pair);
                 }
                 format!("K {} {}", self.number(server + 1), self.number(client + 1))
             }
@@ -138,7 +138,7 @@ impl Generator {
             Move::Start { client } => format!("R {}", self.number(client + 1)),
             Move::Lie { server, client } => {
                 self.plan.lies(system, server, client);
-                let lie = self.plan.liar.lie(&mut self.random, system, client).pack();
+                let lie = self.plan.faulty.lie(&mut self.random, system, client).pack();
                 format!("L {} {} {lie:022X}", self.number(server + 1), self.number(client + 1))
             }
         }
@@ -200,8 +200,8 @@ impl Generator {
             }
             4 => format!("W {client} {:010X}", no_licence_entry(&mut self.random)),
             5 => {
-                let liar = system.faulty.iter().position(|yes| *yes).map_or(server, |index| index + 1);
-                format!("L {liar} {client} {:022X}", misprint(&mut self.random))
+                let faulty = system.faulty.iter().position(|yes| *yes).map_or(server, |index| index + 1);
+                format!("L {faulty} {client} {:022X}", malformed(&mut self.random))
             }
             _ => self.random.pick(&[format!("K {server} {client}").as_str(), &format!("D {client} {server}")]).into(),
         }
@@ -215,7 +215,7 @@ impl Generator {
         let entry =
             if self.random.chance(500) { licence_entry(&mut self.random) } else { no_licence_entry(&mut self.random) };
         let message = if self.random.chance(500) {
-            misprint(&mut self.random)
+            malformed(&mut self.random)
         } else {
             Message::Info { tag: client as u32, pair: Pair { entry, ..Pair::INITIAL } }.pack()
         };

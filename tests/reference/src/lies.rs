@@ -27,7 +27,7 @@ const HABITS: [Habit; 6] = [Habit::Silent, Habit::Old, Habit::Inflated, Habit::T
 
 /// The faulty servers of a setup, which act as one.
 #[derive(Clone, Debug)]
-pub struct Liar {
+pub struct FaultyServer {
     /// What they do.
     pub habit: Habit,
     /// Pairs that clients have written; the last few.
@@ -36,11 +36,11 @@ pub struct Liar {
     forged: (u32, u64),
 }
 
-impl Liar {
+impl FaultyServer {
     /// With some habit.
-    pub fn new(random: &mut Random) -> Liar {
+    pub fn new(random: &mut Random) -> FaultyServer {
         let forged = (1, licence_entry(random));
-        Liar { habit: random.pick(&HABITS), heard: vec![Pair::INITIAL], forged }
+        FaultyServer { habit: random.pick(&HABITS), heard: vec![Pair::INITIAL], forged }
     }
 
     /// A write has arrived somewhere.

@@ -130,7 +130,7 @@ mod tests {
     }
 
     #[test]
-    fn misprints() {
+    fn malformed() {
         for bits in [
             0x0_00000_00000_0_0000000000, // kinds 0 and 7
             0x7_00000_00000_0_0000000000,

@@ -5,7 +5,7 @@
 //! of demand 3 is about.
 
 use crate::client::Phase;
-use crate::lies::{Habit, Liar};
+use crate::lies::{FaultyServer, Habit};
 use crate::random::Random;
 use crate::system::{System, MOST_CLIENTS, MOST_SERVERS, SLOTS};
 
@@ -37,7 +37,7 @@ pub struct Plan {
     /// Nobody starts anything until all is quiet.
     pub draining: bool,
     /// What the faulty servers say.
-    pub liar: Liar,
+    pub faulty: FaultyServer,
     /// For each channel from a faulty server, what its last lie was about: read number and phase.
     lied: [[Option<(u32, bool)>; MOST_SERVERS]; MOST_CLIENTS],
 }
@@ -53,7 +53,7 @@ impl Plan {
             writes: random.pick(&[200, 500, 800]),
             stops: random.chance(500),
             draining: false,
-            liar: Liar::new(random),
+            faulty: FaultyServer::new(random),
             lied: [[None; MOST_SERVERS]; MOST_CLIENTS],
         }
     }
@@ -75,7 +75,7 @@ impl Plan {
         if random.chance(4) {
             self.draining = true;
         }
-        self.liar.drift(random);
+        self.faulty.drift(random);
     }
 
     /// All open moves with their weights.
@@ -110,7 +110,7 @@ impl Plan {
     fn lie_weight(&self, system: &System, server: usize, client: usize) -> u32 {
         let idle = system.clients[client].phase == Phase::Idle;
         let new = self.lied[client][server] != Some(about(system, client));
-        match (self.liar.habit, self.draining && idle) {
+        match (self.faulty.habit, self.draining && idle) {
             (Habit::Silent, _) | (_, true) => 0,
             _ if new && !idle => 256,
             _ => 1,

@@ -40,7 +40,7 @@ pub fn no_licence_entry(random: &mut Random) -> u64 {
 }
 
 /// 88 bits that are no message to a client: a wrong kind, or a field that must be zero.
-pub fn misprint(random: &mut Random) -> u128 {
+pub fn malformed(random: &mut Random) -> u128 {
     let kind = random.below(16) as u128;
     let tag = random.pick(&[0, 1, 0xF_FFFF]);
     let counter = random.pick(&[0, 1, 0xF_FFFF]);

@@ -3,10 +3,10 @@
 use crate::parse::LONGEST_LINE;
 use crate::random::Random;
 
-/// A way to spoil a line.
-type Spoil = fn(&mut Random, &mut Vec<u8>);
+/// A way to damage a line.
+type Damage = fn(&mut Random, &mut Vec<u8>);
 
-const WAYS: [Spoil; 24] = [
+const WAYS: [Damage; 24] = [
     |_, line| line.clear(),
     |_, line| line.push(b'\r'),
     |_, line| line.push(b' '),
@@ -33,8 +33,8 @@ const WAYS: [Spoil; 24] = [
     |random, line| line.resize(long(random), b'0'),
 ];
 
-/// Spoils a line in one of the ways. Some lines survive some of them.
-pub fn spoil(random: &mut Random, line: &[u8]) -> Vec<u8> {
+/// Damages a line in one of the ways. Some lines survive some of them.
+pub fn damage(random: &mut Random, line: &[u8]) -> Vec<u8> {
     let mut line = line.to_vec();
     random.pick(&WAYS)(random, &mut line);
     line

@@ -19,7 +19,7 @@ fn refused(number: u32, before: &str, lines: &str) {
     }
 }
 
-const MISPRINT: &str = "0000000000000000000000";
+const MALFORMED: &str = "0000000000000000000000";
 const ACK: &str = "6000000000100000000000";
 
 #[test]
@@ -35,12 +35,12 @@ fn too_many_faulty_2() {
 #[test]
 fn no_such_process_4() {
     refused(4, "S 1 2 1; C 2", "R 0; R 3; W 3 0000000000; K 0 1; K 5 1; K 1 3; D 3 1; D 2 5; C 0; C 9999999");
-    refused(4, "S 1 2 1", &format!("L 5 1 {MISPRINT}; L 2 3 {MISPRINT}; L 0 0 {ACK}"));
+    refused(4, "S 1 2 1", &format!("L 5 1 {MALFORMED}; L 2 3 {MALFORMED}; L 0 0 {ACK}"));
 }
 
 #[test]
 fn wrong_role_5() {
-    refused(5, "S 1 2 01; C 1", &format!("K 2 1; K 2 2; L 1 1 {MISPRINT}; L 1 2 {ACK}"));
+    refused(5, "S 1 2 01; C 1", &format!("K 2 1; K 2 2; L 1 1 {MALFORMED}; L 1 2 {ACK}"));
 }
 
 #[test]
@@ -65,7 +65,7 @@ fn no_entry_8() {
 fn malformed_9() {
     // Kinds 0, 7 and 15; kinds 1, 3 and 4, which no client takes; WRITE_ACK with a tag, a client, an entry.
     let lies = format!(
-        "L 1 1 {MISPRINT}; L 1 1 7000000000000000000000; L 1 1 F000000000000000000000;
+        "L 1 1 {MALFORMED}; L 1 1 7000000000000000000000; L 1 1 F000000000000000000000;
          L 1 1 1000010000000000000000; L 1 1 3000000000000000000000; L 1 1 4000000000117E82E80141;
          L 1 1 6000010000100000000000; L 1 1 6000000000110000000000; L 1 1 6000000000100000000001"
     );

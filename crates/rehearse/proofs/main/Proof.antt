@@ -9,15 +9,13 @@ use lib.ListN.{length, take, drop}
 use lib.Seq.{length-take-le}
 use borrow.Author.Needs.{needs}
 use Rattle.script.proofs.Writing.{keeps}
-use Rattle.rehearse.specs.Blocks.{stageIn}
 use Rattle.rehearse.proofs.Going.{Going, none-read, one-turn}
-use Rattle.rehearse.proofs.Staying.{first-sound}
 use Rattle.rehearse.proofs.main.Statement.{statement}
 use Rattle.rehearse.proofs.main.Tie as tie
 
 abbrev Inv-loop : tie.InvT-loop
 Inv-loop b₀ r₀ input₀ out₀ q₀ have₀ turns₀ b r input out q have turns =
-    Going (stageIn q₀ b₀ r₀) q b r input have out
+    Going q b r input have out
 
 abbrev μ-loop : tie.MeasureT-loop
 μ-loop b₀ r₀ input₀ out₀ q₀ have₀ turns₀ b r input out q have turns = turns
@@ -43,8 +41,7 @@ loop-holds : tie.Need-loop-holds Inv-loop μ-loop
 loop-holds c =
     let set = c .before in
     let made = set .before .before .before in
-    none-read (c .turn-of .ensures) (first-sound _ _ _ (set .set-up .ensures))
-    (sym (made .before .new-input .ensures)) (sym (made .new-output .ensures))
+    none-read (c .turn-of .ensures) (set .set-up .ensures) (sym (made .before .new-input .ensures)) (sym (made .new-output .ensures))
 
 -- ---- the block
 

@@ -6,7 +6,7 @@ use borrow.Author.Needs.{needs}
 use borrow.Author.Tests.{lt-ltb, le-ltb, ltb-true, ltb-false, not-true, not-false}
 use Rattle.server.specs.State.{sound}
 use Rattle.server.specs.Taking.{isRequest, served}
-use Rattle.server.proofs.Outcomes.{unsound, nobody-low, nobody-high, malformed, taken}
+use Rattle.server.proofs.Outcomes.{unsound, no-process-low, no-process-high, malformed, taken}
 use Rattle.server.proofs.take.Statement.{statement}
 use Rattle.server.proofs.take.Tie as tie
 
@@ -28,8 +28,8 @@ returns-2 c =
     let a = c .before .before .before .before .before .args in
     let h : sound (a .s) ≡ true = lt-ltb _ _ (c .before .before .if1 .left) in
     c .refused2 .ensures
-    ∙ sym (⊎-elim (λ w. nobody-low (a .s) (a .d) (a .bytes .now) h (w .taken))
-    (λ w. nobody-high (a .s) (a .d) (a .bytes .now) h (w .0 .left) (ltb-true 6 (a .d) (w .1 .taken)))
+    ∙ sym (⊎-elim (λ w. no-process-low (a .s) (a .d) (a .bytes .now) h (w .taken))
+    (λ w. no-process-high (a .s) (a .d) (a .bytes .now) h (w .0 .left) (ltb-true 6 (a .d) (w .1 .taken)))
     (c .before .if2 .came))
 
 unpack-requires : tie.Need-unpack-requires

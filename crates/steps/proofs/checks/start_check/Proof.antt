@@ -18,8 +18,8 @@ abbrev rungs : (c : tie.Start) → List Rung
 rungs c = let a = c .args in startChecks (a .t) (a .stopped) (a .c) (a .d)
 
 -- a client that is refused as stopped has stopped
-is-gone : (c : tie.Then2) → let a = c .before .before .before .before .before .args in contains (a .stopped) (a .d) ≡ true
-is-gone c = cc (c .before .before .has .ensures, c .if2 .taken)
+has-stopped : (c : tie.Then2) → let a = c .before .before .before .before .before .args in contains (a .stopped) (a .d) ≡ true
+has-stopped c = cc (c .before .before .has .ensures, c .if2 .taken)
 
 is-client-requires : tie.Need-is-client-requires
 is-client-requires c κs = search needs
@@ -43,7 +43,7 @@ returns-2 c =
     let s = at-if1 .before .before in
     climbs (rungs s) _
     (next (not-of (at-if1 .before .is-client .ensures) (at-if1 .if1 .left))
-    (stop (is-gone c)))
+    (stop (has-stopped c)))
 
 returns-3 : tie.Need-returns-3
 returns-3 c =

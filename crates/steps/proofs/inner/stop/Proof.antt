@@ -18,8 +18,8 @@ use Rattle.steps.proofs.inner.stop.Statement.{statement}
 use Rattle.steps.proofs.inner.stop.Tie as tie
 
 -- what the step gives
-abbrev gone : (c : tie.Start) → Server → Session → List ℕ → After
-gone c v x l = let a = c .args in left (a .t) (a .stopped) v x (a .b .now) l (a .d)
+abbrev after-stop : (c : tie.Start) → Server → Session → List ℕ → After
+after-stop c v x l = let a = c .args in left (a .t) (a .stopped) v x (a .b .now) l (a .d)
 
 -- the first checks, and that they are passed
 abbrev checked : (c : tie.Start) → List Rung
@@ -67,7 +67,7 @@ returns c =
     let at-stop-check = c .before .before .before in
     let s = at-stop-check .before in
     let a = s .args in
-    λ v x l. stays (a .stopped) v x (a .b .now) l (gone s v x l) _ _
+    λ v x l. stays (a .stopped) v x (a .b .now) l (after-stop s v x l) _ _
     (sym (ap refusalIn (c .before .n .given .1)) ∙ at-stop-check .stop-check .ensures)
 
 returns-2 : tie.Need-returns-2
@@ -76,7 +76,7 @@ returns-2 c =
     let s = c .before .before .before .before .before .before in
     let a = s .args in
     λ v x l. gives-same _ _ v x _ _ l (c .with-stopped .ensures) (c .before .empty-down .ensures)
-    ∙ works (a .stopped) v x (a .b .now) l (gone s v x l) _ (told (c .before .before .before))
+    ∙ works (a .stopped) v x (a .b .now) l (after-stop s v x l) _ (told (c .before .before .before))
 
 pub stop-spec : {M : Type 1} → statement M
 stop-spec =

@@ -17,8 +17,8 @@ returns c = simp (sym (c .before .is-in .ensures) ∙ c .if1 .taken)
 down-requires : tie.Need-down-requires
 down-requires c κs = search needs
 
-places-requires : tie.Need-places-requires
-places-requires c κs = search needs
+count-to-requires : tie.Need-count-to-requires
+count-to-requires c κs = search needs
 
 has-room-requires : tie.Need-has-room-requires
 has-room-requires c κs = search needs
@@ -28,9 +28,9 @@ returns-2 c =
     let a = c .before .before .before .before .before .args in
     simp (sym (c .before .before .before .before .is-in .ensures) ∙ c .before .before .before .if1 .left)
     (c .has-room .ensures
-    ∙ ap (λ (n : ℕ). leb (countAt (a .b .now) n + c .before .places .result) 8) (c .before .before .down .ensures)
-    ∙ ap (λ (n : ℕ). leb (countAt (a .b .now) (downIndex (a .i) (a .j)) + n) 8) (c .before .places .ensures .0))
+    ∙ ap (λ (n : ℕ). leb (countAt (a .b .now) n + c .before .count-to .result) 8) (c .before .before .down .ensures)
+    ∙ ap (λ (n : ℕ). leb (countAt (a .b .now) (downIndex (a .i) (a .j)) + n) 8) (c .before .count-to .ensures .0))
 
 pub has-room-from-spec : {M : Type 1} → statement M
 has-room-from-spec =
-    tie.close (tie.spec is-in-requires returns down-requires places-requires has-room-requires returns-2)
+    tie.close (tie.spec is-in-requires returns down-requires count-to-requires has-room-requires returns-2)

@@ -1,4 +1,4 @@
--- `places`: one message for the sender, and one for a reader that is forwarded to. Assumes nothing.
+-- `count_to`: one message for the sender, and one for a reader that is forwarded to. Assumes nothing.
 use Prim.Native.Nat.{suc, _+_}
 use mathlib.Core.Path.{sym, _∙_, ap}
 use native.Mathlib.Numerals.{add-one}
@@ -10,8 +10,8 @@ use Rattle.register.specs.Server.{sentTo}
 use Rattle.server.specs.declared.Sends.{Sends}
 use Rattle.server.specs.Taking.{sentBy}
 use Rattle.steps.proofs.ReplyLengths.{byte-le, none-length, info-length, forward-length}
-use Rattle.steps.proofs.transport.places.Statement.{statement}
-use Rattle.steps.proofs.transport.places.Tie as tie
+use Rattle.steps.proofs.transport.count_to.Statement.{statement}
+use Rattle.steps.proofs.transport.count_to.Tie as tie
 
 add-own : tie.Need-add-own
 add-own c = search needs
@@ -68,8 +68,8 @@ returns-3 c =
       omega (arith, byte-le (c .is-in .result), byte-le (eqb (a .d) (a .i + 1))),
     )
 
-pub places-spec : {M : Type 1} → statement M
-places-spec =
+pub count-to-spec : {M : Type 1} → statement M
+count-to-spec =
     tie.close
     (tie.spec
     add-own
