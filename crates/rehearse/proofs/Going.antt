@@ -14,7 +14,7 @@ use native.Mathlib.Omega.{arith}
 use lib.ListN.{length, take, drop, length-take}
 use lib.Seq.{take-nil, take-append-seam}
 use Rattle.basics.proofs.Cases.{clash}
-use Rattle.script.specs.Lines.{kept}
+use Rattle.script.specs.Lines.{kept, wholeLines, most}
 use Rattle.script.specs.Writing.{Written}
 use Rattle.script.proofs.Writing.{keeps}
 use Rattle.register.specs.World.{newWorld}
@@ -23,7 +23,7 @@ use Rattle.system.specs.Setup.{settingsBy}
 use Rattle.system.specs.Stored.{Stored}
 use Rattle.rehearse.specs.declared.lines.Turn.{Turn}
 use Rattle.rehearse.specs.Saying.{stage, stageAfter}
-use Rattle.rehearse.specs.Blocks.{wholeLines, lengthOf, cutLine, turnOf, stageIn, LinesTaken, joined}
+use Rattle.rehearse.specs.Blocks.{lengthOf, cutLine, turnOf, stageIn, LinesTaken, joined}
 use Rattle.rehearse.specs.Blocks.{Progress, progress, beginning, turn, turns}
 use Rattle.rehearse.proofs.Staying.{Sound, first-sound, stage-sound}
 
@@ -63,8 +63,8 @@ part-is (suc at) (suc n) [] = take-nil (suc n - suc at)
 part-is (suc at) (suc n) (x ∷ s) =
     let e : suc n - suc at ≡ n - at = omega arith in ap (λ (k : ℕ). take k (drop at s)) e ∙ part-is at n s
 
-kept-is : (s block : List ℕ) (at n : ℕ) → take n s ≡ block → kept s at n ≡ take 65 (drop at block)
-kept-is s block at n e = ap (take 65) (part-is at n s ∙ ap (drop at) e)
+kept-is : (s block : List ℕ) (at n : ℕ) → take n s ≡ block → kept s at n ≡ take most (drop at block)
+kept-is s block at n e = ap (take most) (part-is at n s ∙ ap (drop at) e)
 
 -- ---- one turn more
 
@@ -74,7 +74,7 @@ pub record Going (q : Turn) (b r input : List ℕ) (have : ℕ) (out : List ℕ)
   pub known : stageIn q b r ≡ turns (progress beginning [] []) parts .known
   pub left : take have input ≡ turns (progress beginning [] []) parts .left
   pub sound : Sound (stageIn q b r)
-  pub few : have ≤ 65
+  pub few : have ≤ most
   pub long : length input ≡ 16384
   pub wide : length out ≡ 1310720
 
@@ -115,10 +115,10 @@ module _ {q : Turn} {b r input : List ℕ} {have : ℕ} {out : List ℕ} (g : Go
   known-is : stageIn z b′ r′ ≡ stageAfter (before .known) (wholeLines (before .left ++ part))
   known-is = t .state ∙ (λ i. stageAfter (g .known i) (wholeLines (block-is i)))
 
-  left-is : take have′ next ≡ take 65 (cutLine (before .left ++ part))
+  left-is : take have′ next ≡ take most (cutLine (before .left ++ part))
   left-is =
       starts k ∙ kept-is closed (before .left ++ part) (z .at) total block-is
-      ∙ ap (λ (n : ℕ). take 65 (drop n (before .left ++ part)))
+      ∙ ap (λ (n : ℕ). take most (drop n (before .left ++ part)))
       (t .place ∙ ap (λ (l : List ℕ). lengthOf (wholeLines l)) block-is)
 
   pub one-turn : length read ≡ 16384 → length out′ ≡ length out → Going z b′ r′ next have′ out′
@@ -128,7 +128,7 @@ module _ {q : Turn} {b r input : List ℕ} {have : ℕ} {out : List ℕ} (g : Go
       let closed-long = keeps c in
       let next-long = keeps k in
       let was-wide = g .wide in
-      let most : length (kept closed (z .at) total) ≤ 65 = simp length-take (omega arith) in
+      let short : length (kept closed (z .at) total) ≤ most = simp length-take (omega arith) in
       record {
         parts = g .parts ++ part ∷ [];
         known = known-is ∙ sym (ap (λ (y : Progress). y .known) turned);

@@ -10,6 +10,7 @@ use Rattle.script.specs.declared.parse.Line.the-variants as line
 use Rattle.script.specs.declared.print.Output.the-variants as output
 use Rattle.steps.specs.Kinds.{isOfServer, isOfClient, isOfNeither}
 use Rattle.system.specs.declared.setup.Setup.{Setup}
+use Rattle.system.specs.Ends.{serverPlace, clientPlace}
 use Rattle.system.specs.Step.{stepped}
 use Rattle.rehearse.specs.declared.lines.Heard.{Heard}
 use Rattle.rehearse.specs.declared.lines.Heard.the-variants as heard
@@ -34,8 +35,8 @@ pub record Passed (p : Stage) (l : Line) : Type 0 where
 abbrev pub Means : Stage → Line → Heard → Type 0
 Means p l (heard.Setup s) = Sets p l s
 Means p l heard.Unread = Passed p l
-Means p l (heard.Server x) = Steps p l x × (isOfServer x ≡ true)
-Means p l (heard.Client x) = Steps p l x × (isOfClient x ≡ true)
+Means p l (heard.Server j x) = Steps p l x × (isOfServer x ≡ true) × (j ≡ serverPlace x)
+Means p l (heard.Client i x) = Steps p l x × (isOfClient x ≡ true) × (i ≡ clientPlace x)
 Means p l (heard.Other x) = Steps p l x × (isOfNeither x ≡ true)
 
 module _ (p : Stage) where
@@ -44,10 +45,10 @@ module _ (p : Stage) where
   step-is x t = record { says-it = rw t refl; leaves = rw t refl }
 
   step-means : (x : Step) → p .isSet ≡ true → Means p (line.Take x) (sorted x)
-  step-means (R d) t = (step-is (R d) t, refl)
-  step-means (W d e) t = (step-is (W d e) t, refl)
-  step-means (K k d) t = (step-is (K k d) t, refl)
-  step-means (D d k) t = (step-is (D d k) t, refl)
+  step-means (R d) t = (step-is (R d) t, refl, refl)
+  step-means (W d e) t = (step-is (W d e) t, refl, refl)
+  step-means (K k d) t = (step-is (K k d) t, refl, refl)
+  step-means (D d k) t = (step-is (D d k) t, refl, refl)
   step-means (C d) t = (step-is (C d) t, refl)
   step-means (L k d w) t = (step-is (L k d w) t, refl)
 

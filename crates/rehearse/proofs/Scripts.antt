@@ -4,20 +4,19 @@
 -- them, to the others. So it does not matter in how many turns the lines are taken.
 -- Assumes nothing.
 use mathlib.Core.Path.{_≡_, refl, sym, ap, _∙_}
+use mathlib.Core.Bool.{false}
 use mathlib.Core.List.{List, [], _∷_, _++_, append-assoc, append-nil}
-use mathlib.Core.Option.{none, some}
 use Prim.Native.Nat.{ℕ, suc, _+_, _-_, _≤_, _<_}
 use native.Mathlib.Omega.{arith}
-use lib.Dec.{eqb}
 use lib.ListN.{length, take, drop, length-take, length-drop}
 use lib.Seq.{drop-drop}
-use Rattle.basics.proofs.Cases.{by-test, clash}
 use Rattle.script.specs.Grammar.{lineOf}
-use Rattle.script.specs.Lines.{upTo, behind, part, lineEnd}
+use Rattle.script.specs.Lines.{upTo, part, lineEnd, wholeLines}
 use Rattle.script.specs.Printed.{printed}
 use Rattle.script.proofs.Places.{up-to-take, behind-some, behind-none}
+use Rattle.script.proofs.Split.{first-line, no-whole}
 use Rattle.rehearse.specs.Saying.{Stage, says, after, textOf, stageAfter}
-use Rattle.rehearse.specs.Blocks.{inFirst, wholeLines, lengthOf}
+use Rattle.rehearse.specs.Blocks.{lengthOf}
 
 -- ---- lines behind lines
 
@@ -59,21 +58,6 @@ length-more (k ∷ ls) l = let more = length-more ls l in omega arith
 
 -- ---- the next line of a block
 
-first-whole : (s rest : List ℕ) → behind 10 s ≡ some rest → wholeLines s ≡ upTo 10 s ∷ wholeLines rest
-unfolding upTo behind wholeLines
-first-whole [] rest e = clash cc
-first-whole (b ∷ s) rest e =
-    by-test (eqb b 10)
-    (λ t. let is : s ≡ rest = let q = rw t at e in cc in rw t (ap (λ (l : List ℕ). [] ∷ wholeLines l) is))
-    (λ t. rw t (ap (λ (ls : List (List ℕ)). inFirst b ls) (first-whole s rest (rw t at e))))
-
-no-whole : (s : List ℕ) → behind 10 s ≡ none → wholeLines s ≡ []
-unfolding behind wholeLines
-no-whole [] e = refl
-no-whole (b ∷ s) e =
-    by-test (eqb b 10) (λ t. let q = rw t at e in clash cc)
-    (λ t. rw t (ap (λ (ls : List (List ℕ)). inFirst b ls) (no-whole s (rw t at e))))
-
 module _ (input : List ℕ) (at end : ℕ) (inside : at ≤ length input) (e : end ≡ lineEnd input at) where
   abbrev left : List ℕ
   left = drop at input
@@ -87,7 +71,7 @@ module _ (input : List ℕ) (at end : ℕ) (inside : at ≤ length input) (e : e
       let wide = long in
       let here : end - at ≡ n = omega arith in
       let more : at + suc n ≡ end + 1 = omega arith in
-      first-whole left (drop (suc n) left) (behind-some 10 left (omega arith))
+      first-line false left (drop (suc n) left) (behind-some 10 left (omega arith))
       ∙ ap (λ (l : List ℕ). l ∷ wholeLines (drop (suc n) left)) (sym (up-to-take 10 left))
       ∙ ap (λ (k : ℕ). take k left ∷ wholeLines (drop (suc n) left)) (sym here)
       ∙ ap (λ (l : List ℕ). part input at end ∷ wholeLines l) (drop-drop (suc n) at input)

@@ -16,7 +16,7 @@ use Rattle.script.specs.declared.parse.Line.{Line}
 use Rattle.script.specs.declared.print.Output.{Output}
 use Rattle.script.specs.declared.print.Output.the-variants as output
 use Rattle.script.specs.Grammar.{lineOf}
-use Rattle.script.specs.Lines.{part, lineEnd}
+use Rattle.script.specs.Lines.{part, lineEnd, wholeLines}
 use Rattle.script.specs.Next.{foundAt}
 use Rattle.script.specs.Printed.{printed}
 use Rattle.script.specs.Writing.{Written}
@@ -28,7 +28,7 @@ use Rattle.system.specs.Step.{Result, stepped}
 use Rattle.rehearse.specs.declared.lines.Turn.{Turn}
 use Rattle.rehearse.specs.Saying.{Stage, stage, nextNumber, moved, setupSays, setUp}
 use Rattle.rehearse.specs.Saying.{says, after, textOf, stageAfter}
-use Rattle.rehearse.specs.Blocks.{isAccepted, wholeLines, lengthOf, turnOf, stageIn, LinesTaken}
+use Rattle.rehearse.specs.Blocks.{isAccepted, lengthOf, turnOf, stageIn, LinesTaken}
 use Rattle.rehearse.proofs.Hearing.{Sets, Steps, Passed}
 use Rattle.rehearse.proofs.Scripts.{stage-more, text-more, length-more, next-line, line-length, no-line}
 use Rattle.rehearse.proofs.Staying.{Sound, line-sound}

@@ -1,26 +1,26 @@
 -- However the input comes in parts, all that the program has written at its end is the text of the lines of the whole input.
 --
 -- Why: the lines of an input are the whole lines of its first bytes, and then those of the cut line with all that comes behind
--- it; so it is enough to keep the cut line. Of this no more than 65 bytes are needed: it goes on as the first line of the rest,
+-- it; so it is enough to keep the cut line. Of this no more than `most` bytes are needed: it goes on as the first line of the rest,
 -- and a line with so many is unreadable with and without the others. Where the input has ended, what is kept is the last line.
 -- In order: a text without a line end; the whole lines and the cut one; what is kept of it; the last line; part by part.
 -- Assumes nothing.
 use mathlib.Core.Path.{_≡_, refl, sym, ap, _∙_}
-use mathlib.Core.Bool.{false}
+use mathlib.Core.Bool.{true, false}
 use mathlib.Core.List.{List, [], _∷_, _++_, append-assoc, append-nil}
 use mathlib.Core.Option.{none}
-use Prim.Native.Nat.{ℕ, zero, suc, _+_}
+use Prim.Native.Nat.{ℕ, zero, suc, _+_, _-_}
 use native.Mathlib.Omega.{arith}
 use lib.Dec.{eqb}
 use lib.ListN.{length, take, drop, getD}
 use Rattle.basics.proofs.Cases.{by-test, by-list, clash}
 use Rattle.script.specs.Grammar.{lineOf}
-use Rattle.script.specs.Lines.{behind, inFront, linesOf}
+use Rattle.script.specs.Lines.{behind, inFront, linesBy, linesOf, wholeLines, most}
 use Rattle.script.specs.Printed.{printed}
 use Rattle.script.proofs.Kept.{cut-line}
 use Rattle.script.proofs.Split.{last-line}
 use Rattle.rehearse.specs.Saying.{Stage, says, after, textOf, stageAfter}
-use Rattle.rehearse.specs.Blocks.{inFirst, wholeLines, lengthOf, cutLine, closed, progress, turns, ending, inputOf}
+use Rattle.rehearse.specs.Blocks.{lengthOf, cutLine, closed, progress, turns, ending, inputOf}
 use Rattle.rehearse.proofs.Scripts.{text-then}
 
 -- ---- a text without a line end
@@ -52,7 +52,7 @@ byte-passed b n l s =
 
 -- the cut line has no line end
 cut-endless : (s : List ℕ) → Endless (cutLine s)
-unfolding behind wholeLines lengthOf
+unfolding behind linesBy lengthOf
 cut-endless [] = refl
 cut-endless (b ∷ s) =
     let h = cut-endless s in
@@ -61,38 +61,38 @@ cut-endless (b ∷ s) =
 
 -- the lines of a text and more are its whole ones, and then those of its cut one and more
 cut-lines : (s t : List ℕ) → linesOf (s ++ t) ≡ wholeLines s ++ linesOf (cutLine s ++ t)
-unfolding linesOf wholeLines lengthOf
+unfolding linesBy lengthOf
 cut-lines [] t = refl
 cut-lines (b ∷ s) t =
     let h = cut-lines s t in
     by-test (eqb b 10) (λ d. rw (d, end-passed) (ap (λ (ls : List (List ℕ)). [] ∷ ls) h))
     (λ d. by-list (wholeLines s) (λ e. rw (d, e, d) refl)
-    (λ l ls e. rw (d, e, byte-passed) (ap (inFront b) (rw e at h))))
+    (λ l ls e. rw (d, e, byte-passed) (ap (inFront true b) (rw e at h))))
 
 -- ---- what is kept of it
 
 -- a byte goes in front of the first line, if there is one
-front-line : (b : ℕ) (ls : List (List ℕ)) → inFront b ls ≡ (b ∷ getD ls 0 []) ∷ drop 1 ls
+front-line : (b : ℕ) (ls : List (List ℕ)) → inFront true b ls ≡ (b ∷ getD ls 0 []) ∷ drop 1 ls
 front-line b [] = refl
 front-line b (l ∷ ls) = refl
 
 -- so does a text without a line end
 led-lines : (b : ℕ) (s t : List ℕ) → Endless (b ∷ s)
     → linesOf (b ∷ s ++ t) ≡ (b ∷ s ++ getD (linesOf t) 0 []) ∷ drop 1 (linesOf t)
-unfolding linesOf
+unfolding linesBy
 led-lines b [] t e = rw (endless-rest b [] e .0) (front-line b (linesOf t))
-led-lines b (c ∷ s) t e = let r = endless-rest b (c ∷ s) e in rw (r .0) (ap (inFront b) (led-lines c s t (r .1)))
+led-lines b (c ∷ s) t e = let r = endless-rest b (c ∷ s) e in rw (r .0) (ap (inFront true b) (led-lines c s t (r .1)))
 
 -- only what the first line is read as matters
 first-alike : (p : Stage) (l m : List ℕ) (ls : List (List ℕ)) → lineOf l ≡ lineOf m → textOf p (l ∷ ls) ≡ textOf p (m ∷ ls)
 unfolding textOf
 first-alike p l m ls e = ap (λ x. printed (p .number) (says p x) ++ textOf (after p x) ls) e
 
--- cut after 65 bytes it is read as it is whole
-kept-enough : (p : Stage) (s t : List ℕ) → Endless s → textOf p (linesOf (take 65 s ++ t)) ≡ textOf p (linesOf (s ++ t))
+-- cut it is read as it is whole
+kept-enough : (p : Stage) (s t : List ℕ) → Endless s → textOf p (linesOf (take most s ++ t)) ≡ textOf p (linesOf (s ++ t))
 kept-enough p [] t e = refl
 kept-enough p (b ∷ s) t e =
-    ap (textOf p) (led-lines b (take 64 s) t (endless-take 65 (b ∷ s) e))
+    ap (textOf p) (led-lines b (take (most - 1) s) t (endless-take most (b ∷ s) e))
     ∙ first-alike p _ _ (drop 1 (linesOf t)) (cut-line (b ∷ s) (getD (linesOf t) 0 []))
     ∙ ap (textOf p) (sym (led-lines b s t e))
 
@@ -100,13 +100,13 @@ kept-enough p (b ∷ s) t e =
 
 -- with an end it is a whole line
 one-line : (s : List ℕ) → Endless s → wholeLines (s ++ 10 ∷ []) ≡ s ∷ []
-unfolding wholeLines
+unfolding linesBy
 one-line [] e = refl
-one-line (b ∷ s) e = let r = endless-rest b s e in rw (r .0) (ap (inFirst b) (one-line s (r .1)))
+one-line (b ∷ s) e = let r = endless-rest b s e in rw (r .0) (ap (inFront false b) (one-line s (r .1)))
 
 -- and the only line, as without the end
 closed-lines : (s : List ℕ) → Endless s → wholeLines (closed s) ≡ linesOf s
-unfolding wholeLines linesOf
+unfolding linesBy
 closed-lines [] e = refl
 closed-lines (b ∷ s) e = one-line (b ∷ s) e ∙ sym (last-line b s e)
 
@@ -123,7 +123,7 @@ whole-from p left said (x ∷ xs) e =
     let rest : List ℕ = inputOf xs in
     let q : Stage = stageAfter p (wholeLines s) in
     let text : List ℕ = textOf p (wholeLines s) in
-    whole-from q (take 65 (cutLine s)) (said ++ text) xs (endless-take 65 (cutLine s) (cut-endless s))
+    whole-from q (take most (cutLine s)) (said ++ text) xs (endless-take most (cutLine s) (cut-endless s))
     ∙ append-assoc said text _
     ∙ ap (λ (z : List ℕ). said ++ (text ++ z)) (kept-enough q (cutLine s) rest (cut-endless s))
     ∙ ap (λ (z : List ℕ). said ++ z) (sym (text-then p (wholeLines s) (linesOf (cutLine s ++ rest))))

@@ -7,18 +7,19 @@ use Prim.Native.Nat.{ℕ, _+_}
 use mathlib.Core.Path.{_≡_}
 use mathlib.Core.Bool.{Bool, true, false, cond}
 use mathlib.Core.List.{List, [], _∷_, _++_}
-use lib.Dec.{eqb}
 use lib.ListN.{length, take, drop}
 use Rattle.register.specs.declared.Step.{Step}
 use Rattle.register.specs.declared.Step.the-variants.{R, W, K, D, C, L}
 use Rattle.script.specs.declared.parse.Line.{Line}
 use Rattle.script.specs.declared.parse.Line.the-variants as line
+use Rattle.script.specs.Lines.{wholeLines, most}
 use Rattle.script.specs.Writing.{Written}
 use Rattle.register.specs.World.{newWorld}
 use Rattle.state.specs.declared.System.{System}
 use Rattle.state.specs.State.{storeSystem, storeSlots, storeAllReplies}
 use Rattle.system.specs.declared.setup.Setup.{Setup}
 use Rattle.system.specs.declared.setup.Setup.the-variants as setup
+use Rattle.system.specs.Ends.{serverPlace, clientPlace}
 use Rattle.system.specs.Setup.{settingsBy, setupOf}
 use Rattle.rehearse.specs.declared.lines.Heard.{Heard}
 use Rattle.rehearse.specs.declared.lines.Heard.the-variants as heard
@@ -27,12 +28,12 @@ use Rattle.rehearse.specs.Saying.{Stage, stage, textOf, stageAfter}
 
 -- ---- what a line is taken for
 
--- a step by what it changes: one server, one client, or neither
+-- a step by what it changes, with its place: one server, one client, or neither
 abbrev pub sorted : Step → Heard
-sorted (R d) = heard.Client (R d)
-sorted (W d e) = heard.Client (W d e)
-sorted (K k d) = heard.Server (K k d)
-sorted (D d k) = heard.Client (D d k)
+sorted (R d) = heard.Client (clientPlace (R d)) (R d)
+sorted (W d e) = heard.Client (clientPlace (W d e)) (W d e)
+sorted (K k d) = heard.Server (serverPlace (K k d)) (K k d)
+sorted (D d k) = heard.Client (clientPlace (D d k)) (D d k)
 sorted (C d) = heard.Other (C d)
 sorted (L k d w) = heard.Other (L k d w)
 
@@ -46,16 +47,7 @@ abbrev pub isAccepted : Setup → Bool
 isAccepted (setup.Set t) = true
 isAccepted (setup.Refused n) = false
 
--- ---- the whole lines of a text: those that have their end in it
-
--- a byte in front of the first line, if there is a whole one
-abbrev pub inFirst : ℕ → List (List ℕ) → List (List ℕ)
-inFirst b [] = []
-inFirst b (l ∷ ls) = (b ∷ l) ∷ ls
-
-unfoldable pub wholeLines : List ℕ → List (List ℕ)
-wholeLines [] = []
-wholeLines (b ∷ bs) = cond (eqb b 10) ([] ∷ wholeLines bs) (inFirst b (wholeLines bs))
+-- ---- the whole lines of a text, and what stands behind them
 
 -- the bytes of lines with their ends
 unfoldable pub lengthOf : List (List ℕ) → ℕ
@@ -92,10 +84,6 @@ closed (x ∷ xs) = x ∷ xs ++ 10 ∷ []
 abbrev pub joined : List ℕ → List ℕ → List ℕ
 joined left [] = closed left
 joined left (x ∷ xs) = left ++ x ∷ xs
-
--- a line with so many bytes is unreadable, however it goes on: no more need be kept of one that is cut
-abbrev pub most : ℕ
-most = 65
 
 -- ---- the program, part by part
 

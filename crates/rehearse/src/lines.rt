@@ -43,12 +43,13 @@ pub struct Turn {
     pub used: usize,
 }
 
-// What a line is taken for: a setup, nothing that can be read, or a step that changes one server, one client, or neither.
+// What a line is taken for: a setup, nothing that can be read, or a step that changes the server or the client at a place, or
+// neither.
 enum Heard {
     Setup(Setup),
     Unread,
-    Server(Step),
-    Client(Step),
+    Server(usize, Step),
+    Client(usize, Step),
     Other(Step),
 }
 
@@ -82,10 +83,10 @@ fn sort(x: Step) -> Heard
     ensures { λ r. ⌜ r ≡ sorted x ⌝ }
 {
     match x {
-        Step::R(_) => Heard::Client(x),
-        Step::W(_, _) => Heard::Client(x),
-        Step::K(_, _) => Heard::Server(x),
-        Step::D(_, _) => Heard::Client(x),
+        Step::R(_) => Heard::Client(client_place(x), x),
+        Step::W(_, _) => Heard::Client(client_place(x), x),
+        Step::K(_, _) => Heard::Server(server_place(x), x),
+        Step::D(_, _) => Heard::Client(client_place(x), x),
         Step::C(_) => Heard::Other(x),
         Step::L(_, _, _) => Heard::Other(x),
     }
@@ -211,23 +212,17 @@ pub fn take_lines(q: Turn, input: &[u8], out: &mut [u8], b: &mut Slots, r: &mut 
                 is_set = is_set | is_accepted(s);
             }
             Heard::Unread => what = Output::Unread,
-            Heard::Server(x) => {
-                let j = server_place(x);
-                match server_step(u.settings, u.stopped, u.servers[j], x, b) {
-                    ServerStep::Went(w) => u.servers[j] = server_anew(w),
-                    ServerStep::Refused(n) => what = refused(n),
+            Heard::Server(j, x) => match server_step(u.settings, u.stopped, u.servers[j], x, b) {
+                ServerStep::Went(w) => u.servers[j] = server_anew(w),
+                ServerStep::Refused(n) => what = refused(n),
+            },
+            Heard::Client(i, x) => match client_step(u.settings, u.stopped, u.clients[i], x, b, r) {
+                ClientStep::Done(a, w) => {
+                    u.clients[i] = client_anew(w);
+                    what = Output::Answered(a);
                 }
-            }
-            Heard::Client(x) => {
-                let i = client_place(x);
-                match client_step(u.settings, u.stopped, u.clients[i], x, b, r) {
-                    ClientStep::Done(a, w) => {
-                        u.clients[i] = client_anew(w);
-                        what = Output::Answered(a);
-                    }
-                    ClientStep::Refused(n) => what = refused(n),
-                }
-            }
+                ClientStep::Refused(n) => what = refused(n),
+            },
             Heard::Other(x) => match other_step(u.settings, u.stopped, x, b) {
                 OtherStep::Went(w) => u.stopped = w,
                 OtherStep::Refused(n) => what = refused(n),

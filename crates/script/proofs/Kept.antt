@@ -1,7 +1,7 @@
--- The part of a block that is kept: moved to the front byte by byte, and cut after 65 bytes.
+-- The part of a block that is kept: moved to the front byte by byte, and cut after so many bytes as make a line unreadable.
 --
 -- In order: a part of a part, by its length; the block after i bytes have moved (each is read where none was stored yet);
--- the whole part moved; a line that was cut after 65 bytes is unreadable, as it is whole.
+-- the whole part moved; a line that was cut is unreadable, as it is whole.
 -- Assumes nothing.
 use mathlib.Core.Path.{_≡_, refl, ap, sym, _∙_}
 use mathlib.Core.Bool.{Bool, true, false, _&&_}
@@ -18,7 +18,7 @@ use borrow.Author.Tests.{leb-true, leb-false, lt-leb}
 use Rattle.basics.proofs.Cases.{by-test}
 use Rattle.script.specs.declared.parse.Line.the-variants.{Unread}
 use Rattle.script.specs.Grammar.{lineOf}
-use Rattle.script.specs.Lines.{kept}
+use Rattle.script.specs.Lines.{kept, most}
 use Rattle.script.specs.Writing.{Written}
 
 -- ---- parts by their lengths
@@ -44,14 +44,14 @@ least-swap : (a b c : ℕ) → min (min a b) c ≡ min (min c a) b
 least-swap a b c = omega arith
 
 -- the bytes kept: n of them
-kept-take : (s : List ℕ) (at end n : ℕ) → n ≡ min (min end (length s) - at) 65 → take n (drop at s) ≡ kept s at end
+kept-take : (s : List ℕ) (at end n : ℕ) → n ≡ min (min end (length s) - at) most → take n (drop at s) ≡ kept s at end
 kept-take s at end n e =
     let l : List ℕ = drop at s in
     let wide : length l ≡ length s - at = length-drop at s in
-    let m : n ≡ min (min 65 (end - at)) (length l) =
-    e ∙ ap (λ (k : ℕ). min k 65) (sub-least end (length s) at) ∙ least-swap (end - at) (length s - at) 65
-    ∙ ap (λ (k : ℕ). min (min 65 (end - at)) k) (sym wide) in
-    ap (λ (k : ℕ). take k l) m ∙ sym (take-both 65 (end - at) l ∙ take-within (min 65 (end - at)) l)
+    let m : n ≡ min (min most (end - at)) (length l) =
+    e ∙ ap (λ (k : ℕ). min k most) (sub-least end (length s) at) ∙ least-swap (end - at) (length s - at) most
+    ∙ ap (λ (k : ℕ). min (min most (end - at)) k) (sym wide) in
+    ap (λ (k : ℕ). take k l) m ∙ sym (take-both most (end - at) l ∙ take-within (min most (end - at)) l)
 
 -- ---- byte by byte
 
@@ -87,7 +87,7 @@ moved-more s at i h =
 
 -- ---- the whole part
 
-module _ (s : List ℕ) (at end n : ℕ) (e : n ≡ min (min end (length s) - at) 65) where
+module _ (s : List ℕ) (at end n : ℕ) (e : n ≡ min (min end (length s) - at) most) where
   pub within : at ≤ length s → at + n ≤ length s
   within h = omega arith
 
@@ -117,10 +117,10 @@ too-long s h = rw (lt-leb (length s) 64 h, and-right (leb 3 (length s))) refl
     and-right false = refl
 
 -- the start l of a line, cut, and what is read behind it
-pub cut-line : (l t : List ℕ) → lineOf (take 65 l ++ t) ≡ lineOf (l ++ t)
+pub cut-line : (l t : List ℕ) → lineOf (take most l ++ t) ≡ lineOf (l ++ t)
 cut-line l t =
-    by-test (leb (length l) 65)
-    (λ e. rw (take-all 65 l (leb-true (length l) 65 e)) refl)
-    (λ e. let h = leb-false (length l) 65 e in
-    too-long (take 65 l ++ t) (rw (length-append (take 65 l) t, length-take-le 65 l (omega arith)) (omega arith))
+    by-test (leb (length l) most)
+    (λ e. rw (take-all most l (leb-true (length l) most e)) refl)
+    (λ e. let h = leb-false (length l) most e in
+    too-long (take most l ++ t) (rw (length-append (take most l) t, length-take-le most l (omega arith)) (omega arith))
     ∙ sym (too-long (l ++ t) (rw (length-append l t) (omega arith))))

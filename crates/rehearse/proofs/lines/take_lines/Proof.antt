@@ -4,7 +4,7 @@
 -- In order: the lines so far; what a line means; what each kind of step is asked for; what a line leaves; one line more.
 -- Assumes nothing.
 use Prim.Native.Nat.{ℕ, _+_, _≤_, _<_, _-_}
-use mathlib.Core.Path.{_≡_, refl, sym, ap, _∙_}
+use mathlib.Core.Path.{_≡_, refl, sym, ap, subst, _∙_}
 use mathlib.Core.Bool.{Bool, _||_}
 use native.Mathlib.Omega.{arith}
 use lib.ListN.{length, getD}
@@ -105,27 +105,25 @@ enum-told c = search needs
 
 -- ---- a server's step
 
-enum-known-x : tie.Need-enum-known-x Inv-loop μ-loop
-enum-known-x c = search needs
+enum-known-j : tie.Need-enum-known-j Inv-loop μ-loop
+enum-known-j c = search needs
 
-server-place-requires : tie.Need-server-place-requires Inv-loop μ-loop
-server-place-requires c κs = search needs
-
-server-inside : (c : tie.After-server-place Inv-loop μ-loop) → c .server-place .result < 13
-server-inside c = rw (c .server-place .ensures) (server-within _)
+server-inside : (c : tie.After-j Inv-loop μ-loop) → c .j .given .0 .0 < 13
+server-inside c =
+    subst (λ (n : ℕ). n < 13) (sym (meant (c .before .before) _ (c .j .given .1) .2)) (server-within _)
 
 mul-server-step : tie.Need-mul-server-step Inv-loop μ-loop
-mul-server-step c = let at = server-inside (c .before) in search needs
+mul-server-step c = let at = server-inside (c .before .before) in search needs
 
 element-copy-out-server-step : tie.Need-element-copy-out-server-step Inv-loop μ-loop
-element-copy-out-server-step c = server-inside (c .before)
+element-copy-out-server-step c = server-inside (c .before .before)
 
 server-step-requires : tie.Need-server-step-requires Inv-loop μ-loop
 server-step-requires c κs =
-    let place = c .before .before .before in
-    let told = place .before .before in
+    let told = c .before .before .before .before in
     let h = told .before .before in
-    server-ready (asked h _ _ _ (place .server-place .ensures) refl _ emptySession) (meant h _ (told .x .given .1) .1)
+    let m = meant h _ (told .j .given .1) in
+    server-ready (asked h _ _ _ (m .2) refl _ emptySession) (m .1)
 
 enum-known-w : tie.Need-enum-known-w Inv-loop μ-loop
 enum-known-w c = search needs
@@ -134,10 +132,10 @@ server-anew-requires : tie.Need-server-anew-requires Inv-loop μ-loop
 server-anew-requires c κs = search needs
 
 mul-t46 : tie.Need-mul-t46 Inv-loop μ-loop
-mul-t46 c = let at = server-inside (c .before .before .before .before .before .before .before .before) in search needs
+mul-t46 c = let at = server-inside (c .before .before .before .before .before .before .before .before .before) in search needs
 
 element-set-from-u : tie.Need-element-set-from-u Inv-loop μ-loop
-element-set-from-u c = server-inside (c .before .before .before .before .before .before .before .before)
+element-set-from-u c = server-inside (c .before .before .before .before .before .before .before .before .before)
 
 enum-known-n : tie.Need-enum-known-n Inv-loop μ-loop
 enum-known-n c = search needs
@@ -147,29 +145,24 @@ refused-requires c κs = search needs
 
 -- ---- a client's step
 
-enum-known-x-2 : tie.Need-enum-known-x-2 Inv-loop μ-loop
-enum-known-x-2 c = search needs
+enum-known-i : tie.Need-enum-known-i Inv-loop μ-loop
+enum-known-i c = search needs
 
-client-place-requires : tie.Need-client-place-requires Inv-loop μ-loop
-client-place-requires c κs = search needs
-
-client-inside : (c : tie.After-client-place Inv-loop μ-loop) → c .client-place .result < 6
-client-inside c = rw (c .client-place .ensures) (client-within _)
+client-inside : (c : tie.After-i Inv-loop μ-loop) → c .i .given .0 .0 < 6
+client-inside c =
+    subst (λ (n : ℕ). n < 6) (sym (meant (c .before .before) _ (c .i .given .1) .2)) (client-within _)
 
 mul-client-step : tie.Need-mul-client-step Inv-loop μ-loop
-mul-client-step c = let at = client-inside (c .before) in search needs
+mul-client-step c = let at = client-inside (c .before .before) in search needs
 
 element-copy-out-client-step : tie.Need-element-copy-out-client-step Inv-loop μ-loop
-element-copy-out-client-step c = client-inside (c .before)
+element-copy-out-client-step c = client-inside (c .before .before)
 
 client-step-requires : tie.Need-client-step-requires Inv-loop μ-loop
 client-step-requires c κs =
-    let place = c .before .before .before .before in
-    let told = place .before .before in
-    let h = told .before .before in (
-      client-ready (asked h _ _ _ refl (place .client-place .ensures) emptyServer _),
-      meant h _ (told .x2 .given .1) .1,
-    )
+    let told = c .before .before .before .before .before in
+    let h = told .before .before in
+    let m = meant h _ (told .i .given .1) in (client-ready (asked h _ _ _ refl (m .2) emptyServer _), m .1)
 
 enum-known-a : tie.Need-enum-known-a Inv-loop μ-loop
 enum-known-a c = search needs
@@ -179,10 +172,10 @@ client-anew-requires c κs = search needs
 
 mul-t59 : tie.Need-mul-t59 Inv-loop μ-loop
 mul-t59 c =
-    let at = client-inside (c .before .before .before .before .before .before .before .before .before) in search needs
+    let at = client-inside (c .before .before .before .before .before .before .before .before .before .before) in search needs
 
 element-set-from-u-2 : tie.Need-element-set-from-u-2 Inv-loop μ-loop
-element-set-from-u-2 c = client-inside (c .before .before .before .before .before .before .before .before .before)
+element-set-from-u-2 c = client-inside (c .before .before .before .before .before .before .before .before .before .before)
 
 enum-known-n-2 : tie.Need-enum-known-n-2 Inv-loop μ-loop
 enum-known-n-2 c = search needs
@@ -192,14 +185,14 @@ refused-requires-2 c κs = search needs
 
 -- ---- another step
 
-enum-known-x-3 : tie.Need-enum-known-x-3 Inv-loop μ-loop
-enum-known-x-3 c = search needs
+enum-known-x : tie.Need-enum-known-x Inv-loop μ-loop
+enum-known-x c = search needs
 
 other-step-requires : tie.Need-other-step-requires Inv-loop μ-loop
 other-step-requires c κs =
     let told = c .before .before .before in
     let h = told .before .before in
-    other-ready (asked h (told .x3 .given .0 .0) _ _ refl refl emptyServer emptySession) (meant h _ (told .x3 .given .1) .1)
+    other-ready (asked h (told .x .given .0 .0) _ _ refl refl emptyServer emptySession) (meant h _ (told .x .given .1) .1)
 
 enum-known-w-2 : tie.Need-enum-known-w-2 Inv-loop μ-loop
 enum-known-w-2 c = search needs
@@ -224,25 +217,29 @@ leaves c =
     (λ more. by-either more
     (λ w. renamed (w .2) (w .3) (w .4) (w .5) (w .6) (left-unread (meant (c .before) _ (w .1 .given .1))))
     (λ more. by-either more
-    (λ w. renamed (w .12) (w .13) (w .14) (w .15) (w .16)
-    (left-step (meant (c .before) _ (w .1 .given .1) .0) _
-    (server-went (l .u) (l .b) (l .r) s _ _ (w .3 .ensures) _ emptySession _ _ (w .7 .ensures) _
-    (w .9 .given .1 ∙ ap server.Went (sym (w .11 .ensures)))) refl))
+    (λ w. let m = meant (c .before) _ (w .1 .given .1) in
+    renamed (w .11) (w .12) (w .13) (w .14) (w .15)
+    (left-step (m .0) _
+    (server-went (l .u) (l .b) (l .r) s _ _ (m .2) _ emptySession _ _ (w .6 .ensures) _
+    (w .8 .given .1 ∙ ap server.Went (sym (w .10 .ensures)))) refl))
     (λ more. by-either more
-    (λ w. renamed (w .12) (w .13) (w .14) (w .15) (w .16)
-    (left-step (meant (c .before) _ (w .1 .given .1) .0) _
-    (server-refused (l .u) (l .b) (l .r) s _ _ (w .3 .ensures) _ emptySession _ _ (w .7 .ensures) _ (w .9 .given .1))
+    (λ w. let m = meant (c .before) _ (w .1 .given .1) in
+    renamed (w .11) (w .12) (w .13) (w .14) (w .15)
+    (left-step (m .0) _
+    (server-refused (l .u) (l .b) (l .r) s _ _ (m .2) _ emptySession _ _ (w .6 .ensures) _ (w .8 .given .1))
+    (w .10 .ensures)))
+    (λ more. by-either more
+    (λ w. let m = meant (c .before) _ (w .1 .given .1) in
+    renamed (w .12) (w .13) (w .14) (w .15) (w .16)
+    (left-step (m .0) _
+    (client-done (l .u) (l .b) (l .r) s _ _ (m .2) emptyServer _ _ _ _ (w .7 .ensures) _ _
+    (w .9 .given .1 ∙ ap (client.Done (w .9 .given .0 .0)) (sym (w .11 .ensures)))) refl))
+    (λ more. by-either more
+    (λ w. let m = meant (c .before) _ (w .1 .given .1) in
+    renamed (w .12) (w .13) (w .14) (w .15) (w .16)
+    (left-step (m .0) _
+    (client-refused (l .u) (l .b) (l .r) s _ _ (m .2) emptyServer _ _ _ _ (w .7 .ensures) _ (w .9 .given .1))
     (w .11 .ensures)))
-    (λ more. by-either more
-    (λ w. renamed (w .13) (w .14) (w .15) (w .16) (w .17)
-    (left-step (meant (c .before) _ (w .1 .given .1) .0) _
-    (client-done (l .u) (l .b) (l .r) s _ _ (w .3 .ensures) emptyServer _ _ _ _ (w .8 .ensures) _ _
-    (w .10 .given .1 ∙ ap (client.Done (w .10 .given .0 .0)) (sym (w .12 .ensures)))) refl))
-    (λ more. by-either more
-    (λ w. renamed (w .13) (w .14) (w .15) (w .16) (w .17)
-    (left-step (meant (c .before) _ (w .1 .given .1) .0) _
-    (client-refused (l .u) (l .b) (l .r) s _ _ (w .3 .ensures) emptyServer _ _ _ _ (w .8 .ensures) _ (w .10 .given .1))
-    (w .12 .ensures)))
     (λ more. by-either more
     (λ w. renamed (w .9) (w .10) (w .11) (w .12) (w .13)
     (left-step (meant (c .before) _ (w .1 .given .1) .0) _
@@ -299,8 +296,7 @@ take-lines-spec =
     set-afresh-requires
     is-accepted-requires
     enum-told
-    enum-known-x
-    server-place-requires
+    enum-known-j
     mul-server-step
     element-copy-out-server-step
     server-step-requires
@@ -310,8 +306,7 @@ take-lines-spec =
     element-set-from-u
     enum-known-n
     refused-requires
-    enum-known-x-2
-    client-place-requires
+    enum-known-i
     mul-client-step
     element-copy-out-client-step
     client-step-requires
@@ -321,7 +316,7 @@ take-lines-spec =
     element-set-from-u-2
     enum-known-n-2
     refused-requires-2
-    enum-known-x-3
+    enum-known-x
     other-step-requires
     enum-known-w-2
     enum-known-n-3

@@ -5,6 +5,7 @@ use Prim.Native.Nat.{ℕ, _+_, _-_, _≤_, min}
 use native.Mathlib.Omega.{arith}
 use borrow.Author.Needs.{needs}
 use lib.ListN.{length, getD, set}
+use Rattle.script.specs.Lines.{most}
 use Rattle.script.proofs.Kept.{moved, length-moved, moved-read, moved-more, kept-written, within}
 use Rattle.script.proofs.lines.keep.Statement.{statement}
 use Rattle.script.proofs.lines.keep.Tie as tie
@@ -37,10 +38,10 @@ module _ (c : tie.At-loop Inv-loop μ-loop) where
   block = start .args .s .now
 
   -- how many bytes are kept
-  count : c .before .least2 .result ≡ min (min (start .args .end) (length block) - start .args .at) 65
+  count : c .before .least2 .result ≡ min (min (start .args .end) (length block) - start .args .at) most
   count =
       c .before .least2 .ensures
-      ∙ ap (λ (k : ℕ). min (k - start .args .at) 65) (c .before .before .before .least .ensures)
+      ∙ ap (λ (k : ℕ). min (k - start .args .at) most) (c .before .before .before .least .ensures)
 
   fits : start .args .at + c .before .least2 .result ≤ length block
   fits =
