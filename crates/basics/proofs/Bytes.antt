@@ -7,7 +7,7 @@
 -- Assumes nothing.
 use mathlib.Core.Path.{_≡_, refl, sym, ap, _∙_}
 use mathlib.Core.Bool.{true}
-use mathlib.Core.List.{List, [], _∷_, _++_, append-assoc}
+use mathlib.Core.List.{List, [], _∷_, _++_}
 use Prim.Native.Nat.{ℕ, zero, suc, _+_, _-_, _*_, _/_, _%_, _^_, _≤_, _<_}
 use native.Mathlib.Nat.{pow-zero, pow-succ', mul-assoc, add-assoc, zero-mul, zero-add, add-mul, add-comm, add-zero}
 use native.Mathlib.Nat.{add-suc, suc-add, mod-lt, mod-eq-of-lt}
@@ -17,7 +17,7 @@ use lib.Arith.{digits-lt, digits-div, digits-mod, mod-mul}
 use lib.Dec.{ltb}
 use lib.ListN.{length, getD, take, drop, set, length-drop}
 use lib.Pow.{areBytes, pow-add}
-use lib.Seq.{sets, take-suc, getD-drop, take-add, drop-drop, length-take-le, sets-eq, drop-at, take-append-seam}
+use lib.Seq.{sets, take-suc, getD-drop, take-add, drop-drop, length-take-le}
 use borrow.Author.Tests.{ltb-true, lt-ltb}
 use Rattle.basics.specs.Bytes.{bigEndian, spelt}
 use Rattle.basics.proofs.Cases.{both, both-of}
@@ -169,11 +169,3 @@ sets-two s at j k h l small =
     ap (λ (n : ℕ). sets (sets s at (bigEndian j h)) (at + n) (bigEndian k l)) (sym (bytes-length j h))
     ∙ sym (sets-join (bigEndian j h) (bigEndian k l) s at)
     ∙ ap (λ (bs : List ℕ). sets s at bs) (sym (bytes-join j k h l small))
-
--- what is stored is read back
-pub sets-read : (s bs : List ℕ) (at : ℕ) → at + length bs ≤ length s → take (length bs) (drop at (sets s at bs)) ≡ bs
-sets-read s bs at h =
-    let l : length (take at s) ≡ at = length-take-le at s (omega arith) in
-    ap (λ (t : List ℕ). take (length bs) (drop at t)) (sets-eq bs s at h ∙ append-assoc (take at s) bs (drop (at + length bs) s))
-    ∙ ap (λ (t : List ℕ). take (length bs) t) (drop-at (take at s) (bs ++ drop (at + length bs) s) at l)
-    ∙ take-append-seam bs (drop (at + length bs) s)

@@ -5,7 +5,7 @@
 -- earlier (`earlier`), each member stands once (`once`), a member with the next key stands right after (`next-to`), and the one
 -- with the lowest key stands first (`first`).
 -- Assumes nothing.
-use mathlib.Core.Path.{_≡_, refl, sym, ap, _∙_, subst}
+use mathlib.Core.Path.{_≡_, refl, sym, ap, _∙_}
 use mathlib.Core.Bool.{cond}
 use mathlib.Core.Logic.{_⊎_, inl, inr, _≢_}
 use mathlib.Core.List.{List, [], _∷_}
@@ -31,9 +31,6 @@ pub place-member : (l : List ℕ) (i : ℕ) → i < length l → Member (getD l 
 place-member [] i h = absurd (not-suc-le-zero h)
 place-member (x ∷ xs) zero h = inl refl
 place-member (x ∷ xs) (suc i) h = inr (place-member xs i (le-of-suc-le-suc h))
-
-pub at-member : (l : List ℕ) (a i : ℕ) → At l a i → Member a l
-at-member l a i p = subst (λ x. Member x l) (p .is) (place-member l i (p .inside))
 
 module _ (key : ℕ → ℕ) where
   -- each key is lower than those behind it

@@ -9,17 +9,10 @@ use Prim.Native.Nat.{ℕ, zero, suc, _+_, _*_, _≤_, _<_}
 use native.Mathlib.Nat.{suc-mul}
 use lib.ListN.{length, replicate, replicate-append-replicate}
 use Rattle.basics.specs.Update.{update}
-use Rattle.basics.proofs.Update.{update-at}
 use Rattle.channel.specs.Memory.{countAt, bytesAt, putOn, taken, cleared}
 use Rattle.channel.specs.Layout.{Fitting, tabled, packed, row, layout}
 use Rattle.channel.proofs.Rows.{update-map, tabled-same, tabled-length, reads-row, acts-row}
 use Rattle.channel.proofs.Channel.{row-length, count-row, put-row, take-row, clear-row, oldest-row}
-
-module _ {A : Type 0} where
-  -- a channel changed to a list that fits
-  pub fitting-update : (ch : ℕ → List A) (i : ℕ) (ms : List A) → Fitting ch → length ms ≤ 8 → Fitting (update ch i ms)
-  fitting-update ch i ms fits h j less =
-      update-at (λ l. length l ≤ 8) ch i j ms (λ e. h) (λ e. fits j less)
 
 module _ {A : Type 0} (pack : A → List ℕ) (eleven : (a : A) → length (pack a) ≡ 11) where
   -- channels that hold the same have the same bytes

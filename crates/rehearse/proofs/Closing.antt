@@ -5,14 +5,13 @@
 use mathlib.Core.Path.{_≡_, refl, sym, ap, _∙_}
 use mathlib.Core.List.{List, [], _∷_, _++_, append-assoc}
 use Prim.Native.Nat.{ℕ, suc, _+_, _≤_, _<_}
-use native.Mathlib.Nat.{zero-add}
 use native.Mathlib.Omega.{arith}
 use lib.ListN.{length, take, drop, set, length-append, length-take, length-drop, take-append-drop}
 use lib.Seq.{take-add, set-split, length-take-le}
 use Rattle.basics.proofs.Cases.{clash}
 use Rattle.script.specs.Writing.{Written}
 use Rattle.script.proofs.Writing.{reads, written-none}
-use Rattle.rehearse.specs.Blocks.{closed, joined}
+use Rattle.rehearse.specs.Blocks.{joined}
 
 -- ---- what was kept and read
 

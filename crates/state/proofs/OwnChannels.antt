@@ -1,11 +1,8 @@
 -- Each client and server have two channels of their own, one each way: no two of them are the same.
 -- Assumes nothing.
 use mathlib.Core.Path.{_≡_}
-use mathlib.Core.Bool.{true, false}
 use Prim.Native.Nat.{ℕ, _<_}
 use native.Mathlib.Omega.{arith}
-use borrow.Author.Tests.{le-leb, lt-leb}
-use Rattle.channel.specs.Sound.{isDown}
 use Rattle.state.specs.State.{upIndex, downIndex}
 
 -- the client at place i, the server at place j
@@ -15,12 +12,6 @@ module _ (i j : ℕ) (client : i < 6) (server : j < 13) where
 
   pub down-inside : downIndex i j < 156
   down-inside = omega arith
-
-  pub up-way : isDown (upIndex i j) ≡ false
-  up-way = lt-leb 78 (upIndex i j) up-inside
-
-  pub down-way : isDown (downIndex i j) ≡ true
-  down-way = le-leb 78 (downIndex i j) (omega arith)
 
   -- another client, another server
   module _ (c k : ℕ) (client′ : c < 6) (server′ : k < 13) where

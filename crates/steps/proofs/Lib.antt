@@ -11,7 +11,6 @@ pub mod Stops
 pub mod Lies
 pub mod InnerIsModel
 pub mod Frame
-pub mod Places
 pub mod StoredSetup
 pub mod StoredStep
 pub mod ReplyLengths

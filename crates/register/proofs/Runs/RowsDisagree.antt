@@ -180,6 +180,10 @@ later-member b j row h = h .members 16 .1 (inr (record {
 
 -- ---- the two rows
 
+-- both reads have ended
+pub reads-ended : ReadEnds four formats steps 7 3 15 shown × ReadEnds four formats steps 31 3 40 shown
+reads-ended = (first-read, second-read)
+
 pub rows-disagree : (row₁ row₂ : List ℕ) → Row four formats steps 7 15 shown row₁
     → Row four formats steps 31 40 shown row₂
     → Earlier row₁ 0 16 × Earlier row₂ 16 0

@@ -1,6 +1,5 @@
 -- `close`: by what was kept and what was read (`Closing`).
 -- Assumes nothing.
-use Prim.Native.Nat.{_≤_}
 use native.Mathlib.Omega.{arith}
 use lib.ListN.{length-set}
 use borrow.Author.Needs.{needs}
