@@ -77,9 +77,12 @@ module _ {A : Type 0} (pack : A → List ℕ) (unpack : List ℕ → A) (test : 
               eqb-true _ 0 (below (λ x. eqb (getD b (i * 89 + 1 + k * 11 + x) 0) 0) (88 - k * 11) (t .1 .1 .0) j less);
         }
 
+    pub count-fits : countAt b i ≤ 8
+    count-fits = channel .few
+
     pub held-length : length (held unpack b i) ≤ 8
     unfolding held
-    held-length = rw (listed-length (λ s. unpack (bytesAt b (i * 89 + 1 + s * 11) 11)) (countAt b i)) (channel .few)
+    held-length = rw (listed-length (λ s. unpack (bytesAt b (i * 89 + 1 + s * 11) 11)) (countAt b i)) count-fits
 
     -- the 89 bytes of the channel are those of the messages that it holds
     piece : listed (λ j. getD b (i * 89 + j) 0) 89 ≡ row pack (held unpack b i)

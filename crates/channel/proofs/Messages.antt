@@ -21,8 +21,8 @@ use Rattle.message.proofs.Numbers.{words-number}
 use Rattle.message.proofs.RoundTrip.{number-lt, packed-length, unpack-pack, pack-unpack}
 use Rattle.channel.specs.Memory.{putOn, oldestOn}
 use Rattle.channel.specs.Layout.{Fitting, layout}
-use Rattle.channel.specs.Sound.{goes, isDown, slotTest, sound, messageIn, messages}
-use Rattle.channel.proofs.Held.{Lawful, held-length, held-ok, layout-held}
+use Rattle.channel.specs.Sound.{CountsFit, goes, isDown, slotTest, sound, messageIn, messages}
+use Rattle.channel.proofs.Held.{Lawful, count-fits, held-length, held-ok, layout-held}
 use Rattle.channel.proofs.Laid.{held-layout, sound-layout}
 use Rattle.channel.proofs.Laws.{layout-empty, layout-put, layout-oldest}
 
@@ -82,6 +82,10 @@ module _ (b : List ℕ) (h : sound b ≡ true) where
   pub messages-fit : Fitting (messages b)
   unfolding sound
   messages-fit = held-length bytesOf unpacked slotTest suits lawful b h
+
+  pub counts-fit : CountsFit b
+  unfolding sound
+  counts-fit = count-fits bytesOf unpacked slotTest suits lawful b h
 
   pub messages-suit : Suiting (messages b)
   unfolding sound

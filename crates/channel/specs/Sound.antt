@@ -5,7 +5,7 @@
 --
 -- In order: bytes that are zero; a channel, for any test of its slots; all channels; what they hold; the test of messages.
 -- Assumes nothing.
-use Prim.Native.Nat.{ℕ, _+_, _-_, _*_}
+use Prim.Native.Nat.{ℕ, _+_, _-_, _*_, _≤_, _<_}
 use mathlib.Core.Bool.{Bool, false, not}
 use mathlib.Core.List.{List, [], _∷_}
 use lib.Dec.{eqb, leb}
@@ -33,6 +33,10 @@ module _ (test : ℕ → List ℕ → Bool) where
 
   unfoldable pub soundBy : List ℕ → Bool
   soundBy b = allBelow (λ i. all (channelTests b i)) channels
+
+-- no channel holds more messages than it has slots
+abbrev pub CountsFit : List ℕ → Type 0
+CountsFit b = (i : ℕ) → i < channels → countAt b i ≤ slots
 
 -- what channel i holds, oldest first
 unfoldable pub held : {A : Type 0} → (List ℕ → A) → List ℕ → ℕ → List A

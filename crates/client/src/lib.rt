@@ -72,7 +72,7 @@ pub fn is_idle(ph: Phase) -> bool
     }
 }
 
-fn is_reading(ph: Phase) -> bool
+pub fn is_reading(ph: Phase) -> bool
     ensures { λ b. ⌜ b ≡ isReading ph ⌝ }
 {
     match ph {

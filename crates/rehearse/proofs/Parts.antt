@@ -9,6 +9,7 @@ use mathlib.Core.List.{List}
 use Prim.Native.Nat.{ℕ, _≤_, _<_}
 use lib.ListN.{getD, set}
 use lib.Seq.{set-getD}
+use Rattle.channel.specs.Sound.{CountsFit}
 use Rattle.refusal.specs.declared.Refusal.{Refusal}
 use Rattle.register.specs.declared.Answer.{Answer}
 use Rattle.register.specs.declared.Answer.the-variants.{Went, Refused}
@@ -35,9 +36,9 @@ use Rattle.system.proofs.StepLaws.{putBack, step-law}
 -- ---- what is asked of the parts
 
 pub server-ready : {t : Settings} {z : ℕ} {v : Server} {c : Session} {r : List ℕ} {x : Step} → Ready t z v c r x
-    → isOfServer x ≡ true
-    → (sound v ≡ true) × (t .f ≤ 4) × (t .clients ≤ 6) × (isOfServer x ≡ true)
-server-ready h kind = (h .server, h .few, h .clients, kind)
+    → isOfServer x ≡ true → (b : List ℕ) → CountsFit b
+    → (sound v ≡ true) × (t .f ≤ 4) × (t .clients ≤ 6) × (isOfServer x ≡ true) × CountsFit b
+server-ready h kind b fit = (h .server, h .few, h .clients, kind, fit)
 
 pub other-ready : {t : Settings} {z : ℕ} {v : Server} {c : Session} {r : List ℕ} {x : Step} → Ready t z v c r x
     → isOfNeither x ≡ true

@@ -14,6 +14,7 @@ pub mod Frame
 pub mod StoredSetup
 pub mod StoredStep
 pub mod ReplyLengths
+pub mod Fitting
 pub mod SendLaws
 pub mod Rungs
 pub mod Named

@@ -8,6 +8,7 @@ ghost use lib.Dec.{leb, eqb};
 ghost use lib.ListN.{length};
 ghost use Prim.Native.Nat.{ℕ, _+_, _-_, _<_, _≤_};
 ghost use Rattle.channel.specs.Memory.{countAt};
+ghost use Rattle.channel.specs.Sound.{CountsFit};
 ghost use Rattle.client.specs.Sends.{takenOf};
 ghost use Rattle.client.specs.Sound.{isSound};
 ghost use Rattle.refusal.specs.Ladder.{_when_, lowest};
@@ -179,7 +180,7 @@ fn write(t: Settings, stopped: u8, c: Session, d: u32, e: Entry, b: &mut Slots) 
 
 // The server takes the oldest message, unless there is no room for what it sends (12).
 fn serve_oldest(t: Settings, stopped: u8, v: Server, k: u32, d: u32, b: &mut Slots) -> ServerStep
-    requires { ⌜ (sound v ≡ true) × (t .clients ≤ 6) × (1 ≤ d) × (d ≤ 6) × (1 ≤ k) × (k ≤ 13) ⌝ }
+    requires { ⌜ (sound v ≡ true) × (t .clients ≤ 6) × (1 ≤ d) × (d ≤ 6) × (1 ≤ k) × (k ≤ 13) × CountsFit (now b) ⌝ }
     ensures { λ x. ⌜ ((c : Session) (l : List ℕ) → serverGave x stopped v c (now (b .exit)) l
         ≡ inner.unless (lowest (Refusal.FullChannel when not (inner.roomDown t stopped (now (b .entry)) (k - 1)
         (inner.replied t stopped v c (now (b .entry)) l k d)) ∷ [])) stopped v c (now (b .entry)) l
@@ -201,7 +202,7 @@ fn serve_oldest(t: Settings, stopped: u8, v: Server, k: u32, d: u32, b: &mut Slo
 }
 
 fn serve(t: Settings, stopped: u8, v: Server, k: u32, d: u32, b: &mut Slots) -> ServerStep
-    requires { ⌜ (sound v ≡ true) × (t .f ≤ 4) × (t .clients ≤ 6) ⌝ }
+    requires { ⌜ (sound v ≡ true) × (t .f ≤ 4) × (t .clients ≤ 6) × CountsFit (now b) ⌝ }
     ensures { λ x. ⌜ ((c : Session) (l : List ℕ)
         → serverGave x stopped v c (now (b .exit)) l ≡ inner.serveStep t stopped v c (now (b .entry)) l k d) ⌝ }
 {
@@ -213,12 +214,16 @@ fn serve(t: Settings, stopped: u8, v: Server, k: u32, d: u32, b: &mut Slots) -> 
 
 // ---- D
 
-// Whether there is room for what client x makes of a message of server k. Two free slots are enough for anything, so
-// the message is tried on a copy only where a channel is short.
+// Whether there is room for what client x makes of a message of server k. A client that does not read sends nothing. Two free
+// slots are enough for anything, so the message is tried on a copy only where a channel is short.
 fn has_room_for(t: Settings, b: &Slots, x: Client, k: u8, m: Message, r: &[u64]) -> bool
-    requires { ⌜ (t .f ≤ 4) × (x .f ≡ t .f) × (isSound x (now r) ≡ true) × (1 ≤ k) × (k ≤ size (t .f)) ⌝ }
+    requires { ⌜ (t .f ≤ 4) × (x .f ≡ t .f) × (isSound x (now r) ≡ true) × (1 ≤ k) × (k ≤ size (t .f)) × CountsFit (now b) ⌝ }
     ensures { λ y. ⌜ y ≡ inner.roomUp t (now (b .entry)) (x .number - 1) (length (takenOf x (now (r .entry)) k m .sends)) ⌝ }
 {
+    let ph = x.phase;
+    if !client::is_reading(ph) {
+        return true;
+    }
     let i = (x.number - 1) as usize;
     if has_room_up(t, b, i, MOST_SENT) {
         return true;
@@ -239,7 +244,7 @@ fn take_in(x: Client, k: u8, m: Message, i: usize, r: &mut [u64]) -> Took
 // The client takes the oldest message, unless there is no room for what it sends (12).
 fn take_oldest(t: Settings, c: Session, d: u32, k: u32, b: &mut Slots, r: &mut [u64]) -> ClientStep
     requires { ⌜ (t .f ≤ 4) × (length (now r) ≡ 546) × (isSound (clientFor t c d) (repliesAt (now r) (d - 1)) ≡ true)
-        × (1 ≤ d) × (d ≤ 6) × (1 ≤ k) × (k ≤ size (t .f)) ⌝ }
+        × (1 ≤ d) × (d ≤ 6) × (1 ≤ k) × (k ≤ size (t .f)) × CountsFit (now b) ⌝ }
     ensures { λ x. ⌜ ((z : ℕ) (v : Server) → clientGave x z v c (now (b .exit)) (now (r .exit))
         ≡ inner.unless (lowest (Refusal.FullChannel when not (inner.roomUp t (now (b .entry)) (d - 1)
         (length (inner.tookFrom t z v c (now (b .entry)) (now (r .entry)) d k .sends))) ∷ []))
@@ -270,7 +275,7 @@ fn take(
     b: &mut Slots,
     r: &mut [u64],
 ) -> ClientStep
-    requires { ⌜ ClientReady t c (now r) (Step.D d k) ⌝ }
+    requires { ⌜ ClientReady t c (now r) (Step.D d k) × CountsFit (now b) ⌝ }
     ensures { λ x. ⌜ ((v : Server) → clientGave x stopped v c (now (b .exit)) (now (r .exit))
         ≡ inner.takeStep t stopped v c (now (b .entry)) (now (r .entry)) d k) ⌝ }
 {
@@ -342,7 +347,7 @@ fn lie(t: Settings, stopped: u8, k: u32, d: u32, w: Words, b: &mut Slots) -> Oth
 
 // K.
 pub fn server_step(t: Settings, stopped: u8, v: Server, x: Step, b: &mut Slots) -> ServerStep
-    requires { ⌜ (sound v ≡ true) × (t .f ≤ 4) × (t .clients ≤ 6) × (isOfServer x ≡ true) ⌝ }
+    requires { ⌜ (sound v ≡ true) × (t .f ≤ 4) × (t .clients ≤ 6) × (isOfServer x ≡ true) × CountsFit (now b) ⌝ }
     ensures { λ y. ⌜ ((c : Session) (l : List ℕ)
         → serverGave y stopped v c (now (b .exit)) l ≡ inner.innerOf t stopped v c (now (b .entry)) l x) ⌝ }
 {
@@ -361,7 +366,7 @@ pub fn client_step(
     b: &mut Slots,
     r: &mut Replies,
 ) -> ClientStep
-    requires { ⌜ ClientReady t c (now r) x × (isOfClient x ≡ true) ⌝ }
+    requires { ⌜ ClientReady t c (now r) x × (isOfClient x ≡ true) × CountsFit (now b) ⌝ }
     ensures { λ y. ⌜ ((v : Server) → clientGave y stopped v c (now (b .exit)) (now (r .exit))
         ≡ inner.innerOf t stopped v c (now (b .entry)) (now (r .entry)) x) ⌝ }
 {
@@ -456,7 +461,7 @@ pub fn inner(
     b: &mut Slots,
     r: &mut Replies,
 ) -> Change
-    requires { ⌜ Ready t stopped v c (now r) x ⌝ }
+    requires { ⌜ Ready t stopped v c (now r) x × CountsFit (now b) ⌝ }
     ensures { λ y. ⌜ gave y (now (b .exit)) (now (r .exit)) ≡ inner.innerOf t stopped v c (now (b .entry)) (now (r .entry)) x ⌝ }
 {
     match x {

@@ -5,6 +5,7 @@ ghost use lib.Dec.{leb};
 ghost use lib.ListN.{length};
 ghost use Prim.Native.Nat.{suc, _+_, _≤_, _<_};
 ghost use Rattle.channel.specs.Memory.{countAt, taken};
+ghost use Rattle.channel.specs.Sound.{CountsFit};
 ghost use Rattle.client.specs.Sends.{messagesOf};
 ghost use Rattle.register.specs.Server.{forwards, sent, sentTo};
 ghost use Rattle.register.specs.Thresholds.{size};
@@ -166,7 +167,7 @@ fn has_room_from(stopped: u8, b: &Slots, i: usize, j: usize, d: u8, s: Sends) ->
 }
 
 // Whether every channel from a server to a working client has room for the server's reply to client d.
-pub fn has_room_down(t: Settings, stopped: u8, b: &Slots, j: usize, d: u8, s: Sends) -> bool
+fn all_have_room(t: Settings, stopped: u8, b: &Slots, j: usize, d: u8, s: Sends) -> bool
     requires { ⌜ (j < 13) × (t .clients ≤ 6) ⌝ }
     ensures { λ r. ⌜ r ≡ inner.roomDown t stopped (now (b .entry)) j (sentBy d s) ⌝ }
 {
@@ -179,6 +180,23 @@ pub fn has_room_down(t: Settings, stopped: u8, b: &Slots, j: usize, d: u8, s: Se
         i += 1;
     }
     true
+}
+
+// The same, where no channel holds more than its slots: no reply fits always, and an INFO fits if it does on its own channel.
+pub fn has_room_down(t: Settings, stopped: u8, b: &Slots, j: usize, d: u8, s: Sends) -> bool
+    requires { ⌜ (j < 13) × (t .clients ≤ 6) × (1 ≤ d) × (d ≤ 6) × CountsFit (now b) ⌝ }
+    ensures { λ r. ⌜ r ≡ inner.roomDown t stopped (now (b .entry)) j (sentBy d s) ⌝ }
+{
+    match s {
+        Sends::Nothing => true,
+        Sends::Info(_t, _p) => {
+            if has_room_from(stopped, b, (d - 1) as usize, j, d, s) {
+                return true;
+            }
+            all_have_room(t, stopped, b, j, d, s)
+        }
+        Sends::Forward(_set, _p) => all_have_room(t, stopped, b, j, d, s),
+    }
 }
 
 // A message on the channel from a server to a client, unless the client has stopped.

@@ -1,7 +1,7 @@
 -- A sound state has what a step asks of the parts that it is given; so has the state of a well-formed world.
 --
 -- Why: soundness tests every server and every client with its replies (`state`), those at the step's places
--- among them; and D is given the client that it names.
+-- among them, and every channel; and D is given the client that it names.
 -- Assumes nothing.
 use mathlib.Core.Path.{_≡_, refl, sym, ap, subst, _∙_}
 use mathlib.Core.Bool.{true, _&&_}
@@ -11,6 +11,8 @@ use native.Mathlib.Nat.{not-suc-le-zero}
 use native.Mathlib.Omega.{arith}
 use lib.ListN.{length, getD}
 use Rattle.basics.proofs.Cases.{both}
+use Rattle.channel.specs.Sound.{CountsFit}
+use Rattle.channel.proofs.Messages.{counts-fit}
 use Rattle.register.specs.declared.Step.{Step}
 use Rattle.register.specs.declared.Step.the-variants as code
 use Rattle.register.specs.Formats.{formats}
@@ -48,6 +50,9 @@ module _ (s : System) (b r : List ℕ) (f : Facts s b r) where
   pub few-clients : s .settings .clients ≤ 6
   unfolding settingsOf
   few-clients = bounds (settingsOf (s .settings)) (f .allowed .accepted) .sixClients
+
+  pub counts : CountsFit b
+  counts = counts-fit b (f .channels)
 
   server-at : (j : ℕ) → j < 13 → (v : Server) → getD (s .servers) j v ≡ getD (s .servers) j emptyServer
   server-at j less v = any-default (s .servers) j v emptyServer (omega (arith, f .servers))
@@ -110,6 +115,9 @@ module _ (t : Settings) (allowed : Allowed t) (w : World) (well : WellFormed (se
         (subst (λ (z : List ℕ). Facts (storeSystem t w) z r) (sym (st .slots))
         (subst (λ (z : List ℕ). Facts (storeSystem t w) (storeSlots w) z) (sym (st .replies))
         (stored-facts t allowed w well)))
+
+    pub counts-stored : CountsFit b
+    counts-stored = counts s b r stored-is
 
     pub ready-stored : (x : Step) (j i : ℕ) → j ≡ serverPlace x → i ≡ clientPlace x
         → (v : Server) (c : Session)

@@ -11,6 +11,7 @@ use lib.ListN.{length, getD}
 use borrow.Author.Needs.{needs}
 use Rattle.basics.proofs.Cases.{by-either}
 use Rattle.script.proofs.Writing.{keeps}
+use Rattle.channel.specs.Sound.{CountsFit}
 use Rattle.script.specs.declared.next.Found.{Found}
 use Rattle.register.specs.declared.Step.{Step}
 use Rattle.server.specs.declared.Server.{Server}
@@ -23,7 +24,7 @@ use Rattle.steps.specs.Ready.{Ready}
 use Rattle.steps.proofs.ReadyParts.{client-ready}
 use Rattle.system.specs.Ends.{serverPlace, clientPlace}
 use Rattle.system.proofs.EndLaws.{server-within, client-within}
-use Rattle.system.proofs.ReadyLaws.{ready}
+use Rattle.system.proofs.ReadyLaws.{ready, counts}
 use Rattle.rehearse.specs.declared.lines.Heard.{Heard}
 use Rattle.rehearse.specs.Saying.{Stage, stage}
 use Rattle.rehearse.proofs.Hearing.{Means, means}
@@ -86,6 +87,11 @@ asked c =
     let l = c .before .before .before .before .loop in
     ready (l .u) (l .b) (l .r) (facts (l .u) (l .b) (l .r) (l .inv .sound))
 
+fitting : (c : tie.After-hear Inv-loop μ-loop) → CountsFit (known c .slots)
+fitting c =
+    let l = c .before .before .before .before .loop in
+    counts (l .u) (l .b) (l .r) (facts (l .u) (l .b) (l .r) (l .inv .sound))
+
 -- ---- a setup, and a line that is not read
 
 enum-known-s : tie.Need-enum-known-s Inv-loop μ-loop
@@ -123,7 +129,7 @@ server-step-requires c κs =
     let told = c .before .before .before .before in
     let h = told .before .before in
     let m = meant h _ (told .j .given .1) in
-    server-ready (asked h _ _ _ (m .2) refl _ emptySession) (m .1)
+    server-ready (asked h _ _ _ (m .2) refl _ emptySession) (m .1) (known h .slots) (fitting h)
 
 enum-known-w : tie.Need-enum-known-w Inv-loop μ-loop
 enum-known-w c = search needs
@@ -162,7 +168,7 @@ client-step-requires : tie.Need-client-step-requires Inv-loop μ-loop
 client-step-requires c κs =
     let told = c .before .before .before .before .before in
     let h = told .before .before in
-    let m = meant h _ (told .i .given .1) in (client-ready (asked h _ _ _ refl (m .2) emptyServer _), m .1)
+    let m = meant h _ (told .i .given .1) in (client-ready (asked h _ _ _ refl (m .2) emptyServer _), m .1, fitting h)
 
 enum-known-a : tie.Need-enum-known-a Inv-loop μ-loop
 enum-known-a c = search needs

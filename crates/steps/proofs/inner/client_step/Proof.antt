@@ -32,8 +32,10 @@ enum-known-x-3 c = search needs
 take-requires : tie.Need-take-requires
 take-requires c κs =
     let s = c .before .before .before .before .before in
-    let a = s .args in
-    subst (λ (y : Step). ClientReady (a .t) (a .c) (a .r .now) y) (c .before .before .before .x3 .given .1) (s .pre .0)
+    let a = s .args in (
+      subst (λ (y : Step). ClientReady (a .t) (a .c) (a .r .now) y) (c .before .before .before .x3 .given .1) (s .pre .0),
+      s .pre .2,
+    )
 
 returns : tie.Need-returns
 unfolding innerOf

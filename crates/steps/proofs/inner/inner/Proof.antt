@@ -12,7 +12,8 @@ enum-told c = search needs
 
 server-step-requires : tie.Need-server-step-requires
 server-step-requires c κs =
-    let p = c .before .before .before .pre in (p .server, p .few, p .clients, ap isOfServer (c .before .enum-told .given .1))
+    let p = c .before .before .before .pre in
+    (p .0 .server, p .0 .few, p .0 .clients, ap isOfServer (c .before .enum-told .given .1), p .1)
 
 after-server-requires : tie.Need-after-server-requires
 after-server-requires c κs = search needs
@@ -20,7 +21,7 @@ after-server-requires c κs = search needs
 other-step-requires : tie.Need-other-step-requires
 other-step-requires c κs =
     let s = c .before .before in
-    (s .pre .stopped, s .pre .few, s .pre .clients, of-neither (s .args .x) (c .before .match .keys2))
+    (s .pre .0 .stopped, s .pre .0 .few, s .pre .0 .clients, of-neither (s .args .x) (c .before .match .keys2))
 
 after-other-requires : tie.Need-after-other-requires
 after-other-requires c κs = search needs
@@ -28,7 +29,7 @@ after-other-requires c κs = search needs
 client-step-requires : tie.Need-client-step-requires
 client-step-requires c κs =
     let s = c .before .before .before in
-    (client-ready (s .pre), of-client (s .args .x) (c .before .before .match .keys3))
+    (client-ready (s .pre .0), of-client (s .args .x) (c .before .before .match .keys3), s .pre .1)
 
 after-client-requires : tie.Need-after-client-requires
 after-client-requires c κs = search needs

@@ -54,7 +54,7 @@ serve-oldest-requires c κs =
     let s = c .before .before .before .before .before in
     let a = s .args in
     let w = both-there (a .t) (a .d) (a .k) (not-false _ (told-all (c .before) .0)) in
-    (s .pre .0, s .pre .2, w .client .low, omega (arith, w, s .pre .2), w .server .low, omega (arith, w, s .pre .1))
+    (s .pre .0, s .pre .2, w .client .low, omega (arith, w, s .pre .2), w .server .low, omega (arith, w, s .pre .1), s .pre .3)
 
 returns : tie.Need-returns
 unfolding serveStep

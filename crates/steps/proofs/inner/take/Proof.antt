@@ -59,13 +59,14 @@ take-oldest-requires c κs =
     let s = c .before .before .before .before .before .before .before in
     let a = s .args in
     let w = both-there (a .t) (a .d) (a .k) (there (c .before .before)) in (
-      s .pre .few,
-      s .pre .long,
-      s .pre .client (a .d) (a .k) refl (there (c .before .before)),
+      s .pre .0 .few,
+      s .pre .0 .long,
+      s .pre .0 .client (a .d) (a .k) refl (there (c .before .before)),
       w .client .low,
-      omega (arith, w, s .pre .clients),
+      omega (arith, w, s .pre .0 .clients),
       w .server .low,
       w .server .high,
+      s .pre .1,
     )
 
 returns : tie.Need-returns

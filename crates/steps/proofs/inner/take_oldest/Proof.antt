@@ -97,6 +97,7 @@ has-room-for-requires c κs =
       sound-in s _ _ e (lent-part (s .args .r .now) (s .args .d - 1)),
       s .pre .5,
       s .pre .6,
+      s .pre .7,
     )
 
 same-length : tie.Need-same-length

@@ -1,75 +1,81 @@
--- `has_room_down`: the loop has passed only channels that drop or have room. Assumes nothing.
-use Prim.Native.Nat.{ℕ, suc, _+_, _≤_, _<_, _-_}
-use mathlib.Core.Bool.{true, _||_}
-use mathlib.Core.Path.{_≡_, sym, _∙_}
-use native.Mathlib.Omega.{arith}
-use borrow.Author.Count.{below-none, below-more}
+-- `has_room_down`: by the kind of the reply. Assumes nothing.
+use mathlib.Core.Bool.{Bool}
+use mathlib.Core.Path.{sym, ap, _∙_}
 use borrow.Author.Needs.{needs}
-use borrow.Author.Tests.{not-true, not-false}
-use lib.Dec.{leb}
-use lib.ListN.{length}
-use Rattle.basics.proofs.Tests.{below-of, below-fails}
-use Rattle.channel.specs.Memory.{countAt}
-use Rattle.register.specs.Server.{sentTo}
-use Rattle.server.specs.State.{contains}
+use Rattle.server.specs.declared.Sends.{Sends}
 use Rattle.server.specs.Taking.{sentBy}
-use Rattle.state.specs.State.{downIndex}
 use Rattle.steps.specs.Inner.{roomDown}
+use Rattle.steps.proofs.Fitting.{room-none, room-info}
 use Rattle.steps.proofs.transport.has_room_down.Statement.{statement}
 use Rattle.steps.proofs.transport.has_room_down.Tie as tie
 
-abbrev Inv-loop : tie.InvT-loop
-Inv-loop stopped b j d s n i₀ i =
-    (i ≤ n)
-    × ((k : ℕ) → k < i
-    → contains stopped (suc k) || leb (countAt b (downIndex k j) + length (sentTo (suc k) (sentBy d s))) 8 ≡ true)
+-- whether a reply has room
+abbrev room : tie.Start → Sends → Bool
+room s z = let a = s .args in roomDown (a .t) (a .stopped) (a .b .now) (a .j) (sentBy (a .d) z)
 
-abbrev μ-loop : tie.MeasureT-loop
-μ-loop stopped b j d s n i₀ i = n - i
+enum-told : tie.Need-enum-told
+enum-told c = search needs
 
-cast-n : tie.Need-cast-n Inv-loop μ-loop
-cast-n c = search needs
+enum-known-s : tie.Need-enum-known-s
+enum-known-s c = search needs
 
-loop-holds : tie.Need-loop-holds Inv-loop μ-loop
-loop-holds c = (search needs, below-none _)
+sub-has-room-from : tie.Need-sub-has-room-from
+sub-has-room-from c = search needs
 
-has-room-from-requires : tie.Need-has-room-from-requires Inv-loop μ-loop
-has-room-from-requires c κs = omega arith
+cast-has-room-from : tie.Need-cast-has-room-from
+cast-has-room-from c = search needs
 
-returns : tie.Need-returns Inv-loop μ-loop
-unfolding roomDown
+has-room-from-requires : tie.Need-has-room-from-requires
+has-room-from-requires c κs = search needs
+
+returns : tie.Need-returns
 returns c =
-    sym (below-fails _ _ (c .before .before .before .loop .i) (omega arith)
-    (sym (c .before .has-room-from .ensures) ∙ not-true _ (c .if1 .taken)))
+    let told = c .before .before .before in
+    let s = told .before .before in
+    let a = s .args in
+    sym (ap (room s) (told .s .given .1)
+    ∙ room-info (a .t) (a .stopped) (a .b .now) (a .j) (a .d) (s .pre .0) (s .pre .1) (s .pre .4) _ _ (s .pre .2)
+    (sym (c .before .has-room-from .ensures) ∙ c .if1 .taken))
 
-add-i : tie.Need-add-i Inv-loop μ-loop
-add-i c = search needs
+all-have-room-requires : tie.Need-all-have-room-requires
+all-have-room-requires c κs = search needs
 
-loop-less : tie.Need-loop-less Inv-loop μ-loop
-loop-less c = search needs
+enum-known-s-2 : tie.Need-enum-known-s-2
+enum-known-s-2 c = search needs
 
-loop-again : tie.Need-loop-again Inv-loop μ-loop
-loop-again c = (
-  omega arith,
-  below-more _ _ (c .before .before .before .loop .inv .1)
-      (sym (c .before .has-room-from .ensures) ∙ not-false _ (c .if1 .left)),
-)
+all-have-room-requires-2 : tie.Need-all-have-room-requires-2
+all-have-room-requires-2 c κs = search needs
 
-returns-2 : tie.Need-returns-2 Inv-loop μ-loop
-unfolding roomDown
-returns-2 c = sym (below-of _ _ (λ k less. c .before .loop .inv .1 k (omega arith)))
+returns-2 : tie.Need-returns-2
+returns-2 c =
+    let s = c .before .before in
+    let a = s .args in
+    sym (ap (room s) (c .enum-told .given .1)
+    ∙ room-none (a .t) (a .stopped) (a .b .now) (a .j) (a .d) (s .pre .0) (s .pre .1) (s .pre .4))
+
+returns-3 : tie.Need-returns-3
+returns-3 c =
+    let told = c .before .before .before .before in
+    c .all-have-room .ensures ∙ sym (ap (room (told .before .before)) (told .s .given .1))
+
+returns-4 : tie.Need-returns-4
+returns-4 c =
+    let told = c .before .before in
+    c .all-have-room2 .ensures ∙ sym (ap (room (told .before .before)) (told .s2 .given .1))
 
 pub has-room-down-spec : {M : Type 1} → statement M
 has-room-down-spec =
     tie.close
     (tie.spec
-    Inv-loop
-    μ-loop
-    cast-n
-    loop-holds
+    enum-told
+    enum-known-s
+    sub-has-room-from
+    cast-has-room-from
     has-room-from-requires
     returns
-    add-i
-    loop-less
-    loop-again
-    returns-2)
+    all-have-room-requires
+    enum-known-s-2
+    all-have-room-requires-2
+    returns-2
+    returns-3
+    returns-4)

@@ -13,7 +13,7 @@ use Rattle.state.specs.State.{settingsOf}
 use Rattle.state.proofs.SoundFacts.{allowed-facts}
 use Rattle.system.specs.Run.{stepIn, stepsIn, Run}
 use Rattle.system.proofs.EndLaws.{server-within, client-within}
-use Rattle.system.proofs.ReadyLaws.{ready-stored}
+use Rattle.system.proofs.ReadyLaws.{ready-stored, counts-stored}
 use Rattle.system.proofs.RunLaws.{run-none, run-more, well-at}
 use Rattle.system.proofs.Turn.{turned}
 use Rattle.system.proofs.run.take_all.Statement.{statement}
@@ -72,11 +72,13 @@ inner-requires c κs =
     let a = start .args in
     let allowed = allowed-facts (a .s .settings) (start .pre .0) in
     let S = settingsOf (a .s .settings) in
-    ready-stored (a .s .settings) allowed (worldAt S formats (stepsIn (a .steps .now) (a .n)) (l .i))
-    (well-at S (allowed .accepted) (stepsIn (a .steps .now) (a .n)) (l .i)) (l .u) (l .b) (l .r)
-    (l .inv .2 .stored)
-    (places .before .before .step-in .result) _ _ (places .before .server-place .ensures)
-    (places .client-place .ensures) _ _
+    let w = worldAt S formats (stepsIn (a .steps .now) (a .n)) (l .i) in
+    let well = well-at S (allowed .accepted) (stepsIn (a .steps .now) (a .n)) (l .i) in (
+      ready-stored (a .s .settings) allowed w well (l .u) (l .b) (l .r) (l .inv .2 .stored)
+          (places .before .before .step-in .result) _ _ (places .before .server-place .ensures)
+          (places .client-place .ensures) _ _,
+      counts-stored (a .s .settings) allowed w well (l .u) (l .b) (l .r) (l .inv .2 .stored),
+    )
 
 write-answer-requires : tie.Need-write-answer-requires Inv-loop μ-loop
 write-answer-requires c κs =

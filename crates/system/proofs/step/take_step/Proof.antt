@@ -4,7 +4,7 @@ use Prim.Native.Nat.{_<_}
 use borrow.Author.Needs.{needs}
 use Rattle.state.proofs.SoundFacts.{facts}
 use Rattle.system.proofs.EndLaws.{server-within, client-within}
-use Rattle.system.proofs.ReadyLaws.{ready}
+use Rattle.system.proofs.ReadyLaws.{ready, counts}
 use Rattle.system.proofs.StepLaws.{step-law}
 use Rattle.system.proofs.step.take_step.Statement.{statement}
 use Rattle.system.proofs.step.take_step.Tie as tie
@@ -39,8 +39,10 @@ inner-requires c κs =
     let p = c .before .before .before .before in
     let start = p .before .before .before in
     let a = start .args in
-    ready (a .t1) (a .b .now) (a .r .now) (facts (a .t1) (a .b .now) (a .r .now) (start .pre)) (a .x) _ _
-    (p .before .server-place .ensures) (p .client-place .ensures) _ _
+    let f = facts (a .t1) (a .b .now) (a .r .now) (start .pre) in (
+      ready (a .t1) (a .b .now) (a .r .now) f (a .x) _ _ (p .before .server-place .ensures) (p .client-place .ensures) _ _,
+      counts (a .t1) (a .b .now) (a .r .now) f,
+    )
 
 mul-w : tie.Need-mul-w
 mul-w c = let at = server-inside (c .before .before .before .before .before .before) in search needs
