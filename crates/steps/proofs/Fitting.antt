@@ -1,7 +1,7 @@
--- Where no channel holds more than its slots, nothing sent has room, and one message has it where its own channel does.
+-- Where no channel holds more than its slots, there is room where nothing is sent, and for one message if its own channel has room.
 --
--- So a client that does not read need not look at its channels, since it sends nothing; nor a server that replies nothing at the
--- others than the sender's for an INFO.
+-- So the channels of a client that does not read need not be looked at, since it sends nothing; and of those of a server that sends
+-- an INFO only the sender's.
 -- In order: a channel that nothing is put on; up; down.
 -- Assumes nothing.
 use mathlib.Core.Path.{_≡_, refl, sym, ap, subst, _∙_}

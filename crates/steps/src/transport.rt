@@ -182,7 +182,8 @@ fn all_have_room(t: Settings, stopped: u8, b: &Slots, j: usize, d: u8, s: Sends)
     true
 }
 
-// The same, where no channel holds more than its slots: no reply fits always, and an INFO fits if it does on its own channel.
+// The same, where no channel holds more than its slots: there is room where nothing is sent, and for an INFO if there is on its own
+// channel.
 pub fn has_room_down(t: Settings, stopped: u8, b: &Slots, j: usize, d: u8, s: Sends) -> bool
     requires { ⌜ (j < 13) × (t .clients ≤ 6) × (1 ≤ d) × (d ≤ 6) × CountsFit (now b) ⌝ }
     ensures { λ r. ⌜ r ≡ inner.roomDown t stopped (now (b .entry)) j (sentBy d s) ⌝ }
