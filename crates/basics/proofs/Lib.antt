@@ -7,3 +7,5 @@ pub mod Table
 pub mod Bits
 pub mod Bytes
 pub mod Sorting
+pub mod Listed
+pub mod Tables

@@ -3,3 +3,4 @@ pub mod Counting
 pub mod Update
 pub mod Members
 pub mod Bytes
+pub mod Tables

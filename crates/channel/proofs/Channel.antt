@@ -1,231 +1,117 @@
--- The operations on one channel's bytes, wherever they stand: a message put behind the others, the oldest taken, all cleared.
+-- The operations on one channel's slots, wherever they stand: a message put behind the others, the oldest taken, all cleared.
 --
--- The bytes of a channel are cut where an operation stores: a message goes into the first slot of zeros (`put-row`); what stands
+-- The slots of a channel are cut where an operation stores: a message goes into the first slot of zeros (`put-row`); what stands
 -- behind the oldest message moves into its place, and the slot that falls free is the last (`take-row`); zeros everywhere are an
--- empty channel's bytes (`clear-row`).
+-- empty channel's slots (`clear-row`).
 -- Assumes nothing.
 use mathlib.Core.Path.{_≡_, refl, sym, ap, _∙_}
-use mathlib.Core.List.{List, [], _∷_, _++_, append-assoc, append-nil}
+use mathlib.Core.List.{List, [], _∷_, _++_, append-assoc}
 use Prim.Native.Nat.{ℕ, suc, _+_, _-_, _*_, _≤_, _<_}
-use native.Mathlib.Nat.{zero-add}
 use native.Mathlib.Omega.{arith}
-use lib.ListN.{length, getD, set, take, drop, replicate, length-append, length-replicate, length-drop}
+use lib.ListN.{length, getD, take, drop, replicate, length-append, length-replicate, length-drop}
 use lib.ListN.{replicate-append-replicate, take-append-drop}
-use lib.Seq.{getD-append-add, length-take-le}
-use borrow.Author.Tests.{lt-ltb, ne-eqb}
-use Rattle.channel.specs.Memory.{countAt, filled, zeroed, bytesAt, putOn, shifted, taken, cleared}
+use lib.Seq.{length-take-le}
+use Rattle.basics.proofs.Listed.{listed-all, listed-replicate}
+use Rattle.message.specs.declared.Message.{Message}
+use Rattle.message.specs.Layout.{wordsOf}
+use Rattle.channel.specs.Memory.{filled, stored, zeroed, shifted}
 use Rattle.channel.specs.Layout.{packed, row}
-use Rattle.channel.proofs.Filled.{filled-same}
-use Rattle.channel.proofs.Inside.{listed-all, listed-same, listed-zeros, inside-get, inside-set, inside-bytes}
-use Rattle.channel.proofs.Inside.{filled-length, inside-filled, filled-whole}
+use Rattle.channel.proofs.Filled.{filled-same, filled-between, stored-between, get-between}
 
-module _ {A : Type 0} (pack : A → List ℕ) (eleven : (a : A) → length (pack a) ≡ 11) where
-  pub packed-length : (ms : List A) → length (packed pack ms) ≡ length ms * 11
-  unfolding packed
-  packed-length [] = refl
-  packed-length (m ∷ ms) = omega (arith, length-append (pack m) (packed pack ms), eleven m, packed-length ms)
+pub packed-length : (ms : List Message) → length (packed ms) ≡ length ms * 2
+unfolding packed
+packed-length [] = refl
+packed-length (m ∷ ms) = omega (arith, packed-length ms)
 
-  pub packed-more : (ms : List A) (m : A) → packed pack (ms ++ m ∷ []) ≡ packed pack ms ++ pack m
-  unfolding packed
-  packed-more [] m = append-nil (pack m)
-  packed-more (x ∷ ms) m = rw (packed-more ms m) (sym (append-assoc (pack x) (packed pack ms) (pack m)))
+pub packed-more : (ms : List Message) (m : Message) → packed (ms ++ m ∷ []) ≡ packed ms ++ wordsOf m .0 ∷ wordsOf m .1 ∷ []
+unfolding packed
+packed-more [] m = refl
+packed-more (x ∷ ms) m = rw (packed-more ms m)
 
-  pub row-length : (ms : List A) → length ms ≤ 8 → length (row pack ms) ≡ 89
-  unfolding row
-  row-length ms h =
-      omega (
-        arith,
-        length-append (packed pack ms) (replicate (88 - length ms * 11) 0),
-        packed-length ms,
-        length-replicate {A = ℕ} (88 - length ms * 11) 0,
-      )
+-- messages, and zeros behind them
+filled-up : (ms : List Message) (k : ℕ) → length (packed ms ++ replicate k 0) ≡ length ms * 2 + k
+filled-up ms k = length-append (packed ms) (replicate k 0) ∙ rw (packed-length ms, length-replicate {A = ℕ} k 0)
 
-  -- ---- put
+pub row-length : (ms : List Message) → length ms ≤ 8 → length (row ms) ≡ 16
+unfolding row
+row-length ms h = filled-up ms (16 - length ms * 2) ∙ omega arith
 
-  -- the first free slot, and what is behind it
-  free : (ms : List A) → length ms < 8
-      → row pack ms ≡ (length ms ∷ packed pack ms) ++ replicate 11 0 ++ replicate (88 - (length ms + 1) * 11) 0
-  unfolding row
-  free ms h =
-      let k = 88 - (length ms + 1) * 11 in
-      let e : 88 - length ms * 11 ≡ 11 + k = omega arith in
-      rw (e, ← replicate-append-replicate {A = ℕ} 11 k 0)
-      (ap (λ (l : List ℕ). length ms ∷ l) (sym (append-assoc (packed pack ms) (replicate 11 0) (replicate k 0))))
+regroup : (s a z t : List ℕ) → s ++ (a ++ z) ++ t ≡ s ++ a ++ (z ++ t)
+regroup s a z t = simp append-assoc
 
-  -- its count raised and its message stored
-  put-in : (ms : List A) (m : A) → length ms < 8
-      → set (filled (row pack ms) (1 + length ms * 11) (λ j. getD (pack m) j 0) 11) 0 (length ms + 1) ≡ row pack (ms ++ m ∷ [])
-  unfolding row
-  put-in ms m h =
-      let s = length ms ∷ packed pack ms in
-      let z : List ℕ = replicate 11 0 in
-      let t : List ℕ = replicate (88 - (length ms + 1) * 11) 0 in
-      let v : ℕ → ℕ = λ j. getD (pack m) j 0 in
-      let at : 1 + length ms * 11 ≡ length s + 0 = omega (arith, packed-length ms) in
-      let stored : filled z 0 v 11 ≡ pack m =
-      filled-whole z v 11 (length-replicate {A = ℕ} 11 0) ∙ listed-all (pack m) 11 (eleven m) in
-      rw (
-        free ms h,
-        inside-filled s z t (1 + length ms * 11) 0 v 11 at (omega (arith, length-replicate {A = ℕ} 11 0)),
-        stored,
-        length-append ms (m ∷ []),
-        packed-more ms m,
-      )
+-- ---- put
 
-  count-in : (ms : List A) → getD (row pack ms) 0 0 ≡ length ms
-  unfolding row
-  count-in ms = refl
+pub put-row : (ms : List Message) (m : Message) (s t : List ℕ) (at : ℕ) → length ms < 8 → length s ≡ at
+    → stored (s ++ row ms ++ t) (at + length ms * 2) (wordsOf m) ≡ s ++ row (ms ++ m ∷ []) ++ t
+unfolding row
+put-row ms m s t at h e =
+    let k = 16 - (length ms + 1) * 2 in
+    let free : 16 - length ms * 2 ≡ suc (suc k) = omega arith in
+    let z : List ℕ = replicate k 0 in
+    let w = wordsOf m in
+    rw (
+      free,
+      regroup s (packed ms) (0 ∷ 0 ∷ z) t,
+      stored-between (s ++ packed ms) (z ++ t) 0 0 (at + length ms * 2) w (length-append s (packed ms) ∙ rw (e, packed-length ms)),
+      length-append ms (m ∷ []),
+      packed-more ms m,
+      append-assoc (packed ms) (w .0 ∷ w .1 ∷ []) z,
+    ) (sym (regroup s (packed ms) (w .0 ∷ w .1 ∷ z) t))
 
-  pub count-row : (ms : List A) (i : ℕ) → length ms ≤ 8 → (s t : List ℕ) → length s ≡ i * 89
-      → countAt (s ++ row pack ms ++ t) i ≡ length ms
-  count-row ms i h s t e =
-      inside-get s (row pack ms) t (i * 89) 0 (omega arith) (rw (row-length ms h) (omega arith)) ∙ count-in ms
+-- ---- take
 
-  pub put-row : (ms : List A) (m : A) (i : ℕ) → length ms < 8 → (s t : List ℕ) → length s ≡ i * 89
-      → putOn (s ++ row pack ms ++ t) i (pack m) ≡ s ++ row pack (ms ++ m ∷ []) ++ t
-  unfolding putOn
-  put-row ms m i h s t e =
-      let r = row pack ms in
-      let o = 1 + length ms * 11 in
-      let v : ℕ → ℕ = λ j. getD (pack m) j 0 in
-      let wide : length r ≡ 89 = row-length ms (omega arith) in
-      rw (
-        count-row ms i (omega arith) s t e,
-        lt-ltb (length ms) 8 h,
-        inside-filled s r t (i * 89 + 1 + length ms * 11) o v 11 (omega arith) (omega arith),
-        inside-set s (filled r o v 11) t (i * 89) 0 (length ms + 1) (omega arith) (rw (filled-length r o v 11) (omega arith)),
-        put-in ms m h,
-      )
-
-  -- ---- take
-
+module _ (m : Message) (ms : List Message) (short : suc (length ms) ≤ 8) where
   -- what is behind the oldest message, up to the end
-  behind : List A → List ℕ
-  behind ms = packed pack ms ++ replicate (88 - suc (length ms) * 11) 0
+  behind : List ℕ
+  behind = packed ms ++ replicate (16 - suc (length ms) * 2) 0
 
-  behind-length : (ms : List A) → suc (length ms) ≤ 8 → length (behind ms) ≡ 77
+  behind-length : length behind ≡ 14
   unfolding behind
-  behind-length ms h =
-      omega (
-        arith,
-        length-append (packed pack ms) (replicate (88 - suc (length ms) * 11) 0),
-        packed-length ms,
-        length-replicate {A = ℕ} (88 - suc (length ms) * 11) 0,
-      )
+  behind-length = filled-up ms (16 - suc (length ms) * 2) ∙ omega arith
 
-  first : (m : A) (ms : List A) → row pack (m ∷ ms) ≡ (suc (length ms) ∷ pack m) ++ behind ms
+  first : row (m ∷ ms) ≡ wordsOf m .0 ∷ wordsOf m .1 ∷ behind
   unfolding row packed behind
-  first m ms =
-      ap (λ (l : List ℕ). suc (length ms) ∷ l)
-      (append-assoc (pack m) (packed pack ms) (replicate (88 - suc (length ms) * 11) 0))
+  first = refl
 
-  -- the bytes that the last slot keeps when the rest has moved down
-  last : A → List A → List ℕ
-  last m ms = drop 77 (pack m ++ behind ms)
+  -- and a slot of zeros at the end: the slots of the rest
+  closed : behind ++ 0 ∷ 0 ∷ [] ≡ row ms
+  unfolding row behind
+  closed =
+      let k = 16 - suc (length ms) * 2 in
+      let e : k + 2 ≡ 16 - length ms * 2 = omega arith in
+      rw (append-assoc (packed ms) (replicate k 0) (0 ∷ 0 ∷ []), replicate-append-replicate {A = ℕ} k 2 0, e)
 
   -- the rest moved down by a slot
-  shift-in : (m : A) (ms : List A) → suc (length ms) ≤ 8
-      → shifted (row pack (m ∷ ms)) 1 ≡ (suc (length ms) ∷ behind ms) ++ last m ms ++ []
-  unfolding shifted last
-  shift-in m ms h =
-      let q = behind ms in
-      let c = suc (length ms) in
-      let l = (c ∷ pack m) ++ q in
-      let y = take 77 (pack m ++ q) in
-      let t = drop 77 (pack m ++ q) in
-      let v : ℕ → ℕ = λ j. getD q j 0 in
-      let twelve : length (c ∷ pack m) ≡ 12 = ap suc (eleven m) in
-      let here : l ≡ (c ∷ []) ++ y ++ t = ap (λ (x : List ℕ). c ∷ x) (sym (take-append-drop 77 (pack m ++ q))) in
-      let wide : length y ≡ 77 =
-      length-take-le 77 (pack m ++ q) (omega (arith, length-append (pack m) q, behind-length ms h)) in
-      let whole : filled y 0 v 77 ≡ q = filled-whole y v 77 wide ∙ listed-all q 77 (behind-length ms h) in
-      rw (first m ms)
-      (filled-same l 1 (λ j. getD l (12 + j) 0) v 77
-      (λ j less. ap (λ (k : ℕ). getD l (k + j) 0) (sym twelve) ∙ getD-append-add (c ∷ pack m) q j 0)
-      ∙ ap (λ (x : List ℕ). filled x 1 v 77) here ∙ inside-filled (c ∷ []) y t 1 0 v 77 refl (omega arith)
-      ∙ ap (λ (x : List ℕ). (c ∷ []) ++ x ++ t) whole
-      ∙ sym (append-nil ((c ∷ q) ++ t)))
-
-  -- and a slot of zeros at the end: the bytes of the rest
-  closed : (ms : List A) → suc (length ms) ≤ 8 → (length ms ∷ behind ms) ++ replicate 11 0 ++ [] ≡ row pack ms
-  unfolding row behind
-  closed ms h =
-      let j = packed pack ms in
-      let k = 88 - suc (length ms) * 11 in
-      let e : k + 11 ≡ 88 - length ms * 11 = omega arith in
-      append-nil ((length ms ∷ behind ms) ++ replicate 11 0)
-      ∙ ap (λ (l : List ℕ). length ms ∷ l) (append-assoc j (replicate k 0) (replicate 11 0))
-      ∙ rw (replicate-append-replicate {A = ℕ} k 11 0, e)
-
-  take-in : (m : A) (ms : List A) → suc (length ms) ≤ 8
-      → set (zeroed (shifted (row pack (m ∷ ms)) 1) 78 11) 0 (suc (length ms) - 1) ≡ row pack ms
-  unfolding last
-  take-in m ms h =
-      let q = behind ms in
-      let c = suc (length ms) in
-      let seventyseven : length q ≡ 77 = behind-length ms h in
-      let d = drop 77 (pack m ++ q) in
-      let slot : length d ≡ 11 = length-drop 77 (pack m ++ q) ∙ omega (arith, length-append (pack m) q, eleven m) in
-      let less : c - 1 ≡ length ms = omega arith in
-      rw (
-        shift-in m ms h,
-        inside-filled (c ∷ q) d [] 78 0 (λ j. 0) 11 (omega arith) (omega arith),
-        filled-whole d (λ j. 0) 11 slot,
-        listed-zeros 11,
-        less,
-      ) (closed ms h)
-
-  shifted-length : (b : List ℕ) (at : ℕ) → length (shifted b at) ≡ length b
+  shift-row : (s t : List ℕ) (at : ℕ) → length s ≡ at
+      → shifted (s ++ row (m ∷ ms) ++ t) at ≡ s ++ behind ++ (drop 14 (row (m ∷ ms)) ++ t)
   unfolding shifted
-  shifted-length b at = filled-length b at (λ j. getD b (at + 11 + j) 0) 77
+  shift-row s t at e =
+      let l = row (m ∷ ms) in
+      let u = wordsOf m .0 ∷ wordsOf m .1 ∷ [] in
+      let v : ℕ → ℕ = λ j. getD behind j 0 in
+      let wide : length (take 14 l) ≡ 14 = length-take-le 14 l (omega (arith, row-length (m ∷ ms) short)) in
+      let here : s ++ l ++ t ≡ s ++ take 14 l ++ (drop 14 l ++ t) =
+      ap (λ (x : List ℕ). s ++ x ++ t) (sym (take-append-drop 14 l)) ∙ regroup s (take 14 l) (drop 14 l) t in
+      let moved : s ++ l ++ t ≡ s ++ u ++ behind ++ t = rw (first, append-assoc s u behind) in
+      let read : (j : ℕ) → j < 14 → getD (s ++ l ++ t) (at + 2 + j) 0 ≡ v j =
+      λ j less. rw moved (get-between (s ++ u) behind t (at + 2) j (length-append s u ∙ rw e) (rw behind-length less)) in
+      filled-same (s ++ l ++ t) at (λ j. getD (s ++ l ++ t) (at + 2 + j) 0) v 14 read
+      ∙ ap (λ (x : List ℕ). filled x at v 14) here ∙ filled-between s (take 14 l) (drop 14 l ++ t) at v 14 e wide
+      ∙ rw (listed-all behind 14 0 behind-length)
 
-  inside-shift : (s r t : List ℕ) (at : ℕ) → at ≡ length s + 1 → 89 ≤ length r
-      → shifted (s ++ r ++ t) at ≡ s ++ shifted r 1 ++ t
-  unfolding shifted
-  inside-shift s r t at e h =
-      filled-same (s ++ r ++ t) at (λ j. getD (s ++ r ++ t) (at + 11 + j) 0) (λ j. getD r (1 + 11 + j) 0) 77
-      (λ j less. inside-get s r t (at + 11 + j) (1 + 11 + j) (omega arith) (omega arith))
-      ∙ inside-filled s r t at 1 (λ j. getD r (1 + 11 + j) 0) 77 e (omega arith)
+  pub take-row : (s t : List ℕ) (at : ℕ) → length s ≡ at
+      → zeroed (shifted (s ++ row (m ∷ ms) ++ t) at) (at + 14) 2 ≡ s ++ row ms ++ t
+  take-row s t at e =
+      let l = row (m ∷ ms) in
+      let last : length (drop 14 l) ≡ 2 = length-drop 14 l ∙ omega (arith, row-length (m ∷ ms) short) in
+      rw (shift-row s t at e, ← append-assoc (s ++ behind) (drop 14 l) t)
+      (filled-between (s ++ behind) (drop 14 l) t (at + 14) (λ j. 0) 2 (length-append s behind ∙ rw (e, behind-length)) last
+      ∙ rw (listed-replicate {A = ℕ} 2 0, append-assoc s behind (0 ∷ 0 ∷ []), closed))
 
-  pub take-row : (m : A) (ms : List A) (i : ℕ) → suc (length ms) ≤ 8 → (s t : List ℕ) → length s ≡ i * 89
-      → taken (s ++ row pack (m ∷ ms) ++ t) i ≡ s ++ row pack ms ++ t
-  unfolding taken
-  take-row m ms i h s t e =
-      let r = row pack (m ∷ ms) in
-      let c = suc (length ms) in
-      let y = shifted r 1 in
-      let wide : length r ≡ 89 = row-length (m ∷ ms) h in
-      let wide₁ : length y ≡ 89 = shifted-length r 1 ∙ wide in
-      rw (
-        count-row (m ∷ ms) i h s t e,
-        ne-eqb c 0 (λ z. omega arith),
-        inside-shift s r t (i * 89 + 1) (omega arith) (omega arith),
-        inside-filled s y t (i * 89 + 78) 78 (λ j. 0) 11 (omega arith) (omega arith),
-        inside-set s (zeroed y 78 11) t (i * 89) 0 (c - 1) (omega arith) (rw (filled-length y 78 (λ j. 0) 11) (omega arith)),
-        take-in m ms h,
-      )
+-- ---- clear
 
-  -- ---- clear
-
-  clear-in : (ms : List A) → length ms ≤ 8 → zeroed (row pack ms) 0 89 ≡ row pack []
-  unfolding row packed
-  clear-in ms h = filled-whole (row pack ms) (λ j. 0) 89 (row-length ms h) ∙ listed-zeros 89
-
-  pub clear-row : (ms : List A) (i : ℕ) → length ms ≤ 8 → (s t : List ℕ) → length s ≡ i * 89
-      → cleared (s ++ row pack ms ++ t) i ≡ s ++ row pack [] ++ t
-  unfolding cleared
-  clear-row ms i h s t e =
-      let wide : length (row pack ms) ≡ 89 = row-length ms h in
-      rw (inside-filled s (row pack ms) t (i * 89) 0 (λ j. 0) 89 (omega arith) (omega arith), clear-in ms h)
-
-  -- ---- oldest
-
-  pub oldest-row : (m : A) (ms : List A) (i : ℕ) → suc (length ms) ≤ 8 → (s t : List ℕ) → length s ≡ i * 89
-      → bytesAt (s ++ row pack (m ∷ ms) ++ t) (i * 89 + 1) 11 ≡ pack m
-  oldest-row m ms i h s t e =
-      let c = suc (length ms) in
-      inside-bytes s (row pack (m ∷ ms)) t (i * 89 + 1) 1 11 (omega arith) (omega (arith, row-length (m ∷ ms) h))
-      ∙ rw (first m ms) (inside-bytes (c ∷ []) (pack m) (behind ms) 1 0 11 refl (omega (arith, eleven m)))
-      ∙ listed-same (λ j. getD (pack m) (0 + j) 0) (λ j. getD (pack m) j 0) 11
-      (λ j less. ap (λ (k : ℕ). getD (pack m) k 0) (zero-add j))
-      ∙ listed-all (pack m) 11 (eleven m)
+pub clear-row : (ms : List Message) (s t : List ℕ) (at : ℕ) → length ms ≤ 8 → length s ≡ at
+    → zeroed (s ++ row ms ++ t) at 16 ≡ s ++ row [] ++ t
+unfolding row packed
+clear-row ms s t at h e =
+    filled-between s (row ms) t at (λ j. 0) 16 e (row-length ms h) ∙ rw (listed-replicate {A = ℕ} 16 0)

@@ -1,32 +1,33 @@
 -- Sound memory is the layout of what it holds.
 --
--- It is cut into channels, and a channel into its count, its used slots and zeros (`cut`). Each used slot is what its message is
--- packed to, so each piece is the layout's (`piece`), and so is the whole (`layout-held`).
+-- A channel's slots are cut into those used and zeros. Each used slot has the words of the message in it (`Slot.holds`), so the
+-- slots are the layout's (`piece`); the counts are the lengths of what is held; and so the whole is the layout
+-- (`layout-messages`).
 -- Assumes nothing.
 use mathlib.Core.Path.{_≡_, refl, sym, ap, _∙_}
 use mathlib.Core.Bool.{Bool, true}
 use mathlib.Core.List.{List, [], _∷_, _++_, map}
 use Prim.Native.Nat.{ℕ, zero, suc, _+_, _-_, _*_, _≤_, _<_}
-use native.Mathlib.Nat.{add-zero, suc-mul, zero-mul}
+use native.Mathlib.Nat.{add-assoc}
+use native.Mathlib.Numerals.{add-one}
 use native.Mathlib.Omega.{arith}
 use lib.Dec.{eqb}
-use lib.ListN.{length, getD, replicate}
+use lib.ListN.{length, getD, drop, replicate, length-drop}
+use lib.Seq.{append-snoc, getD-drop}
 use borrow.Author.Tests.{eqb-true, leb-true}
+use Rattle.basics.specs.Tables.{listed, partAt}
 use Rattle.basics.specs.Tests.{all}
 use Rattle.basics.proofs.Cases.{both, both-of}
+use Rattle.basics.proofs.Listed.{listed-length, listed-same, listed-join, listed-first, listed-replicate}
+use Rattle.basics.proofs.Tables.{tabled-same, tabled-back}
 use Rattle.basics.proofs.Tests.{each, below}
-use Rattle.channel.specs.Memory.{countAt, listed, bytesAt}
-use Rattle.channel.specs.Layout.{tabled, packed, row, layout}
-use Rattle.channel.specs.Sound.{channelTests, soundBy, held}
-use Rattle.channel.proofs.Inside.{listed-length, listed-same, listed-join, listed-cons, listed-zeros, listed-all}
-use Rattle.channel.proofs.Rows.{tabled-same}
+use Rattle.message.specs.declared.Message.{Message}
+use Rattle.message.specs.Layout.{wordsOf}
+use Rattle.channel.specs.Memory.{countAt}
+use Rattle.channel.specs.Layout.{packed, row, layout}
+use Rattle.channel.specs.Sound.{isDown, slotGoes, channelTests, sound, messages}
 use Rattle.channel.proofs.Channel.{packed-more}
-
--- n pieces of w numbers
-cut : (v : ℕ → ℕ) (w n : ℕ) → listed v (n * w) ≡ tabled (λ i. listed (λ j. v (i * w + j)) w) n
-unfolding listed tabled
-cut v w zero = rw (zero-mul w)
-cut v w (suc n) = rw (suc-mul n w) (listed-join v (n * w) w ∙ rw (cut v w n))
+use Rattle.channel.proofs.Slot.{suits, heldAt, holds}
 
 -- one more that passes
 all-more : {A : Type 0} (p : A → Bool) (l : List A) (x : A) → all (map p l) ≡ true → p x ≡ true
@@ -41,92 +42,85 @@ unfolding listed
 all-listed p f zero h = refl
 all-listed p f (suc k) h = all-more p (listed f k) (f k) (all-listed p f k (λ s less. h s (omega arith))) (h k (omega arith))
 
--- what the packing, the unpacking, the test of a slot and the test of a message must be to each other
-pub record Lawful {A : Type 0} (pack : A → List ℕ) (unpack : List ℕ → A) (test : ℕ → List ℕ → Bool)
-    (ok : ℕ → A → Bool) : Type 0 where
-  pub eleven : (a : A) → length (pack a) ≡ 11
-  pub repacked : (i : ℕ) (s : List ℕ) → test i s ≡ true → pack (unpack s) ≡ s
-  pub unpacks-ok : (i : ℕ) (s : List ℕ) → test i s ≡ true → ok i (unpack s) ≡ true
-  pub passes : (i : ℕ) (a : A) → ok i a ≡ true → test i (pack a) ≡ true
-  pub unpacked : (i : ℕ) (a : A) → ok i a ≡ true → unpack (pack a) ≡ a
+-- k messages and their words, two numbers each
+packed-listed : (f : ℕ → Message) (v : ℕ → ℕ) (k : ℕ)
+    → ((s : ℕ) → s < k → (wordsOf (f s) .0 ≡ v (s * 2)) × (wordsOf (f s) .1 ≡ v (s * 2 + 1)))
+    → packed (listed f k) ≡ listed v (k * 2)
+unfolding listed packed
+packed-listed f v zero h = refl
+packed-listed f v (suc k) h =
+    let e : suc k * 2 ≡ suc (suc (k * 2)) = omega arith in
+    let w = h k (omega arith) in
+    rw (e, packed-more (listed f k) (f k), packed-listed f v k (λ s less. h s (omega arith)), w .0, w .1, add-one (k * 2))
+    (sym (append-snoc (listed v (k * 2)) (v (k * 2)) (v (suc (k * 2)) ∷ [])))
 
-module _ {A : Type 0} (pack : A → List ℕ) (unpack : List ℕ → A) (test : ℕ → List ℕ → Bool) (ok : ℕ → A → Bool)
-    (lawful : Lawful pack unpack test ok) where
-  packed-listed : (f : ℕ → A) (k : ℕ) → packed pack (listed f k) ≡ tabled (λ s. pack (f s)) k
-  unfolding listed tabled packed
-  packed-listed f zero = refl
-  packed-listed f (suc k) = packed-more pack (lawful .eleven) (listed f k) (f k) ∙ rw (packed-listed f k)
+module _ (b : List ℕ) (h : sound b ≡ true) (i : ℕ) (inside : i < 156) where
+  record Channel : Type 0 where
+    few : countAt b i ≤ 8
+    used : (s : ℕ) → s < countAt b i → slotGoes (isDown i) b (156 + i * 16 + s * 2) ≡ true
+    unused : (j : ℕ) → j < 16 - countAt b i * 2 → getD b (156 + i * 16 + countAt b i * 2 + j) 0 ≡ 0
 
-  -- ---- sound memory
+  channel : Channel
+  unfolding sound channelTests
+  channel =
+      let k = countAt b i in
+      let t = each (channelTests b i) (below (λ j. all (channelTests b j)) 156 h i inside) in
+      record {
+        few = leb-true k 8 (t .0);
+        used = below (λ s. slotGoes (isDown i) b (156 + i * 16 + s * 2)) k (t .1 .0);
+        unused = λ j less.
+            eqb-true _ 0 (below (λ x. eqb (getD b (156 + i * 16 + k * 2 + x) 0) 0) (16 - k * 2) (t .1 .1 .0) j less);
+      }
 
-  module _ (b : List ℕ) (sound : soundBy test b ≡ true) (i : ℕ) (inside : i < 156) where
-    record Channel : Type 0 where
-      few : countAt b i ≤ 8
-      used : (s : ℕ) → s < countAt b i → test i (bytesAt b (i * 89 + 1 + s * 11) 11) ≡ true
-      unused : (j : ℕ) → j < 88 - countAt b i * 11 → getD b (i * 89 + 1 + countAt b i * 11 + j) 0 ≡ 0
+  pub counts-fit : countAt b i ≤ 8
+  counts-fit = channel .few
 
-    channel : Channel
-    unfolding soundBy channelTests
-    channel =
-        let k = countAt b i in
-        let t = each (channelTests test b i) (below (λ j. all (channelTests test b j)) 156 sound i inside) in
-        record {
-          few = leb-true k 8 (t .0);
-          used = below (λ s. test i (bytesAt b (i * 89 + 1 + s * 11) 11)) k (t .1 .0);
-          unused = λ j less.
-              eqb-true _ 0 (below (λ x. eqb (getD b (i * 89 + 1 + k * 11 + x) 0) 0) (88 - k * 11) (t .1 .1 .0) j less);
-        }
+  messages-count : length (messages b i) ≡ countAt b i
+  unfolding messages
+  messages-count = listed-length (λ s. heldAt b (156 + i * 16 + s * 2)) (countAt b i)
 
-    pub count-fits : countAt b i ≤ 8
-    count-fits = channel .few
+  pub messages-fit : length (messages b i) ≤ 8
+  messages-fit = rw messages-count counts-fit
 
-    pub held-length : length (held unpack b i) ≤ 8
-    unfolding held
-    held-length = rw (listed-length (λ s. unpack (bytesAt b (i * 89 + 1 + s * 11) 11)) (countAt b i)) count-fits
+  pub messages-suit : all (map (suits i) (messages b i)) ≡ true
+  unfolding messages
+  messages-suit =
+      all-listed (suits i) (λ s. heldAt b (156 + i * 16 + s * 2)) (countAt b i)
+      (λ s less. holds i b (156 + i * 16 + s * 2) (channel .used s less) .suited)
 
-    -- the 89 bytes of the channel are those of the messages that it holds
-    piece : listed (λ j. getD b (i * 89 + j) 0) 89 ≡ row pack (held unpack b i)
-    unfolding row held
-    piece =
-        let k = countAt b i in
-        let few = channel .few in
-        let v : ℕ → ℕ = λ j. getD b (i * 89 + j) 0 in
-        let u : ℕ → ℕ = λ j. v (1 + j) in
-        let f : ℕ → A = λ s. unpack (bytesAt b (i * 89 + 1 + s * 11) 11) in
-        let n : k * 11 + (88 - k * 11) ≡ 88 = omega arith in
-        let many : length (listed f k) ≡ k = listed-length f k in
-        let first : v 0 ≡ k = ap (λ (x : ℕ). getD b x 0) (add-zero (i * 89)) in
-        let slots : listed u (k * 11) ≡ packed pack (listed f k) =
-        cut u 11 k ∙ tabled-same (λ s. listed (λ j. u (s * 11 + j)) 11) (λ s. pack (f s)) k
-        (λ s less.
-        listed-same (λ j. u (s * 11 + j)) (λ j. getD b (i * 89 + 1 + s * 11 + j) 0) 11
-        (λ j short. ap (λ (x : ℕ). getD b x 0) (place i s j))
-        ∙ sym (lawful .repacked i (bytesAt b (i * 89 + 1 + s * 11) 11) (channel .used s less)))
-        ∙ sym (packed-listed f k) in
-        let zeros : listed (λ j. u (k * 11 + j)) (88 - k * 11) ≡ replicate (88 - k * 11) 0 =
-        listed-same (λ j. u (k * 11 + j)) (λ j. 0) (88 - k * 11)
-        (λ j less. ap (λ (x : ℕ). getD b x 0) (place i k j) ∙ channel .unused j less)
-        ∙ listed-zeros (88 - k * 11) in
-        listed-cons v 88 ∙ rw (first, many)
-        (ap (λ (l : List ℕ). k ∷ l)
-        (listed-same (λ j. v (suc j)) u 88 (λ j less. ap v (one-more j))
-        ∙ ap (listed u) (sym n) ∙ listed-join u (k * 11) (88 - k * 11) ∙ rw (slots, zeros)))
-      where
-        place : (i s j : ℕ) → i * 89 + (1 + (s * 11 + j)) ≡ i * 89 + 1 + s * 11 + j
-        place i s j = omega arith
+  -- the numbers of the channel are those of the messages that it holds
+  numbers : row (messages b i) ≡ listed (λ j. getD b (156 + i * 16 + j) 0) 16
+  unfolding row messages
+  numbers =
+      let k = countAt b i in
+      let at = 156 + i * 16 in
+      let v : ℕ → ℕ = λ j. getD b (at + j) 0 in
+      let f : ℕ → Message = λ s. heldAt b (at + s * 2) in
+      let place : (n j : ℕ) → getD b (at + n + j) 0 ≡ v (n + j) = λ n j. ap (λ (x : ℕ). getD b x 0) (add-assoc at n j) in
+      let few = channel .few in
+      let all : k * 2 + (16 - k * 2) ≡ 16 = omega arith in
+      let used : packed (listed f k) ≡ listed v (k * 2) =
+      packed-listed f v k
+      (λ s less. let w = holds i b (at + s * 2) (channel .used s less) in (w .high, w .low ∙ place (s * 2) 1)) in
+      let unused : listed (λ j. v (k * 2 + j)) (16 - k * 2) ≡ replicate (16 - k * 2) 0 =
+      listed-same (λ j. v (k * 2 + j)) (λ j. 0) (16 - k * 2) (λ j less. sym (place (k * 2) j) ∙ channel .unused j less)
+      ∙ listed-replicate {A = ℕ} (16 - k * 2) 0 in
+      rw (listed-length f k, used, ← unused) (sym (listed-join v (k * 2) (16 - k * 2)) ∙ ap (listed v) all)
 
-        one-more : (j : ℕ) → suc j ≡ 1 + j
-        one-more j = omega arith
+  piece : length b ≡ 2652 → row (messages b i) ≡ partAt (156 + i * 16) 16 b
+  piece long =
+      let at = 156 + i * 16 in
+      numbers
+      ∙ listed-same (λ j. getD b (at + j) 0) (λ j. getD (drop at b) j 0) 16 (λ j less. sym (getD-drop at b j 0))
+      ∙ listed-first (drop at b) 16 0 (rw (length-drop at b) (omega arith))
 
-    pub held-ok : all (map (ok i) (held unpack b i)) ≡ true
-    unfolding held
-    held-ok =
-        all-listed (ok i) (λ s. unpack (bytesAt b (i * 89 + 1 + s * 11) 11)) (countAt b i)
-        (λ s less. lawful .unpacks-ok i (bytesAt b (i * 89 + 1 + s * 11) 11) (channel .used s less))
-
-  pub layout-held : (b : List ℕ) → length b ≡ 13884 → soundBy test b ≡ true → layout pack (held unpack b) ≡ b
-  unfolding layout
-  layout-held b long sound =
-      sym (sym (listed-all b 13884 long)
-      ∙ cut (λ j. getD b j 0) 89 156
-      ∙ tabled-same (λ i. listed (λ j. getD b (i * 89 + j) 0) 89) (λ i. row pack (held unpack b i)) 156 (piece b sound))
+pub layout-messages : (b : List ℕ) → sound b ≡ true → length b ≡ 2652 → layout (messages b) ≡ b
+unfolding layout
+layout-messages b h long =
+    let counts : listed (λ i. length (messages b i)) 156 ≡ listed (λ i. getD b i 0) 156 =
+    listed-same (λ i. length (messages b i)) (λ i. getD b i 0) 156 (messages-count b h) in
+    rw (
+      counts,
+      listed-first b 156 0 (omega arith),
+      tabled-same (λ i. row (messages b i)) (λ i. partAt (156 + i * 16) 16 b) 156 (λ i less. piece b h i less long),
+    ) (tabled-back 16 b 156 156 long)

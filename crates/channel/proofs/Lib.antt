@@ -1,10 +1,8 @@
 pub mod Filled
-pub mod Words
-pub mod Inside
-pub mod Rows
 pub mod Channel
-pub mod Passing
 pub mod Laws
+pub mod Passing
+pub mod Slot
 pub mod Held
 pub mod Laid
 pub mod Messages

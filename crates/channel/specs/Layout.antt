@@ -1,33 +1,29 @@
 -- What the memory of the channels stands for: for each channel the list of its messages, oldest first.
 --
--- `layout` says which bytes stand for such lists, for any messages that are packed into eleven bytes. It is the only way: a
--- channel's messages stand in its first slots, and a slot that is not used is zero (01: 'every unused place holds zero bytes').
+-- `layout` says which numbers stand for such lists. It is the only way: the counts are the lists' lengths, a channel's messages
+-- stand in its first slots, and a slot that is not used is zero (01: 'every unused place holds zero bytes').
 -- Assumes nothing.
-use Prim.Native.Nat.{ℕ, zero, suc, _-_, _*_, _≤_, _<_}
+use Prim.Native.Nat.{ℕ, _-_, _*_, _≤_, _<_}
 use mathlib.Core.List.{List, [], _∷_, _++_}
 use lib.ListN.{length, replicate}
-use Rattle.channel.specs.Memory.{channels, slots, width}
+use Rattle.basics.specs.Tables.{listed, tabled}
+use Rattle.message.specs.declared.Message.{Message}
+use Rattle.message.specs.Layout.{wordsOf}
+use Rattle.channel.specs.Memory.{channels, slots, width, span}
 
--- r 0, r 1 and so on, n of them, one behind the other
-unfoldable pub tabled : (ℕ → List ℕ) → ℕ → List ℕ
-tabled r zero = []
-tabled r (suc n) = tabled r n ++ r n
+-- no channel holds more messages than it has slots
+abbrev pub Fitting : (ℕ → List Message) → Type 0
+Fitting ch = (i : ℕ) → i < channels → length (ch i) ≤ slots
 
-module _ {A : Type 0} where
-  -- no channel holds more messages than it has slots
-  abbrev pub Fitting : (ℕ → List A) → Type 0
-  Fitting ch = (i : ℕ) → i < channels → length (ch i) ≤ slots
+-- messages one behind the other, each in its two words
+unfoldable pub packed : List Message → List ℕ
+packed [] = []
+packed (m ∷ ms) = wordsOf m .0 ∷ wordsOf m .1 ∷ packed ms
 
-  module _ (pack : A → List ℕ) where
-    -- messages one behind the other
-    unfoldable pub packed : List A → List ℕ
-    packed [] = []
-    packed (m ∷ ms) = pack m ++ packed ms
+-- the slots of a channel: its messages, and zeros in the slots that are not used
+unfoldable pub row : List Message → List ℕ
+row ms = packed ms ++ replicate (span - length ms * width) 0
 
-    -- the bytes of a channel: its count, its messages, and zeros in the slots that are not used
-    unfoldable pub row : List A → List ℕ
-    row ms = length ms ∷ (packed ms ++ replicate (slots * width - length ms * width) 0)
-
-    -- the bytes of all channels
-    unfoldable pub layout : (ℕ → List A) → List ℕ
-    layout ch = tabled (λ i. row (ch i)) channels
+-- the numbers of all channels: their counts, and their slots
+unfoldable pub layout : (ℕ → List Message) → List ℕ
+layout ch = listed (λ i. length (ch i)) channels ++ tabled (λ i. row (ch i)) channels

@@ -3,44 +3,25 @@
 -- 01, of a sound state: 'lengths and fields are in range, desk wires hold kinds 1, 3, 4 and keeper wires 2, 5, 6, none a
 -- misprint, .. unused places are zero'. That channels that drop are empty is judged in `state`, which knows which ones drop.
 --
--- In order: bytes that are zero; a channel, for any test of its slots; all channels; what they hold; the test of messages.
+-- In order: numbers that are zero; the way that a message goes; a slot; a channel; all channels; what they hold.
 -- Assumes nothing.
-use Prim.Native.Nat.{ℕ, _+_, _-_, _*_, _≤_, _<_}
-use mathlib.Core.Bool.{Bool, false, not}
+use Prim.Native.Nat.{ℕ, _+_, _-_, _*_, _^_, _≤_, _<_}
+use mathlib.Core.Bool.{Bool, false, not, _&&_}
 use mathlib.Core.List.{List, [], _∷_}
-use lib.Dec.{eqb, leb}
+use lib.Dec.{eqb, leb, ltb}
 use lib.ListN.{getD}
+use Rattle.basics.specs.Tables.{listed}
 use Rattle.basics.specs.Tests.{all, allBelow}
 use Rattle.message.specs.declared.Message.{Message}
 use Rattle.message.specs.declared.Message.the-variants.{GetInfo, Info, Done, WriteInfo, Fwd, WriteAck}
 use Rattle.message.specs.declared.Unpacked.{Unpacked}
 use Rattle.message.specs.declared.Unpacked.the-variants.{Good, Bad}
-use Rattle.message.specs.Layout.{unpackOf}
-use Rattle.channel.specs.Memory.{channels, slots, width, slot, countAt, listed, bytesAt}
+use Rattle.message.specs.Layout.{messageOf}
+use Rattle.channel.specs.Memory.{channels, slots, width, span, slot, countAt}
 
--- n bytes from `at` on are zero
+-- n numbers from `at` on are zero
 abbrev pub zeroFrom : List ℕ → ℕ → ℕ → Bool
 zeroFrom b at n = allBelow (λ j. eqb (getD b (at + j) 0) 0) n
-
-module _ (test : ℕ → List ℕ → Bool) where
-  -- channel i: the count in range, what each used slot holds, the unused ones
-  unfoldable pub channelTests : List ℕ → ℕ → List Bool
-  channelTests b i =
-      leb (countAt b i) slots
-      ∷ allBelow (λ s. test i (bytesAt b (slot i s) width)) (countAt b i)
-      ∷ zeroFrom b (slot i (countAt b i)) (slots * width - countAt b i * width)
-      ∷ []
-
-  unfoldable pub soundBy : List ℕ → Bool
-  soundBy b = allBelow (λ i. all (channelTests b i)) channels
-
--- no channel holds more messages than it has slots
-abbrev pub CountsFit : List ℕ → Type 0
-CountsFit b = (i : ℕ) → i < channels → countAt b i ≤ slots
-
--- what channel i holds, oldest first
-unfoldable pub held : {A : Type 0} → (List ℕ → A) → List ℕ → ℕ → List A
-held unpack b i = listed (λ s. unpack (bytesAt b (slot i s) width)) (countAt b i)
 
 -- the first half of the channels goes from clients to servers, the second back
 abbrev pub isDown : ℕ → Bool
@@ -56,19 +37,39 @@ goes down (Good (Fwd p)) = down
 goes down (Good (WriteAck c)) = down
 goes down Bad = false
 
--- a slot of channel i holds a message that goes the channel's way
-abbrev pub slotTest : ℕ → List ℕ → Bool
-slotTest i s = goes (isDown i) (unpackOf s)
+-- the numbers h and l are the words of a message that goes that way
+abbrev pub wordsGo : Bool → ℕ → ℕ → Bool
+wordsGo down h l = ltb l (2 ^ 64) && goes down (messageOf (h * 2 ^ 64 + l))
+
+-- the slot at `at` holds such words
+abbrev pub slotGoes : Bool → List ℕ → ℕ → Bool
+slotGoes down b at = wordsGo down (getD b at 0) (getD b (at + 1) 0)
+
+-- what the slot at `at` holds
+abbrev pub messageAt : List ℕ → ℕ → Unpacked
+messageAt b at = messageOf (getD b at 0 * 2 ^ 64 + getD b (at + 1) 0)
+
+-- channel i: the count in range, what each used slot holds, the unused ones
+unfoldable pub channelTests : List ℕ → ℕ → List Bool
+channelTests b i =
+    leb (countAt b i) slots
+    ∷ allBelow (λ s. slotGoes (isDown i) b (slot i s)) (countAt b i)
+    ∷ zeroFrom b (slot i (countAt b i)) (span - countAt b i * width)
+    ∷ []
 
 -- the memory is sound
 unfoldable pub sound : List ℕ → Bool
-sound b = soundBy slotTest b
+sound b = allBelow (λ i. all (channelTests b i)) channels
 
--- the message of bytes; where they are none it does not matter which
+-- no channel holds more messages than it has slots
+abbrev pub CountsFit : List ℕ → Type 0
+CountsFit b = (i : ℕ) → i < channels → countAt b i ≤ slots
+
+-- the message of numbers; where they are none it does not matter which
 unfoldable pub messageIn : Unpacked → Message
 messageIn (Good m) = m
 messageIn Bad = Done
 
--- the messages of channel i
-abbrev pub messages : List ℕ → ℕ → List Message
-messages = held (λ s. messageIn (unpackOf s))
+-- what channel i holds, oldest first
+unfoldable pub messages : List ℕ → ℕ → List Message
+messages b i = listed (λ s. messageIn (messageAt b (slot i s))) (countAt b i)

@@ -1,64 +1,57 @@
-// FIFO channels between clients and servers, all in one long array that the caller lends (01: wires).
+// FIFO channels between clients and servers, all in one long array of numbers that the caller lends (01: wires).
 //
-// Channel i has its count at i * 89 and eight slots of eleven bytes behind it, oldest message first. A slot that is not used
-// is zero. What the bytes stand for is in specs/Layout; proofs/ has the laws that callers use.
+// Channel i has its count at place i. Behind the counts each channel has eight slots of two numbers, oldest message first. A slot
+// that is not used is zero. What the numbers stand for is in specs/Layout; proofs/ has the laws that callers use.
 ghost use mathlib.Core.Path.{_≡_};
-ghost use Prim.Native.Nat.{_+_, _*_, _<_, _≤_, _^_};
-ghost use mathlib.Core.Bool.{true};
-ghost use lib.ListN.{getD, replicate};
-ghost use lib.Pow.{areBytes};
-ghost use Rattle.basics.specs.Bytes.{bigEndian, spelt};
-ghost use Rattle.message.specs.Layout.{unpackOf, words, wordsNumber};
+ghost use Prim.Native.Nat.{_+_, _*_, _<_, _≤_};
+ghost use lib.ListN.{replicate};
 ghost use Rattle.basics.specs.Tests.{all, allBelow};
-ghost use Rattle.channel.specs.Sound.{channelTests, goes, slotTest, sound, zeroFrom};
-ghost use Rattle.channel.specs.Memory.{bytesAt, cleared, countAt, filled, oldestOn, putOn, shifted, taken, zeroed};
-use basics::byte;
-use basics::push;
+ghost use Rattle.channel.specs.Sound.{channelTests, goes, slotGoes, sound, wordsGo, zeroFrom};
+ghost use Rattle.channel.specs.Memory.{cleared, countAt, oldestOn, putOn, shifted, taken, zeroed};
 use message::Message;
 use message::Unpacked;
 use message::Words;
 
 // The memory of all channels.
-pub type Slots = [u8; 13884];
+pub type Slots = [u64; 2652];
 
-// Channels, and how many of them go from clients to servers.
+// Channels, which is also where the slots begin.
 const CHANNELS: usize = 156;
 
+// How many of them go from clients to servers.
 const UPWARD: usize = 78;
 
 // Messages that a channel holds at most.
-const CAPACITY: u8 = 8;
+const CAPACITY: u64 = 8;
 
-// Bytes of a message, of a channel, of a channel's slots, and of all of them but the last.
-const WIDTH: usize = 11;
+// Numbers of a message, of a channel's slots, and of all of them but the last.
+const WIDTH: usize = 2;
 
-const SPAN: usize = 89;
+const SPAN: usize = 16;
 
-const ROOM: usize = 88;
+const MOVED: usize = 14;
 
-const MOVED: usize = 77;
-
-// Where the last slot begins.
-const LAST: usize = 78;
+// The numbers that a word of 32 bits holds.
+const WORD: u64 = 4294967296;
 
 // No message anywhere, and every slot zero.
 pub fn empty_slots() -> Slots
-    ensures { λ r. ⌜ r ≡ replicate 13884 0 ⌝ }
+    ensures { λ r. ⌜ r ≡ replicate 2652 0 ⌝ }
 {
-    [0u8; 13884]
+    [0u64; 2652]
 }
 
 // How many messages channel i holds.
-pub fn count(b: &Slots, i: usize) -> u8
+pub fn count(b: &Slots, i: usize) -> u64
     requires { ⌜ i < 156 ⌝ }
     ensures { λ r. ⌜ r ≡ countAt (now (b .entry)) i ⌝ }
 {
-    b[i * SPAN]
+    b[i]
 }
 
-// The n bytes from `at` on become zero.
+// The n numbers from `at` on become zero.
 fn zero(b: &mut Slots, at: usize, n: usize)
-    requires { ⌜ at + n ≤ 13884 ⌝ }
+    requires { ⌜ at + n ≤ 2652 ⌝ }
     ensures { λ r. ⌜ now (b .exit) ≡ zeroed (now (b .entry)) at n ⌝ }
 {
     let mut j = 0;
@@ -68,89 +61,33 @@ fn zero(b: &mut Slots, at: usize, n: usize)
     }
 }
 
-// The last n bytes of x, most significant first, from `at` on.
-fn spell(b: &mut Slots, at: usize, x: u64, n: u32)
-    requires { ⌜ (at + n ≤ 13884) × (n ≤ 8) ⌝ }
-    ensures { λ r. ⌜ now (b .exit) ≡ filled (now (b .entry)) at (λ j. getD (bigEndian n x) j 0) n ⌝ }
-{
-    let mut j = 0;
-    let mut k = 8 * n;
-    while 0 < k {
-        k -= 8;
-        b[at + j] = byte(x, k);
-        j += 1;
-    }
-}
-
-// One byte more behind those of x; and that v is a byte, which a caller that read it from an array does not know.
-fn pushed(x: u64, v: u8) -> u64
-    requires { ⌜ x < 2 ^ 56 ⌝ }
-    ensures { λ r. ⌜ (r ≡ x * 256 + v) × (v < 256) ⌝ }
-{
-    push(x, v)
-}
-
-// The number that the n bytes from `at` on spell.
-fn number(b: &Slots, at: usize, n: usize) -> u64
-    requires { ⌜ (at + n ≤ 13884) × (n ≤ 8) ⌝ }
-    ensures number { λ r. ⌜ r ≡ spelt 0 (bytesAt (now (b .entry)) at n) ⌝ }
-    ensures below { λ r. ⌜ r < 2 ^ (8 * n) ⌝ }
-    ensures bytes { λ r. ⌜ areBytes (bytesAt (now (b .entry)) at n) ≡ true ⌝ }
-{
-    let mut x = 0;
-    let mut j = 0;
-    while j < n {
-        x = pushed(x, b[at + j]);
-        j += 1;
-    }
-    x
-}
-
-// The same of eight bytes. Of two halves the compiler makes one load, of eight bytes in a row eight loads.
-fn eight(b: &Slots, at: usize) -> u64
-    requires { ⌜ at + 8 ≤ 13884 ⌝ }
-    ensures number { λ r. ⌜ r ≡ spelt 0 (bytesAt (now (b .entry)) at 8) ⌝ }
-    ensures below { λ r. ⌜ r < 2 ^ 64 ⌝ }
-    ensures bytes { λ r. ⌜ areBytes (bytesAt (now (b .entry)) at 8) ≡ true ⌝ }
-{
-    (number(b, at, 4) << 32) | number(b, at + 4, 4)
-}
-
 // Puts a message on channel i, behind those that it holds. A full channel stays as it is.
 pub fn put(b: &mut Slots, i: usize, w: Words)
     requires { ⌜ i < 156 ⌝ }
-    ensures { λ r. ⌜ now (b .exit) ≡ putOn (now (b .entry)) i (bigEndian 11 (wordsNumber w)) ⌝ }
+    ensures { λ r. ⌜ now (b .exit) ≡ putOn (now (b .entry)) i w ⌝ }
 {
-    let at = i * SPAN;
-    let k = b[at];
+    let k = b[i];
     if k < CAPACITY {
-        let free = at + 1 + k as usize * WIDTH;
-        spell(b, free, w.0 as u64, 3);
-        spell(b, free + 3, w.1, 8);
-        b[at] = k + 1;
+        let free = CHANNELS + i * SPAN + k as usize * WIDTH;
+        b[free] = w.0 as u64;
+        b[free + 1] = w.1;
+        b[i] = k + 1;
     }
 }
 
-// The message in the slot at `at`, as two words; and that its bytes are bytes.
-fn load(b: &Slots, at: usize) -> Words
-    requires { ⌜ at + 11 ≤ 13884 ⌝ }
-    ensures words { λ r. ⌜ r ≡ words (spelt 0 (bytesAt (now (b .entry)) at 11)) ⌝ }
-    ensures bytes { λ r. ⌜ areBytes (bytesAt (now (b .entry)) at 11) ≡ true ⌝ }
-{
-    Words(number(b, at, 3) as u32, eight(b, at + 3))
-}
-
-// The message in the first slot of channel i, which is the oldest; zeros where the channel is empty.
+// The message in the first slot of channel i, which is the oldest. Of its first number the low 32 bits count: in sound memory it has
+// no more, and an empty channel has zeros there.
 pub fn oldest(b: &Slots, i: usize) -> Words
     requires { ⌜ i < 156 ⌝ }
     ensures { λ r. ⌜ r ≡ oldestOn (now (b .entry)) i ⌝ }
 {
-    load(b, i * SPAN + 1)
+    let at = CHANNELS + i * SPAN;
+    Words((b[at] % WORD) as u32, b[at + 1])
 }
 
-// Each of the seven slots from `at` on gets what the next one held.
+// Each of the seven slots from `at` on gets what the next one held. One loop with no branch, so that it becomes vector code.
 fn shift(b: &mut Slots, at: usize)
-    requires { ⌜ at + 88 ≤ 13884 ⌝ }
+    requires { ⌜ at + 16 ≤ 2652 ⌝ }
     ensures { λ r. ⌜ now (b .exit) ≡ shifted (now (b .entry)) at ⌝ }
 {
     let mut j = 0;
@@ -166,12 +103,12 @@ pub fn take(b: &mut Slots, i: usize)
     requires { ⌜ i < 156 ⌝ }
     ensures { λ r. ⌜ now (b .exit) ≡ taken (now (b .entry)) i ⌝ }
 {
-    let at = i * SPAN;
-    let k = b[at];
+    let k = b[i];
     if 0 < k {
-        shift(b, at + 1);
-        zero(b, at + LAST, WIDTH);
-        b[at] = k - 1;
+        let at = CHANNELS + i * SPAN;
+        shift(b, at);
+        zero(b, at + MOVED, WIDTH);
+        b[i] = k - 1;
     }
 }
 
@@ -180,18 +117,19 @@ pub fn clear(b: &mut Slots, i: usize)
     requires { ⌜ i < 156 ⌝ }
     ensures { λ r. ⌜ now (b .exit) ≡ cleared (now (b .entry)) i ⌝ }
 {
-    zero(b, i * SPAN, SPAN);
+    zero(b, CHANNELS + i * SPAN, SPAN);
+    b[i] = 0;
 }
 
 // ---- soundness
 
-// Whether the n bytes from `at` on are zero. They are joined by OR with no early leave, so that the loop becomes vector code.
+// Whether the n numbers from `at` on are zero. They are joined by OR with no early leave, so that the loop becomes vector code.
 fn zeros(b: &Slots, at: usize, n: usize) -> bool
-    requires { ⌜ at + n ≤ 13884 ⌝ }
+    requires { ⌜ at + n ≤ 2652 ⌝ }
     ensures { λ r. ⌜ r ≡ zeroFrom (now (b .entry)) at n ⌝ }
 {
     let mut j = 0;
-    let mut x: u8 = 0;
+    let mut x: u64 = 0;
     while j < n {
         x = x | b[at + j];
         j += 1;
@@ -213,12 +151,14 @@ fn goes_way(m: Message, down: bool) -> bool
     }
 }
 
-// Whether the slot at `at` holds a message that goes that way.
-fn slot_goes(b: &Slots, at: usize, down: bool) -> bool
-    requires { ⌜ at + 11 ≤ 13884 ⌝ }
-    ensures { λ r. ⌜ r ≡ goes down (unpackOf (bytesAt (now (b .entry)) at 11)) ⌝ }
+// Whether two numbers are the words of a message that goes that way. A first number over 32 bits is no message's.
+fn words_go(first: u64, second: u64, down: bool) -> bool
+    ensures { λ r. ⌜ r ≡ wordsGo down first second ⌝ }
 {
-    let Unpacked::Good(m) = message::of_words(load(b, at)) else {
+    if WORD <= first {
+        return false;
+    }
+    let Unpacked::Good(m) = message::of_words(Words(first as u32, second)) else {
         return false;
     };
     goes_way(m, down)
@@ -226,12 +166,13 @@ fn slot_goes(b: &Slots, at: usize, down: bool) -> bool
 
 // Whether the n slots from `at` on hold messages that go that way.
 fn slots_go(b: &Slots, at: usize, n: usize, down: bool) -> bool
-    requires { ⌜ at + n * 11 ≤ 13884 ⌝ }
-    ensures { λ r. ⌜ r ≡ allBelow (λ s. goes down (unpackOf (bytesAt (now (b .entry)) (at + s * 11) 11))) n ⌝ }
+    requires { ⌜ at + n * 2 ≤ 2652 ⌝ }
+    ensures { λ r. ⌜ r ≡ allBelow (λ s. slotGoes down (now (b .entry)) (at + s * 2)) n ⌝ }
 {
     let mut s = 0;
     while s < n {
-        if !slot_goes(b, at + s * WIDTH, down) {
+        let k = at + s * WIDTH;
+        if !words_go(b[k], b[k + 1], down) {
             return false;
         }
         s += 1;
@@ -239,24 +180,24 @@ fn slots_go(b: &Slots, at: usize, n: usize, down: bool) -> bool
     true
 }
 
-// Whether channel i is sound. Most are empty, and one pass over their bytes says so.
+// Whether channel i is sound. Most are empty, and one pass over their slots says so.
 fn channel_sound(b: &Slots, i: usize) -> bool
     requires { ⌜ i < 156 ⌝ }
-    ensures { λ r. ⌜ r ≡ all (channelTests slotTest (now (b .entry)) i) ⌝ }
+    ensures { λ r. ⌜ r ≡ all (channelTests (now (b .entry)) i) ⌝ }
 {
-    let at = i * SPAN;
-    if zeros(b, at, SPAN) {
-        return true;
+    let at = CHANNELS + i * SPAN;
+    let k = b[i];
+    if k == 0 {
+        return zeros(b, at, SPAN);
     }
-    let k = b[at];
     if CAPACITY < k {
         return false;
     }
     let n = k as usize;
-    if !slots_go(b, at + 1, n, UPWARD <= i) {
+    if !slots_go(b, at, n, UPWARD <= i) {
         return false;
     }
-    zeros(b, at + 1 + n * WIDTH, ROOM - n * WIDTH)
+    zeros(b, at + n * WIDTH, SPAN - n * WIDTH)
 }
 
 // Whether the memory is sound: every count in range, every used slot a message that goes its channel's way, all else zero.

@@ -49,7 +49,7 @@ take-words n l w i =
     (λ e. rw (lib.ListN.List·getD-eq-default (take n l) 0 {n = i} (let g = borrow.Author.Tests.ltb-false i n e in
     omega (arith, lib.ListN.length-take n l, native.Mathlib.Nat.min-le-left n (length l)))) (omega arith))
 
-drop-words : (n : ℕ) (l : List ℕ) → Words l → Words (drop n l)
+pub drop-words : (n : ℕ) (l : List ℕ) → Words l → Words (drop n l)
 drop-words n l w i = rw (getD-drop n l i 0) (w (n + i))
 
 pub shown-fit : (c : Client) (r : List ℕ) → Words r → SetsFit (view c r)

@@ -1,5 +1,5 @@
 -- Every state that the model's client can reach from a sound one is kept: stored, it is sound and shows that client
--- again.
+-- again, as a client with its replies and so as a memory (`kept-memory`).
 --
 -- Either the next client is what a sound memory shows (`kept-view`), or its memory is empty and its phase and read
 -- number are sound (`kept-cleared`); one message leads to one or the other (`kept-taken`).
@@ -21,7 +21,7 @@ use Rattle.message.specs.declared.ReadNumber.{ReadNumber}
 use Rattle.message.specs.declared.WriteCounter.{WriteCounter}
 use Rattle.message.specs.Pair.{counter}
 use Rattle.message.specs.Layout.{wellFormed}
-use Rattle.message.proofs.Pairs.{counter-fits}
+use Rattle.message.proofs.Pairs as pairs
 use Rattle.register.specs.declared.Phase.{Phase}
 use Rattle.register.specs.declared.Phase.the-variants.{Idle, Reading, ReadingForWrite, Storing}
 use Rattle.register.specs.Thresholds.{size, counted, enough}
@@ -33,9 +33,13 @@ use Rattle.replies.proofs.Storing.{store-cleared}
 use Rattle.replies.proofs.Views.{empty-noted, empty-sets, empty-acks}
 use Rattle.client.specs.declared.Client.{Client}
 use Rattle.client.specs.State.{view, storeClient}
-use Rattle.client.specs.Sound.{isSoundPhase, stores, isSoundClient, isSound}
+use Rattle.client.specs.Memory as memory
+use Rattle.client.specs.Memory.{store}
+use Rattle.client.specs.Sound.{isSoundPhase, stores, isSoundClient, isSound, isSoundMemory}
 use Rattle.client.proofs.Facts.{of-client, of-memory, client-facts, client-sound, has-place}
 use Rattle.client.proofs.Fitting.{Words, SetsFit, shown-fit, pair-fits, info-fits, chosen-fits}
+use Rattle.client.proofs.Heads.{counter-fits}
+use Rattle.client.proofs.Memory.{sound-whole, view-store}
 use Rattle.client.proofs.Outcomes.{store-view}
 use Rattle.client.proofs.Shown.{paired, informed, pair-shown, info-shown, ack-shown, pair-sound, info-sound}
 use Rattle.client.proofs.Shown.{ack-keeps, empty-keeps}
@@ -44,6 +48,21 @@ use Rattle.client.proofs.Shown.{ack-keeps, empty-keeps}
 pub record Kept (c : Client) (x : model.Client) : Type 0 where
   pub shows : view (storeClient (c .number) (c .f) x) (storeReplies x) ≡ x
   pub sound : isSound (storeClient (c .number) (c .f) x) (storeReplies x) ≡ true
+
+-- x in its memory, where f servers may be faulty
+pub record KeptMemory (f : ℕ) (x : model.Client) : Type 0 where
+  pub shows : memory.view (store x) ≡ x
+  pub sound : isSoundMemory f (store x) ≡ true
+
+pub kept-memory : (c : Client) (x : model.Client) → Kept c x → KeptMemory (c .f) x
+kept-memory c x k =
+    let next = storeClient (c .number) (c .f) x in
+    let s = client-facts next (of-client next (storeReplies x) (k .sound)) in
+    let small = s .reads in
+    record {
+      shows = view-store x (counter-fits (x .phase) (s .phase)) (omega arith) (k .shows);
+      sound = sound-whole next (storeReplies x) (k .sound);
+    }
 
 pub kept-view : (c : Client) (r : List ℕ) → isSound c r ≡ true → Kept c (view c r)
 kept-view c r h =
@@ -100,7 +119,7 @@ module _ (c : Client) (h : isSoundClient c ≡ true) (x : model.Client) (same : 
       (let next : WriteCounter = record { 0 = counter p .0 + 1 } in
       let licence : isLicence (w .0) ≡ true = ap isSoundPhase (sym e) ∙ client-facts c h .phase in
       let ne = eqb-false (counter p .0) 1048575 t in
-      let top : counter p .0 < 2 ^ 20 = counter-fits p fits in
+      let top : counter p .0 < 2 ^ 20 = pairs.counter-fits p fits in
       let room : counter p .0 + 1 < 2 ^ 20 =
       by-test (ltb (counter p .0) 1048575) (λ u. let g = ltb-true (counter p .0) 1048575 u in omega arith)
       (λ u. absurd (ne (let g = borrow.Author.Tests.ltb-false (counter p .0) 1048575 u in omega arith))) in

@@ -3,15 +3,17 @@
 -- In order: exactly one phase (`one-phase`); only READ, WROTE and SPENT lead to idle (`take-ends`); read numbers
 -- rise by one at each start and at no other time (`read-rises`, `write-rises`, `take-keeps-number`); what changes
 -- nothing: an INFO of another read (`old-info`), an acknowledgement of another write or outside one (`late-ack`),
--- any message to an idle client (`idle-drops`). That every state stays sound is in `Steadiness`.
+-- any message to an idle client (`idle-drops`). That every memory stays sound is in `Steadiness`.
 -- Assumes nothing.
-use mathlib.Core.Path.{_≡_, refl, ap}
+use mathlib.Core.Path.{_≡_, refl, ap, _∙_}
 use mathlib.Core.Bool.{Bool, true, false}
 use mathlib.Core.List.{List, []}
 use mathlib.Core.Option.{none}
-use Prim.Native.Nat.{ℕ, _+_}
-use lib.Dec.{eqb}
-use borrow.Author.Tests.{ne-eqb, not-false}
+use Prim.Native.Nat.{ℕ, _+_, _^_, _%_}
+use native.Mathlib.Omega.{arith}
+use lib.Dec.{eqb, leb}
+use lib.ListN.{getD}
+use borrow.Author.Tests.{leb-false, not-false}
 use mir.Val.{boolByte}
 use Rattle.basics.proofs.Cases.{by-test, by-option}
 use Rattle.message.specs.declared.Entry.{Entry}
@@ -34,16 +36,18 @@ use Rattle.register.specs.declared.Phase.the-variants.{Idle, Reading, ReadingFo
 use Rattle.register.specs.Thresholds.{size, counted, enough}
 use Rattle.register.specs.Client as model
 use Rattle.register.specs.Client.{isIdle, isReading, isStoring, withInfo, withPair, withAck, chosen, concluded}
-use Rattle.register.specs.Client.{looked, acknowledged, takesInfo, clientTakes, started, nextRead, goesOn}
-use Rattle.client.specs.declared.Client.{Client}
-use Rattle.client.specs.State.{view}
-use Rattle.client.specs.Sound.{stores, isSound}
-use Rattle.client.specs.Sends.{After}
+use Rattle.register.specs.Client.{looked, acknowledged, takesInfo, clientTakes, started, nextRead, entryOf}
+use Rattle.client.specs.Memory.{counterIn, phaseIn, readsIn, view}
+use Rattle.client.specs.Sound.{stores, isSoundMemory}
+use Rattle.client.specs.Taking.{isTaken}
+use Rattle.client.specs.Outcome.{After}
 use Rattle.client.specs.Entry.{refusedBy, readRefusals, writeRefusals, takeRefusals, takesIt, readOf, writeOf}
 use Rattle.client.specs.Entry.{takeOf}
-use Rattle.client.proofs.Ladders.{none-applies, either}
-use Rattle.client.proofs.Outcomes.{store-view}
-use Rattle.client.proofs.Starting.{idle-reads-not, idle-waits-not}
+use Rattle.client.proofs.Dropping.{not-taken, idle-takes-none, other-read, other-write}
+use Rattle.client.proofs.Heads.{mod-small, idle-again}
+use Rattle.refusal.proofs.Ladders.{none-applies}
+use Rattle.client.proofs.Ladders.{either}
+use Rattle.client.proofs.Memory.{store-view}
 
 -- ---- phases
 
@@ -113,100 +117,99 @@ module _ (n f d : ℕ) where
       by-test (isStoring (x .phase) c) (λ e. rw e (acknowledged-ends (withAck x k) c h))
       (λ e. rw e record { ends = h; number = refl })
 
-proceeds : (c : Client) (r : List ℕ) (k : ℕ) (u : Unpacked) → isIdle (c .phase) ≡ false
-    → Proceeds (c .reads) (takesIt c r k u .client .phase) (takesIt c r k u .client .reads) (takesIt c r k u .answer)
-proceeds c r k (Good m) h = taken-ends (size (c .f)) (c .f) (c .number) (view c r) k m h
-proceeds c r k Bad h = record { ends = h; number = refl }
+-- the same of the client that a memory has
+twice : (n : ℕ) → n % 2 ^ 32 % 2 ^ 32 ≡ n % 2 ^ 32
+twice n = omega arith
 
-take-proceeds : (c : Client) (r : List ℕ) (k : ℕ) (bytes : List ℕ) → isIdle (c .phase) ≡ false
-    → Proceeds (c .reads) (takeOf c r k bytes .client .phase) (takeOf c r k bytes .client .reads)
-    (takeOf c r k bytes .answer)
-unfolding takeOf
-take-proceeds c r k bytes h =
-    either (λ (a : After). Proceeds (c .reads) (a .client .phase) (a .client .reads) (a .answer)) c r
-    (lowest (takeRefusals c r k bytes)) (takesIt c r k (unpackOf bytes)) (λ x. record { ends = h; number = refl })
-    (λ e. proceeds c r k (unpackOf bytes) h)
+module _ (d f : ℕ) (m : List ℕ) (k : ℕ) (h : isIdle (phaseIn m) ≡ false) where
+  -- of an outcome
+  abbrev ProceedsTo : After → Type 0
+  ProceedsTo a = Proceeds (readsIn m) (phaseIn (a .memory)) (readsIn (a .memory)) (a .answer)
 
-pub take-ends : (c : Client) (r : List ℕ) (k : ℕ) (bytes : List ℕ) → isIdle (c .phase) ≡ false
-    → isIdle (takeOf c r k bytes .client .phase) ≡ isEnding (takeOf c r k bytes .answer)
-take-ends c r k bytes h = take-proceeds c r k bytes h .ends
+  proceeds : (u : Unpacked) → ProceedsTo (takesIt d f m k u)
+  proceeds (Good x) =
+      let t = taken-ends (size f) f d (view m) k x h in
+      let y = clientTakes (size f) f d (view m) k x .client in
+      record {
+        ends = idle-again (y .phase) (entryOf (y .phase) .0) (counterIn (y .phase) % 2 ^ 32) ∙ t .ends;
+        number =
+            ap (λ (r : ReadNumber). record { 0 = r .0 % 2 ^ 32 }) (t .number)
+            ∙ ap (λ (n : ℕ). record { 0 = n }) (twice (getD m 0 0));
+      }
+  proceeds Bad = record { ends = h; number = refl }
+
+  take-proceeds : (bytes : List ℕ) → ProceedsTo (takeOf d f m k bytes)
+  unfolding takeOf
+  take-proceeds bytes =
+      either ProceedsTo m (lowest (takeRefusals d f m k bytes)) (takesIt d f m k (unpackOf bytes))
+      (λ x. record { ends = h; number = refl }) (λ e. proceeds (unpackOf bytes))
+
+pub take-ends : (d f : ℕ) (m : List ℕ) (k : ℕ) (bytes : List ℕ) → isIdle (phaseIn m) ≡ false
+    → isIdle (phaseIn (takeOf d f m k bytes .memory)) ≡ isEnding (takeOf d f m k bytes .answer)
+take-ends d f m k bytes h = take-proceeds d f m k h bytes .ends
 
 -- ---- read numbers
 
-pub read-rises : (c : Client) (r : List ℕ) → lowest (readRefusals c r) ≡ none
-    → readOf c r .client .reads .0 ≡ c .reads .0 + 1
-unfolding readOf started nextRead
-read-rises c r e = rw e
+-- a read number that is not the highest has room for one more
+room : (m : List ℕ) → leb 1048575 (readsIn m .0) ≡ false → (readsIn m .0 + 1) % 2 ^ 32 ≡ readsIn m .0 + 1
+room m e = let g = leb-false 1048575 (readsIn m .0) e in mod-small (readsIn m .0 + 1) (omega arith)
 
-pub write-rises : (c : Client) (r : List ℕ) (e : Entry) → lowest (writeRefusals c r e) ≡ none
-    → writeOf c r e .client .reads .0 ≡ c .reads .0 + 1
+pub read-rises : (d f : ℕ) (m : List ℕ) → lowest (readRefusals d f m) ≡ none
+    → readsIn (readOf d f m .memory) .0 ≡ readsIn m .0 + 1
+unfolding readOf started nextRead
+read-rises d f m e = rw e (room m (none-applies (readRefusals d f m) e .1 .1 .1 .0))
+
+pub write-rises : (d f : ℕ) (m : List ℕ) (e : Entry) → lowest (writeRefusals d f m e) ≡ none
+    → readsIn (writeOf d f m e .memory) .0 ≡ readsIn m .0 + 1
 unfolding writeOf started nextRead
-write-rises c r e h = rw h
+write-rises d f m e h = rw h (room m (none-applies (writeRefusals d f m e) h .1 .1 .1 .1 .0))
 
 -- ---- what changes nothing
 
-pub record Unchanged (c : Client) (r : List ℕ) (a : After) : Type 0 where
-  pub client : a .client ≡ c
-  pub replies : a .replies ≡ r
+pub record Unchanged (m : List ℕ) (a : After) : Type 0 where
+  pub memory : a .memory ≡ m
   pub sends : a .sends ≡ []
 
-refused-unchanged : (c : Client) (r : List ℕ) (x : Refusal) → Unchanged c r (refusedBy c r x)
-refused-unchanged c r x = record { client = refl; replies = refl; sends = refl }
-
--- an accepted message came to a sound state
-sound-then : (c : Client) (r : List ℕ) (k : ℕ) (bytes : List ℕ) → lowest (takeRefusals c r k bytes) ≡ none
-    → isSound c r ≡ true
-sound-then c r k bytes e = not-false (isSound c r) (none-applies (takeRefusals c r k bytes) e .0)
+refused-unchanged : (m : List ℕ) (x : Refusal) → Unchanged m (refusedBy m x)
+refused-unchanged m x = record { memory = refl; sends = refl }
 
 pub by-unpacked : {A : Type 0} (u : Unpacked) → ((m : Message) → u ≡ Good m → A) → (u ≡ Bad → A) → A
 by-unpacked (Good m) f g = f m refl
 by-unpacked Bad f g = g refl
 
-dropped-unchanged : (c : Client) (r : List ℕ) (k : ℕ) (bytes : List ℕ) (m : Message) → unpackOf bytes ≡ Good m
-    → clientTakes (size (c .f)) (c .f) (c .number) (view c r) k m ≡ goesOn (view c r)
-    → Unchanged c r (takeOf c r k bytes)
-unfolding takeOf
-dropped-unchanged c r k bytes m u e =
-    either (Unchanged c r) c r (lowest (takeRefusals c r k bytes)) (takesIt c r k (unpackOf bytes))
-    (refused-unchanged c r)
-    (λ none. rw (u, e)
-    record { client = refl; replies = store-view c r (sound-then c r k bytes none); sends = refl })
+module _ (d f : ℕ) (m : List ℕ) (k : ℕ) (bytes : List ℕ) where
+  -- an accepted message came to a sound memory
+  sound-then : lowest (takeRefusals d f m k bytes) ≡ none → isSoundMemory f m ≡ true
+  sound-then e = not-false (isSoundMemory f m) (none-applies (takeRefusals d f m k bytes) e .0)
 
-module _ (c : Client) (r : List ℕ) (k : ℕ) (bytes : List ℕ) where
-  pub old-info : (t : ReadNumber) (p : Pair) → unpackOf bytes ≡ Good (Info t p) → (t .0 ≡ c .reads .0 → ⊥)
-      → Unchanged c r (takeOf c r k bytes)
-  unfolding clientTakes takesInfo
-  old-info t p u other =
-      dropped-unchanged c r k bytes (Info t p) u
-      (by-test (isReading (c .phase)) (λ e. rw (e, ne-eqb (t .0) (c .reads .0) other)) (λ e. rw e))
+  dropped-unchanged : (x : Message) → unpackOf bytes ≡ Good x → isTaken (view m) k x ≡ false
+      → Unchanged m (takeOf d f m k bytes)
+  unfolding takeOf
+  dropped-unchanged x u e =
+      either (Unchanged m) m (lowest (takeRefusals d f m k bytes)) (takesIt d f m k (unpackOf bytes))
+      (refused-unchanged m)
+      (λ none. rw (u, not-taken (size f) f d (view m) k x e)
+      record { memory = store-view f m (sound-then none); sends = refl })
 
-  pub late-ack : (a : WriteCounter) → unpackOf bytes ≡ Good (WriteAck a) → isStoring (c .phase) a ≡ false
-      → Unchanged c r (takeOf c r k bytes)
-  unfolding clientTakes
-  late-ack a u late = dropped-unchanged c r k bytes (WriteAck a) u (rw late)
+  pub old-info : (t : ReadNumber) (p : Pair) → unpackOf bytes ≡ Good (Info t p) → (t .0 ≡ readsIn m .0 → ⊥)
+      → Unchanged m (takeOf d f m k bytes)
+  old-info t p u other = dropped-unchanged (Info t p) u (other-read (view m) k t p other)
 
-  idle-takes : (m : Message) → isIdle (c .phase) ≡ true
-      → clientTakes (size (c .f)) (c .f) (c .number) (view c r) k m ≡ goesOn (view c r)
-  unfolding clientTakes takesInfo
-  idle-takes (GetInfo t) h = refl
-  idle-takes (Info t p) h = rw (idle-reads-not (c .phase) h)
-  idle-takes Done h = refl
-  idle-takes (WriteInfo p) h = refl
-  idle-takes (Fwd p) h = rw (idle-reads-not (c .phase) h)
-  idle-takes (WriteAck a) h = rw (idle-waits-not (c .phase) a h)
+  pub late-ack : (a : WriteCounter) → unpackOf bytes ≡ Good (WriteAck a) → isStoring (phaseIn m) a ≡ false
+      → Unchanged m (takeOf d f m k bytes)
+  late-ack a u late = dropped-unchanged (WriteAck a) u (other-write (view m) k a late)
 
-  pub idle-drops : isIdle (c .phase) ≡ true → Unchanged c r (takeOf c r k bytes)
+  pub idle-drops : isIdle (phaseIn m) ≡ true → Unchanged m (takeOf d f m k bytes)
   unfolding takeOf
   idle-drops h =
-      by-unpacked (unpackOf bytes) (λ m u. dropped-unchanged c r k bytes m u (idle-takes m h))
-      (λ u. either (Unchanged c r) c r (lowest (takeRefusals c r k bytes)) (takesIt c r k (unpackOf bytes))
-      (refused-unchanged c r)
-      (λ none. rw u (refused-unchanged c r no.Malformed)))
+      by-unpacked (unpackOf bytes) (λ x u. dropped-unchanged x u (idle-takes-none (view m) k x h))
+      (λ u. either (Unchanged m) m (lowest (takeRefusals d f m k bytes)) (takesIt d f m k (unpackOf bytes))
+      (refused-unchanged m) (λ none. rw u (refused-unchanged m no.Malformed)))
 
 -- ---- every client at any time
 
-pub take-keeps-number : (c : Client) (r : List ℕ) (k : ℕ) (bytes : List ℕ)
-    → takeOf c r k bytes .client .reads ≡ c .reads
-take-keeps-number c r k bytes =
-    by-test (isIdle (c .phase)) (λ e. ap (λ (x : Client). x .reads) (idle-drops c r k bytes e .client))
-    (λ e. take-proceeds c r k bytes e .number)
+pub take-keeps-number : (d f : ℕ) (m : List ℕ) (k : ℕ) (bytes : List ℕ)
+    → readsIn (takeOf d f m k bytes .memory) ≡ readsIn m
+take-keeps-number d f m k bytes =
+    by-test (isIdle (phaseIn m)) (λ e. ap readsIn (idle-drops d f m k bytes e .memory))
+    (λ e. take-proceeds d f m k e bytes .number)

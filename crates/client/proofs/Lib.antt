@@ -1,8 +1,11 @@
 pub mod Facts
+pub mod Heads
+pub mod Memory
 pub mod Shown
 pub mod Outcomes
 pub mod Others
 pub mod Taking
+pub mod Dropping
 pub mod Starting
 pub mod Fitting
 pub mod Keeping

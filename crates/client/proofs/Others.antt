@@ -14,9 +14,12 @@ use Rattle.message.proofs.Message as M
 use Rattle.register.specs.declared.Phase.{Phase}
 use Rattle.register.specs.declared.Phase.the-variants.{Idle, Reading, ReadingForWrite, Storing}
 use Rattle.register.proofs.Phase as P
+use Rattle.register.specs.Client as model
 use Rattle.register.specs.Client.{isStoring}
 use Rattle.client.specs.declared.Client.{Client}
+use Rattle.client.specs.Memory.{counterIn}
 use Rattle.client.specs.Collecting.{isInfo, isAck, isCollected}
+use Rattle.client.specs.Taking.{isTaken}
 
 pub not-info : (m : Message) → OneOf (0 ∷ 2 ∷ 3 ∷ 4 ∷ 5 ∷ []) (tagOf M.the-type m) → isInfo m ≡ false
 unfolding isInfo
@@ -47,6 +50,18 @@ no-pair c r k (WriteInfo p) o i = refl
 no-pair c r k (Fwd p) o i = absurd (miss (0 ∷ 1 ∷ 2 ∷ 3 ∷ 5 ∷ []) 4 tt o)
 no-pair c r k (WriteAck a) o i = refl
 
+-- a message that is neither INFO nor FWD nor WRITE_ACK is not taken
+pub no-reply : (x : model.Client) (k : ℕ) (m : Message) → OneOf (0 ∷ 1 ∷ 2 ∷ 3 ∷ 5 ∷ []) (tagOf M.the-type m)
+    → OneOf (0 ∷ 1 ∷ 2 ∷ 3 ∷ 4 ∷ []) (tagOf M.the-type m) → OneOf (0 ∷ 2 ∷ 3 ∷ 4 ∷ 5 ∷ []) (tagOf M.the-type m)
+    → isTaken x k m ≡ false
+unfolding isTaken
+no-reply x k (GetInfo t) f a i = refl
+no-reply x k (Info t p) f a i = absurd (miss (0 ∷ 2 ∷ 3 ∷ 4 ∷ 5 ∷ []) 1 tt i)
+no-reply x k Done f a i = refl
+no-reply x k (WriteInfo p) f a i = refl
+no-reply x k (Fwd p) f a i = absurd (miss (0 ∷ 1 ∷ 2 ∷ 3 ∷ 5 ∷ []) 4 tt f)
+no-reply x k (WriteAck w) f a i = absurd (miss (0 ∷ 1 ∷ 2 ∷ 3 ∷ 4 ∷ []) 5 tt a)
+
 pub not-storing : (ph : Phase) (c : WriteCounter) → OneOf (0 ∷ 1 ∷ 2 ∷ []) (tagOf P.the-type ph)
     → isStoring ph c ≡ false
 unfolding isStoring
@@ -54,3 +69,10 @@ not-storing Idle c k = refl
 not-storing Reading c k = refl
 not-storing (ReadingForWrite e) c k = refl
 not-storing (Storing e w) c k = absurd (miss (0 ∷ 1 ∷ 2 ∷ []) 3 tt k)
+
+pub no-counter : (ph : Phase) → OneOf (0 ∷ 1 ∷ 2 ∷ []) (tagOf P.the-type ph) → counterIn ph ≡ 0
+unfolding counterIn
+no-counter Idle k = refl
+no-counter Reading k = refl
+no-counter (ReadingForWrite e) k = refl
+no-counter (Storing e w) k = absurd (miss (0 ∷ 1 ∷ 2 ∷ []) 3 tt k)

@@ -3,7 +3,7 @@
 -- Assumes nothing.
 use mathlib.Core.Path.{_≡_, refl, sym, ap, _∙_}
 use mathlib.Core.Bool.{true, false}
-use mathlib.Core.List.{List, []}
+use mathlib.Core.List.{List, [], _++_}
 use Prim.Native.Nat.{ℕ, _+_}
 use lib.Dec.{eqb}
 use lib.ListN.{replicate}
@@ -19,7 +19,7 @@ use Rattle.register.specs.declared.Phase.{Phase}
 use Rattle.register.specs.declared.Phase.the-variants.{Idle, Reading, ReadingForWrite, Storing}
 use Rattle.register.specs.Thresholds.{size}
 use Rattle.register.specs.Client as model
-use Rattle.register.specs.Client.{isReading, cleared, goesOn, notOld, valid, counts, chosen, concluded}
+use Rattle.register.specs.Client.{Taken, isReading, cleared, goesOn, notOld, valid, counts, chosen, concluded}
 use Rattle.replies.specs.Replies.{held, storeReplies}
 use Rattle.replies.specs.Loops.{heldIn}
 use Rattle.replies.proofs.Storing.{store-held, store-cleared}
@@ -29,7 +29,9 @@ use Rattle.client.specs.declared.Sends.the-variants.{Nothing, Done, Done
 use Rattle.client.specs.declared.Took.{Took}
 use Rattle.client.specs.State.{view, storeClient}
 use Rattle.client.specs.Sound.{stores, isSound}
-use Rattle.client.specs.Sends.{messagesOf, after, stored}
+use Rattle.client.specs.Memory.{headOf}
+use Rattle.client.specs.Sends.{After, messagesOf, after, stored}
+use Rattle.client.specs.Outcome as outcome
 use Rattle.client.proofs.Facts.{of-memory}
 
 -- a sound state is the state of what it shows
@@ -56,6 +58,18 @@ empties c ph s a =
       sends = messagesOf s;
       answer = a;
     }
+
+-- the client and its replies after a step, in a memory
+pub in-memory : (c : Client) (t : Took) (r m : List ℕ) (y : Taken) → after t r ≡ stored c y
+    → m ≡ headOf (t .client .phase) (t .client .reads) ++ r
+    → outcome.after (record { sends = t .sends; answer = t .answer }) m ≡ outcome.leaves y
+in-memory c t r m y e em =
+    ap (λ (l : List ℕ). outcome.after (record { sends = t .sends; answer = t .answer }) l) em
+    ∙ ap (λ (a : After). record {
+      memory = headOf (a .client .phase) (a .client .reads) ++ a .replies;
+      sends = a .sends;
+      answer = a .answer;
+    }) e
 
 -- ---- the choice
 

@@ -1,22 +1,27 @@
--- An idle client's memory is empty, so a start, which empties it, leaves it as it is.
+-- An idle client's replies are empty, so a start, which empties them, need only store the head.
 -- Assumes nothing.
-use mathlib.Core.Path.{_≡_, refl, ap, _∙_}
+use mathlib.Core.Path.{_≡_, refl, sym, ap, _∙_}
 use mathlib.Core.Bool.{true, false}
-use mathlib.Core.List.{List}
-use Prim.Native.Nat.{ℕ}
-use lib.ListN.{replicate}
+use mathlib.Core.List.{List, _++_}
+use Prim.Native.Nat.{ℕ, _+_}
+use lib.ListN.{drop, replicate}
 use Rattle.basics.proofs.Cases.{true-or-false}
+use Rattle.message.specs.declared.ReadNumber.{ReadNumber}
 use Rattle.message.specs.declared.WriteCounter.{WriteCounter}
+use Rattle.register.specs.declared.Answer.the-variants.{Went}
 use Rattle.register.specs.declared.Phase.{Phase}
 use Rattle.register.specs.declared.Phase.the-variants.{Idle, Reading, ReadingForWrite, Storing}
 use Rattle.register.specs.Thresholds.{size}
 use Rattle.register.specs.Client.{isIdle, isReading, isStoring, nextRead, started}
+use Rattle.replies.proofs.Soundness.{facts}
+use Rattle.replies.proofs.Storing.{store-cleared}
 use Rattle.replies.proofs.Unused.{unused-empty}
 use Rattle.client.specs.declared.Client.{Client}
-use Rattle.client.specs.declared.Took.{Took}
-use Rattle.client.specs.Sound.{stores, isSound}
-use Rattle.client.specs.Sends.{after, startedOf}
-use Rattle.client.proofs.Facts.{of-memory}
+use Rattle.client.specs.declared.Sends.the-variants.{GetInfo}
+use Rattle.client.specs.Memory.{phaseIn, loaded, headOf, view, store}
+use Rattle.client.specs.Sound.{stores, isSoundMemory}
+use Rattle.client.specs.Outcome.{After, after, startedOf}
+use Rattle.client.proofs.Memory.{memory-facts}
 
 pub idle-reads-not : (ph : Phase) → isIdle ph ≡ true → isReading ph ≡ false
 unfolding isIdle isReading
@@ -39,17 +44,37 @@ idle-waits-not Reading a h = refl
 idle-waits-not (ReadingForWrite e) a h = refl
 idle-waits-not (Storing e c) a h = absurd (true-or-false false h refl)
 
-pub idle-empty : (c : Client) (r : List ℕ) → isSound c r ≡ true → isIdle (c .phase) ≡ true → r ≡ replicate 91 0
-idle-empty c r h idle =
-    unused-empty (size (c .f)) r
-    (rw (idle-reads-not (c .phase) idle, idle-stores-not (c .phase) idle) at (of-memory c r h))
+pub idle-empty : (f : ℕ) (m : List ℕ) → isSoundMemory f m ≡ true → isIdle (phaseIn m) ≡ true
+    → drop 4 m ≡ replicate 91 0
+idle-empty f m h idle =
+    unused-empty (size f) (drop 4 m)
+    (facts (size f) false false (drop 4 m)
+    (rw (idle-reads-not (phaseIn m) idle, idle-stores-not (phaseIn m) idle) at (memory-facts f m h .replies)))
 
--- what a start comes to does not depend on the memory
-pub start-anywhere : (c : Client) (r s : List ℕ) (ph : Phase) → startedOf c r ph ≡ startedOf c s ph
-unfolding started nextRead
-start-anywhere c r s ph = refl
+-- what a start stores is the memory of the client that has started
+started-is : (f : ℕ) (m : List ℕ) (ph : Phase) → isSoundMemory f m ≡ true → isIdle (phaseIn m) ≡ true
+    → headOf ph (nextRead (view m)) ++ drop 4 m ≡ store (started (view m) ph)
+unfolding started
+started-is f m ph h idle =
+    ap (λ (r : List ℕ). headOf ph (nextRead (view m)) ++ r)
+    (idle-empty f m h idle ∙ sym (store-cleared ph (nextRead (view m))))
 
-pub starts : (c : Client) (r : List ℕ) (ph : Phase) (t : Took) → isSound c r ≡ true → isIdle (c .phase) ≡ true
-    → after t (replicate 91 0) ≡ startedOf c (replicate 91 0) ph → after t r ≡ startedOf c r ph
-starts c r ph t h idle e =
-    ap (λ (m : List ℕ). after t m) (idle-empty c r h idle) ∙ e ∙ start-anywhere c (replicate 91 0) r ph
+-- the read number after c's
+abbrev nextOf : Client → ReadNumber
+nextOf c = record { 0 = c .reads .0 + 1 }
+
+abbrev begun : List ℕ → ReadNumber → After
+begun m t = after (record { sends = GetInfo t; answer = Went }) m
+
+-- so that is what a start comes to
+pub starts : (c : Client) (ph : Phase) (m n : List ℕ) → c ≡ loaded (c .number) (c .f) m
+    → isSoundMemory (c .f) m ≡ true
+    → isIdle (c .phase) ≡ true
+    → n ≡ headOf ph (nextOf c) ++ drop 4 m
+    → begun n (nextOf c) ≡ startedOf m ph
+unfolding nextRead
+starts c ph m n e h idle en =
+    ap (λ (l : List ℕ). begun l (nextOf c)) en
+    ∙ ap (λ (x : Client). begun (headOf ph (nextOf x) ++ drop 4 m) (nextOf x)) e
+    ∙ ap (λ (l : List ℕ). begun l (nextRead (view m)))
+    (started-is (c .f) m ph h (ap (λ (x : Client). isIdle (x .phase)) (sym e) ∙ idle))

@@ -1,16 +1,15 @@
--- Whatever is asked of a sound client, and whatever bytes a server sends, the client ends in a sound state.
+-- Whatever is asked of a client in a sound memory, and whatever bytes a server sends, the memory is sound after it.
 --
--- A refusal changes nothing. Otherwise the next state is kept (`Keeping`), since what a ladder does not refuse is
--- in range.
+-- The setup is sound (`new-sound`). A refusal changes nothing. Otherwise the next client is kept (`Keeping`), since
+-- what a ladder does not refuse is in range.
 -- Assumes nothing.
-use mathlib.Core.Path.{_≡_, refl}
+use mathlib.Core.Path.{_≡_, refl, sym, ap, _∙_}
 use mathlib.Core.Bool.{true}
 use mathlib.Core.List.{List}
-use mathlib.Core.Option.{none}
-use Prim.Native.Nat.{ℕ}
+use Prim.Native.Nat.{ℕ, _≤_}
 use native.Mathlib.Omega.{arith}
-use lib.Dec.{eqb, leb}
-use lib.ListN.{length}
+use lib.Dec.{leb}
+use lib.ListN.{drop, replicate}
 use borrow.Author.Tests.{leb-true, leb-false, not-false}
 use Rattle.basics.proofs.Cases.{both}
 use Rattle.licence.specs.Entry.{isLicence}
@@ -20,70 +19,75 @@ use Rattle.message.proofs.RoundTrip.{pack-unpack}
 use Rattle.refusal.specs.Ladder.{lowest}
 use Rattle.register.specs.declared.Phase.the-variants.{Idle, Reading, ReadingForWrite}
 use Rattle.register.specs.Thresholds.{size}
-use Rattle.register.specs.Client.{newClient}
-use Rattle.replies.specs.Replies.{storeReplies}
-use Rattle.client.specs.declared.Client.{Client}
+use Rattle.register.specs.Client.{newClient, clientTakes, started}
 use Rattle.client.specs.State.{storeClient}
-use Rattle.client.specs.Sound.{isSoundPhase, isSound}
-use Rattle.client.specs.Sends.{After, startedOf}
-use Rattle.client.specs.Entry.{newRefusals, readRefusals, writeRefusals, takeRefusals, takesIt, readOf}
+use Rattle.client.specs.Memory.{readsIn, loaded, view}
+use Rattle.client.specs.Sound.{isSoundPhase, isSound, isSoundMemory}
+use Rattle.client.specs.Outcome.{After, startedOf}
+use Rattle.client.specs.Entry.{isClient, isServer, readRefusals, writeRefusals, takeRefusals, takesIt, readOf}
 use Rattle.client.specs.Entry.{writeOf, takeOf}
 use Rattle.client.proofs.Facts.{of-client, client-sound}
-use Rattle.client.proofs.Fitting.{Words}
-use Rattle.client.proofs.Keeping.{kept-cleared, kept-started, kept-taken}
-use Rattle.client.proofs.Ladders.{none-applies, either}
+use Rattle.client.proofs.Fitting.{Words, drop-words}
+use Rattle.client.proofs.Keeping.{kept-memory, kept-cleared, kept-started, kept-taken}
+use Rattle.refusal.proofs.Ladders.{none-applies}
+use Rattle.client.proofs.Ladders.{either}
 use Rattle.client.proofs.Laws.{by-unpacked}
+use Rattle.client.proofs.Memory.{sound-parts, store-new}
 
--- the state after a step is sound
-abbrev pub Steady : After → Type 0
-Steady a = isSound (a .client) (a .replies) ≡ true
+-- the memory after a step is sound
+abbrev pub Steady : ℕ → After → Type 0
+Steady f a = isSoundMemory f (a .memory) ≡ true
 
--- a new client
-pub new-sound : (d f : ℕ) (r : List ℕ) → lowest (newRefusals d f r) ≡ none
-    → isSound (storeClient d f newClient) (storeReplies newClient) ≡ true
+-- the setup
+pub new-sound : (f : ℕ) → f ≤ 4 → isSoundMemory f (replicate 95 0) ≡ true
 unfolding isSoundPhase
-new-sound d f r e =
-    let passed = none-applies (newRefusals d f r) e in
-    let few = both (leb f 4) (eqb (length r) 91) (not-false _ (passed .0)) .0 in
-    let there = both (leb 1 d) (leb d 6) (not-false _ (passed .1 .0)) in
-    let c = storeClient d f newClient in
-    kept-cleared c Idle (record { 0 = 0 })
+new-sound f few =
+    let c = storeClient 1 f newClient in
+    ap (isSoundMemory f) (sym store-new)
+    ∙ kept-memory c newClient
+    (kept-cleared c Idle (record { 0 = 0 })
     (client-sound c
-    (record {
-      low = leb-true 1 d (there .0);
-      high = leb-true d 6 (there .1);
-      few = leb-true f 4 few;
-      reads =
-          omega arith;
-      phase = refl;
-    }))
+    (record { low = omega arith; high = omega arith; few = few; reads = omega arith; phase = refl })))
     .sound
 
-module _ (c : Client) (r : List ℕ) (h : isSound c r ≡ true) where
-  pub read-sound : Steady (readOf c r)
+module _ (d f : ℕ) (m : List ℕ) (h : isSoundMemory f m ≡ true) where
+  -- of a client that there is
+  sound-client : isClient d ≡ true → isSound (loaded d f m) (drop 4 m) ≡ true
+  sound-client e =
+      let there = both (leb 1 d) (leb d 6) e in
+      sound-parts d f m (leb-true 1 d (there .0)) (leb-true d 6 (there .1)) h
+
+  pub read-sound : Steady f (readOf d f m)
   unfolding readOf isSoundPhase
   read-sound =
-      either Steady c r (lowest (readRefusals c r)) (startedOf c r Reading) (λ x. h)
-      (λ e. let room = leb-false 1048575 (c .reads .0) (none-applies (readRefusals c r) e .1 .1 .0) in
-      kept-started c r Reading (of-client c r h) room refl .sound)
+      either (Steady f) m (lowest (readRefusals d f m)) (startedOf m Reading) (λ x. h)
+      (λ e. let passed = none-applies (readRefusals d f m) e in
+      let room = leb-false 1048575 (readsIn m .0) (passed .1 .1 .1 .0) in
+      let s = sound-client (not-false (isClient d) (passed .1 .0)) in
+      kept-memory (loaded d f m) (started (view m) Reading)
+      (kept-started (loaded d f m) (drop 4 m) Reading (of-client (loaded d f m) (drop 4 m) s) room refl) .sound)
 
-  pub write-sound : (w : Entry) → Steady (writeOf c r w)
+  pub write-sound : (w : Entry) → Steady f (writeOf d f m w)
   unfolding writeOf isSoundPhase
   write-sound w =
-      either Steady c r (lowest (writeRefusals c r w)) (startedOf c r (ReadingForWrite w)) (λ x. h)
-      (λ e. let passed = none-applies (writeRefusals c r w) e in
-      let room = leb-false 1048575 (c .reads .0) (passed .1 .1 .1 .0) in
-      kept-started c r (ReadingForWrite w) (of-client c r h) room
-      (not-false (isLicence (w .0)) (passed .1 .1 .0)) .sound)
+      either (Steady f) m (lowest (writeRefusals d f m w)) (startedOf m (ReadingForWrite w)) (λ x. h)
+      (λ e. let passed = none-applies (writeRefusals d f m w) e in
+      let room = leb-false 1048575 (readsIn m .0) (passed .1 .1 .1 .1 .0) in
+      let s = sound-client (not-false (isClient d) (passed .1 .0)) in
+      kept-memory (loaded d f m) (started (view m) (ReadingForWrite w))
+      (kept-started (loaded d f m) (drop 4 m) (ReadingForWrite w) (of-client (loaded d f m) (drop 4 m) s) room
+      (not-false (isLicence (w .0)) (passed .1 .1 .1 .0))) .sound)
 
-  pub take-sound : (k : ℕ) (bytes : List ℕ) → Words r → Steady (takeOf c r k bytes)
+  pub take-sound : (k : ℕ) (bytes : List ℕ) → Words m → Steady f (takeOf d f m k bytes)
   unfolding takeOf
   take-sound k bytes words =
-      either Steady c r (lowest (takeRefusals c r k bytes)) (takesIt c r k (unpackOf bytes)) (λ x. h)
-      (λ e. let there = both (leb 1 k) (leb k (size (c .f)))
-      (not-false _ (none-applies (takeRefusals c r k bytes) e .1 .0)) in
+      either (Steady f) m (lowest (takeRefusals d f m k bytes)) (takesIt d f m k (unpackOf bytes)) (λ x. h)
+      (λ e. let there = both (isClient d) (isServer f k)
+      (not-false _ (none-applies (takeRefusals d f m k bytes) e .1 .0)) in
+      let server = both (leb 1 k) (leb k (size f)) (there .1) in
       by-unpacked (unpackOf bytes)
-      (λ m u. rw u
-      (kept-taken c r k h (leb-true 1 k (there .0)) (leb-true k (size (c .f)) (there .1)) words m
-      (pack-unpack bytes m u .within) .sound))
+      (λ x u. rw u
+      (kept-memory (loaded d f m) (clientTakes (size f) f d (view m) k x .client)
+      (kept-taken (loaded d f m) (drop 4 m) k (sound-client (there .0)) (leb-true 1 k (server .0))
+      (leb-true k (size f) (server .1)) (drop-words 4 m words) x (pack-unpack bytes x u .within)) .sound))
       (λ u. rw u h))

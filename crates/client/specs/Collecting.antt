@@ -55,7 +55,7 @@ module _ (c : Client) (r : List ℕ) (k : ℕ) where
   withReply (Fwd p) = withPair (view c r) k p
   withReply (WriteAck a) = view c r
 
-  -- the answer b, and the memory s after it
+  -- the answer b, and the replies s after it
   pub record Collected (m : Message) (b : Bool) (s : List ℕ) : Type 0 where
     pub told : b ≡ isCollected m
     pub shows : view c s ≡ cond (isCollected m) (withReply m) (view c r)

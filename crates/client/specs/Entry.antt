@@ -1,15 +1,15 @@
 -- The client end as its user calls it: the refusals of each entry point, lowest first, and what it comes to otherwise.
 --
--- Refused, a step leaves the client and its memory as they were and sends nothing.
+-- Refused, a step leaves the memory as it was and sends nothing.
 --
--- In order: refusal or not; a new client; a read and a write; bytes from a server.
+-- In order: refusal or not; who there is; a read and a write; bytes from a server. There is no entry point for the
+-- setup: it is a memory of zeros (proofs/Memory, `store-new`).
 -- Assumes nothing.
 use Prim.Native.Nat.{ℕ}
-use mathlib.Core.Bool.{not, _&&_}
+use mathlib.Core.Bool.{Bool, not, _&&_}
 use mathlib.Core.List.{List, [], _∷_}
 use mathlib.Core.Option.{Option, none, some}
-use lib.Dec.{eqb, leb}
-use lib.ListN.{length}
+use lib.Dec.{leb}
 use Rattle.licence.specs.Entry.{isLicence}
 use Rattle.message.specs.declared.Entry.{Entry}
 use Rattle.message.specs.declared.Unpacked.{Unpacked}
@@ -22,83 +22,66 @@ use Rattle.register.specs.declared.Answer.the-variants.{Refused}
 use Rattle.register.specs.declared.Phase.the-variants.{Reading, ReadingForWrite}
 use Rattle.register.specs.Settings.{mostClients}
 use Rattle.register.specs.Thresholds.{size}
-use Rattle.register.specs.Client.{newClient, isIdle, highest}
+use Rattle.register.specs.Client.{isIdle, highest}
 use Rattle.register.specs.Steps.{isReply}
-use Rattle.replies.specs.Replies.{words, storeReplies}
-use Rattle.client.specs.declared.Client.{Client}
-use Rattle.client.specs.declared.Made.{Made}
-use Rattle.client.specs.declared.Made.the-variants.{Ready}
-use Rattle.client.specs.State.{storeClient}
-use Rattle.client.specs.Sound.{isSound}
-use Rattle.client.specs.Sends.{After, startedOf, takenOf}
+use Rattle.client.specs.Memory.{phaseIn, readsIn}
+use Rattle.client.specs.Sound.{isSoundMemory}
+use Rattle.client.specs.Outcome.{After, startedOf, takenOf}
 
 -- ---- refusal or not
 
-abbrev pub refusedBy : Client → List ℕ → Refusal → After
-refusedBy c r x = record { client = c; replies = r; sends = []; answer = Refused x }
+abbrev pub refusedBy : List ℕ → Refusal → After
+refusedBy m x = record { memory = m; sends = []; answer = Refused x }
 
-abbrev pub decided : Client → List ℕ → Option Refusal → After → After
-decided c r none a = a
-decided c r (some x) a = refusedBy c r x
+abbrev pub decided : List ℕ → Option Refusal → After → After
+decided m none a = a
+decided m (some x) a = refusedBy m x
 
--- ---- a new client, with a number, for f faulty servers, in a memory of r's length
+-- ---- who there is: clients 1 to 6, and for f the servers 1 to 3f + 1
 
-abbrev pub newRefusals : ℕ → ℕ → List ℕ → List Rung
-newRefusals d f r =
-    no.Unsound when not (leb f 4 && eqb (length r) words)
-    ∷ no.NoSuchProcess when not (leb 1 d && leb d mostClients)
+abbrev pub isClient : ℕ → Bool
+isClient d = leb 1 d && leb d mostClients
+
+abbrev pub isServer : ℕ → ℕ → Bool
+isServer f k = leb 1 k && leb k (size f)
+
+-- ---- a read, and a write with its entry, of client d, where f servers may be faulty, in the memory m
+
+abbrev pub readRefusals : ℕ → ℕ → List ℕ → List Rung
+readRefusals d f m =
+    no.Unsound when not (isSoundMemory f m)
+    ∷ no.NoSuchProcess when not (isClient d)
+    ∷ no.Busy when not (isIdle (phaseIn m))
+    ∷ no.Exhausted when leb highest (readsIn m .0)
     ∷ []
 
-abbrev pub madeBy : Option Refusal → Client → Made
-madeBy none c = Ready c
-madeBy (some x) c = Made.Refused x
-
-abbrev pub clearedBy : Option Refusal → List ℕ → List ℕ
-clearedBy none r = storeReplies newClient
-clearedBy (some x) r = r
-
--- the client that is made, and what it leaves in memory
-abbrev pub newOf : ℕ → ℕ → List ℕ → Made
-newOf d f r = madeBy (lowest (newRefusals d f r)) (storeClient d f newClient)
-
-abbrev pub newLeaves : ℕ → ℕ → List ℕ → List ℕ
-newLeaves d f r = clearedBy (lowest (newRefusals d f r)) r
-
--- ---- a read, and a write with its entry
-
-abbrev pub readRefusals : Client → List ℕ → List Rung
-readRefusals c r =
-    no.Unsound when not (isSound c r)
-    ∷ no.Busy when not (isIdle (c .phase))
-    ∷ no.Exhausted when leb highest (c .reads .0)
-    ∷ []
-
-abbrev pub writeRefusals : Client → List ℕ → Entry → List Rung
-writeRefusals c r e =
-    no.Unsound when not (isSound c r)
-    ∷ no.Busy when not (isIdle (c .phase))
+abbrev pub writeRefusals : ℕ → ℕ → List ℕ → Entry → List Rung
+writeRefusals d f m e =
+    no.Unsound when not (isSoundMemory f m)
+    ∷ no.NoSuchProcess when not (isClient d)
+    ∷ no.Busy when not (isIdle (phaseIn m))
     ∷ no.NoEntry when not (isLicence (e .0))
-    ∷ no.Exhausted when leb highest (c .reads .0)
+    ∷ no.Exhausted when leb highest (readsIn m .0)
     ∷ []
 
-unfoldable pub readOf : Client → List ℕ → After
-readOf c r = decided c r (lowest (readRefusals c r)) (startedOf c r Reading)
+unfoldable pub readOf : ℕ → ℕ → List ℕ → After
+readOf d f m = decided m (lowest (readRefusals d f m)) (startedOf m Reading)
 
-unfoldable pub writeOf : Client → List ℕ → Entry → After
-writeOf c r e = decided c r (lowest (writeRefusals c r e)) (startedOf c r (ReadingForWrite e))
+unfoldable pub writeOf : ℕ → ℕ → List ℕ → Entry → After
+writeOf d f m e = decided m (lowest (writeRefusals d f m e)) (startedOf m (ReadingForWrite e))
 
 -- ---- bytes from server k
 
-abbrev pub takeRefusals : Client → List ℕ → ℕ → List ℕ → List Rung
-takeRefusals c r k bytes =
-    no.Unsound when not (isSound c r)
-    ∷ no.NoSuchProcess when not (leb 1 k && leb k (size (c .f)))
+abbrev pub takeRefusals : ℕ → ℕ → List ℕ → ℕ → List ℕ → List Rung
+takeRefusals d f m k bytes =
+    no.Unsound when not (isSoundMemory f m)
+    ∷ no.NoSuchProcess when not (isClient d && isServer f k)
     ∷ no.Malformed when not (isReply (unpackOf bytes))
     ∷ []
 
-abbrev pub takesIt : Client → List ℕ → ℕ → Unpacked → After
-takesIt c r k (Good m) = takenOf c r k m
-takesIt c r k Bad = refusedBy c r no.Malformed
+abbrev pub takesIt : ℕ → ℕ → List ℕ → ℕ → Unpacked → After
+takesIt d f m k (Good x) = takenOf d f m k x
+takesIt d f m k Bad = refusedBy m no.Malformed
 
-unfoldable pub takeOf : Client → List ℕ → ℕ → List ℕ → After
-takeOf c r k bytes = decided c r (lowest (takeRefusals c r k bytes)) (takesIt c r k (unpackOf bytes))
+unfoldable pub takeOf : ℕ → ℕ → List ℕ → ℕ → List ℕ → After
+takeOf d f m k bytes = decided m (lowest (takeRefusals d f m k bytes)) (takesIt d f m k (unpackOf bytes))

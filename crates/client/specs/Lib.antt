@@ -1,5 +1,8 @@
 pub mod State
+pub mod Memory
 pub mod Sound
 pub mod Sends
+pub mod Taking
+pub mod Outcome
 pub mod Entry
 pub mod Collecting

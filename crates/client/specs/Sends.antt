@@ -1,7 +1,8 @@
--- What one step of a client comes to: the next state, what it puts on the channels to all servers, its answer.
+-- What one step of a client comes to, while the client goes by value beside its replies: the next state, what it puts on
+-- the channels to all servers, its answer. In its memory that is `Outcome`.
 --
--- In order: the messages that a step puts; a step's outcome, of the code and of the model; a start; the choice and
--- what it leads to; one message taken.
+-- In order: the messages that a step puts; a step's outcome, of the code and of the model; the choice and what it
+-- leads to; one message taken.
 -- Assumes nothing.
 use Prim.Native.Nat.{ℕ}
 use mathlib.Core.List.{List, [], _∷_}
@@ -10,11 +11,10 @@ use Rattle.message.specs.declared.Message.{Message}
 use Rattle.message.specs.declared.Message.the-variants as message
 use Rattle.message.specs.declared.Pair.{Pair}
 use Rattle.register.specs.declared.Answer.{Answer}
-use Rattle.register.specs.declared.Answer.the-variants.{Went}
 use Rattle.register.specs.declared.Phase.{Phase}
 use Rattle.register.specs.declared.Phase.the-variants.{Idle}
 use Rattle.register.specs.Thresholds.{size}
-use Rattle.register.specs.Client.{Taken, cleared, nextRead, started, chosen, concluded, looked, clientTakes}
+use Rattle.register.specs.Client.{Taken, cleared, chosen, concluded, looked, clientTakes}
 use Rattle.replies.specs.Replies.{storeReplies}
 use Rattle.client.specs.declared.Client.{Client}
 use Rattle.client.specs.declared.Sends.{Sends}
@@ -55,13 +55,7 @@ stored c t =
       answer = t .answer;
     }
 
--- a start in a phase: GET_INFO with the next read number goes on every channel
-abbrev pub startedOf : Client → List ℕ → Phase → After
-startedOf c r ph =
-    stored c
-    (record { client = started (view c r) ph; sends = message.GetInfo (nextRead (view c r)) ∷ []; answer = Went })
-
--- what a chosen pair leads to in a phase, from an empty memory
+-- what a chosen pair leads to in a phase, from empty replies
 abbrev pub concludedOf : Client → Phase → Pair → After
 concludedOf c ph p = stored c (concluded (size (c .f)) (c .f) (c .number) (view c (replicate 91 0)) ph p)
 

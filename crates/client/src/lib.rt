@@ -1,17 +1,22 @@
-// The client end (01: desk): how it starts, and what it does with one message of a server. The client goes in by
-// value and comes back; what the servers replied stands in memory that it is lent. The inner functions ask for a
-// sound client; the entry points, at the end, ask for nothing and refuse.
+// The client end (01: desk): how it starts, and what it does with one message of a server. All of it stands in
+// memory that it is lent (specs/Memory). Inside a step the client is loaded, goes by value, and its head is stored
+// again. The inner functions ask for a sound client; the entry points, at the end, ask for nothing and refuse.
+// The memory has neither the client's number nor f: a caller gives the same ones at each call.
 ghost use mathlib.Core.Path.{_≡_};
 ghost use mathlib.Core.Bool.{true, false};
 ghost use Prim.Native.Nat.{_+_, _<_, _≤_};
-ghost use lib.ListN.{replicate};
+ghost use lib.ListN.{length, replicate};
 ghost use Rattle.register.specs.Thresholds.{size};
-ghost use Rattle.register.specs.Client.{newClient, isIdle, isReading, highest, cleared};
+ghost use Rattle.register.specs.Client.{isIdle, isReading, isStoring, highest, cleared, entryOf};
 ghost use Rattle.register.specs.Steps.{isReply};
 ghost use Rattle.client.specs.State.{storeClient};
-ghost use Rattle.client.specs.Sound.{isSoundPhase, stores, isSoundClient, isSound};
-ghost use Rattle.client.specs.Sends.{messagesOf, after, endsWith, startedOf, concludedOf, lookedOf, takenOf};
-ghost use Rattle.client.specs.Entry.{newOf, newLeaves, readOf, writeOf, takeOf};
+ghost use Rattle.client.specs.Memory.{phaseOf, codeOf, counterIn, loaded, stored, view};
+ghost use Rattle.client.specs.Sound.{stores, isSoundClient, isSound};
+ghost use Rattle.client.specs.Sound.{isSoundEntry, isSoundCounter, areSoundReplies, isSoundMemory};
+ghost use Rattle.client.specs.Sends.{messagesOf, after, endsWith, concludedOf, lookedOf, takenOf};
+ghost use Rattle.client.specs.Taking.{isTaken};
+ghost use Rattle.client.specs.Outcome as outcome;
+ghost use Rattle.client.specs.Entry.{isClient, isServer, readOf, writeOf, takeOf};
 ghost use Rattle.client.specs.Collecting.{isInfo, isAck, Collected};
 use message::Entry;
 use message::Message;
@@ -28,15 +33,35 @@ use replies::Choice;
 const HIGHEST: u32 = 1048575;
 
 // Read numbers and counters have 20 bits.
-const NUMBERS: u32 = 1048576;
+const NUMBERS: u64 = 1048576;
 
-const WORDS: usize = 91;
+// The numbers of a client's memory.
+pub const WORDS: usize = 95;
+
+// Where a memory has the read number, the phase, the entry, the counter and the replies.
+pub const READS: usize = 0;
+
+pub const PHASE: usize = 1;
+
+const ENTRY: usize = 2;
+
+const COUNTER: usize = 3;
+
+const REPLIES: usize = 4;
+
+// The first phase that has an entry, and the one that has a counter.
+const WRITES: u64 = 2;
+
+const STORES: u64 = 3;
+
+// A number of 32 bits is below this.
+const OVER_32: u64 = 4294967296;
 
 const MOST_CLIENTS: u8 = 6;
 
 const MOST_FAULTY: u8 = 4;
 
-// A client by its number, for f faulty servers. What the servers replied is not here: it stands in lent memory.
+// A client by its number, for f faulty servers, as a step loads it. What the servers replied stays in memory.
 pub struct Client {
     pub phase: Phase,
     pub reads: ReadNumber,
@@ -55,6 +80,12 @@ pub enum Sends {
 // The client after a step, what it sends, and what it answers.
 pub struct Took {
     pub client: Client,
+    pub sends: Sends,
+    pub answer: Answer,
+}
+
+// What a step sends and answers; the client after it stands in its memory.
+pub struct Outcome {
     pub sends: Sends,
     pub answer: Answer,
 }
@@ -148,7 +179,7 @@ fn store_next(c: Client, e: Entry, p: Pair) -> Took
     }
 }
 
-// What a chosen pair leads to, once the memory is emptied.
+// What a chosen pair leads to, once the replies are emptied.
 fn conclude(c: Client, p: Pair) -> Took
     requires { ⌜ isSoundClient c ≡ true ⌝ }
     ensures { λ t. ⌜ after t (replicate 91 0) ≡ concludedOf c (c .phase) p ⌝ }
@@ -266,7 +297,7 @@ fn taken_pair(c: Client, k: u8, m: Message, r: &mut [u64]) -> Took
 }
 
 // What a client does with one message of server k.
-pub fn taken(c: Client, k: u8, m: Message, r: &mut [u64]) -> Took
+fn taken(c: Client, k: u8, m: Message, r: &mut [u64]) -> Took
     requires { ⌜ (isSound c (now r) ≡ true) × (1 ≤ k) × (k ≤ size (c .f)) ⌝ }
     ensures { λ z. ⌜ after z (now (r .exit)) ≡ takenOf c (now (r .entry)) k m ⌝ }
 {
@@ -276,8 +307,8 @@ pub fn taken(c: Client, k: u8, m: Message, r: &mut [u64]) -> Took
     acknowledged(c, k, a, r)
 }
 
-// What the message would have the client send. The lent memory is not touched: the message is collected in a copy.
-pub fn would_send(c: Client, k: u8, m: Message, r: &[u64]) -> Sends
+// What the message would have the client send. The replies are not touched: the message is collected in a copy.
+fn foreseen(c: Client, k: u8, m: Message, r: &[u64]) -> Sends
     requires { ⌜ (isSound c (now r) ≡ true) × (1 ≤ k) × (k ≤ size (c .f)) ⌝ }
     ensures { λ s. ⌜ messagesOf s ≡ takenOf c (now (r .entry)) k m .sends ⌝ }
 {
@@ -292,24 +323,145 @@ pub fn would_send(c: Client, k: u8, m: Message, r: &[u64]) -> Sends
     z.sends
 }
 
-// ---- a start
+// ---- a client in its memory
 
-// A client of a number, for f faulty servers, before its first read.
-pub fn fresh(number: u8, f: u8) -> Client
-    ensures { λ c. ⌜ c ≡ storeClient number f newClient ⌝ }
+fn phase_of(code: u64, e: Entry, w: WriteCounter) -> Phase
+    ensures { λ ph. ⌜ ph ≡ phaseOf code (e .0) (w .0) ⌝ }
 {
+    if code == 0 {
+        return Phase::Idle;
+    }
+    if code == 1 {
+        return Phase::Reading;
+    }
+    if code == 2 {
+        return Phase::ReadingForWrite(e);
+    }
+    Phase::Storing(e, w)
+}
+
+// The client of a step, from its memory.
+pub fn load(m: &[u64], number: u8, f: u8) -> Client
+    requires { ⌜ length (now m) ≡ 95 ⌝ }
+    ensures { λ c. ⌜ c ≡ loaded number f (now (m .entry)) ⌝ }
+{
+    let w = WriteCounter((m[COUNTER] % OVER_32) as u32);
+    let ph = phase_of(m[PHASE], Entry(m[ENTRY]), w);
+    let t = ReadNumber((m[READS] % OVER_32) as u32);
     Client {
         number,
         f,
-        phase: Phase::Idle,
-        reads: ReadNumber(0),
+        phase: ph,
+        reads: t,
     }
 }
 
-// An idle client, whose memory is empty, starts in a phase.
-fn start(c: Client, ph: Phase) -> Took
-    requires { ⌜ c .reads .0 < highest ⌝ }
-    ensures { λ t. ⌜ after t (replicate 91 0) ≡ startedOf c (replicate 91 0) ph ⌝ }
+fn code_of(ph: Phase) -> u64
+    ensures { λ n. ⌜ n ≡ codeOf ph ⌝ }
+{
+    match ph {
+        Phase::Idle => 0,
+        Phase::Reading => 1,
+        Phase::ReadingForWrite(_) => 2,
+        Phase::Storing(_, _) => 3,
+    }
+}
+
+fn entry_of(ph: Phase) -> u64
+    ensures { λ n. ⌜ n ≡ entryOf ph .0 ⌝ }
+{
+    match ph {
+        Phase::Idle => 0,
+        Phase::Reading => 0,
+        Phase::ReadingForWrite(e) => e.0,
+        Phase::Storing(e, _) => e.0,
+    }
+}
+
+fn counter_in(ph: Phase) -> u64
+    ensures { λ n. ⌜ n ≡ counterIn ph ⌝ }
+{
+    let Phase::Storing(_, w) = ph else {
+        return 0;
+    };
+    w.0 as u64
+}
+
+// The head of a memory, from the client of a step. The replies stay.
+pub fn store(m: &mut [u64], c: Client)
+    requires { ⌜ length (now m) ≡ 95 ⌝ }
+    ensures { λ u. ⌜ now (m .exit) ≡ stored (now (m .entry)) c ⌝ }
+{
+    let ph = c.phase;
+    m[READS] = c.reads.0 as u64;
+    m[PHASE] = code_of(ph);
+    m[ENTRY] = entry_of(ph);
+    m[COUNTER] = counter_in(ph);
+}
+
+fn is_storing_with(ph: Phase, a: WriteCounter) -> bool
+    ensures { λ b. ⌜ b ≡ isStoring ph a ⌝ }
+{
+    let Phase::Storing(_, w) = ph else {
+        return false;
+    };
+    w.0 == a.0
+}
+
+// Whether a client takes a message of server k. One that it does not take changes nothing.
+pub fn is_taken(c: Client, k: u8, x: Message, m: &[u64]) -> bool
+    requires { ⌜ (length (now m) ≡ 95) × (1 ≤ k) × (k ≤ 13) × (c ≡ loaded (c .number) (c .f) (now m)) ⌝ }
+    ensures { λ b. ⌜ b ≡ isTaken (view (now (m .entry))) k x ⌝ }
+{
+    let ph = c.phase;
+    if let Message::Fwd(_) = x {
+        return is_reading(ph);
+    }
+    if let Message::WriteAck(a) = x {
+        return is_storing_with(ph, a);
+    }
+    let Message::Info(tag, _) = x else {
+        return false;
+    };
+    if !is_reading(ph) {
+        return false;
+    }
+    if tag.0 != c.reads.0 {
+        return false;
+    }
+    !replies::is_noted(&m[REPLIES..], (k - 1) as usize)
+}
+
+// What a client does with one message of server k: the step on the client and its replies, in its memory.
+pub fn take_message(c: Client, k: u8, x: Message, m: &mut [u64]) -> Outcome
+    requires { ⌜ (c ≡ loaded (c .number) (c .f) (now m)) × (isSoundMemory (c .f) (now m) ≡ true)
+        × (1 ≤ c .number) × (c .number ≤ 6) × (1 ≤ k) × (k ≤ size (c .f)) ⌝ }
+    ensures { λ o. ⌜ outcome.after o (now (m .exit)) ≡ outcome.takenOf (c .number) (c .f) (now (m .entry)) k x ⌝ }
+{
+    let t = taken(c, k, x, &mut m[REPLIES..]);
+    let next = t.client;
+    let sends = t.sends;
+    let answer = t.answer;
+    store(m, next);
+    Outcome { sends, answer }
+}
+
+// What the message would have the client send. The memory is not touched.
+pub fn would_send(c: Client, k: u8, x: Message, m: &[u64]) -> Sends
+    requires { ⌜ (c ≡ loaded (c .number) (c .f) (now m)) × (isSoundMemory (c .f) (now m) ≡ true)
+        × (1 ≤ c .number) × (c .number ≤ 6) × (1 ≤ k) × (k ≤ size (c .f)) ⌝ }
+    ensures { λ s. ⌜ messagesOf s ≡ outcome.takenOf (c .number) (c .f) (now (m .entry)) k x .sends ⌝ }
+{
+    foreseen(c, k, x, &m[REPLIES..])
+}
+
+// ---- a start
+
+// An idle client starts in a phase. What the servers replied to it is empty, so only the head is stored.
+fn start(c: Client, ph: Phase, m: &mut [u64]) -> Outcome
+    requires { ⌜ (c ≡ loaded (c .number) (c .f) (now m)) × (isSoundMemory (c .f) (now m) ≡ true)
+        × (isIdle (c .phase) ≡ true) × (c .reads .0 < highest) ⌝ }
+    ensures { λ o. ⌜ outcome.after o (now (m .exit)) ≡ outcome.startedOf (now (m .entry)) ph ⌝ }
 {
     let next = ReadNumber(c.reads.0 + 1);
     let x = Client {
@@ -318,8 +470,8 @@ fn start(c: Client, ph: Phase) -> Took
         phase: ph,
         reads: next,
     };
-    Took {
-        client: x,
+    store(m, x);
+    Outcome {
         sends: Sends::GetInfo(next),
         answer: Answer::Went,
     }
@@ -327,125 +479,132 @@ fn start(c: Client, ph: Phase) -> Took
 
 // ---- soundness
 
-fn is_sound_phase(ph: Phase) -> bool
-    ensures { λ b. ⌜ b ≡ isSoundPhase ph ⌝ }
+fn is_sound_entry(code: u64, e: u64) -> bool
+    ensures { λ b. ⌜ b ≡ isSoundEntry code e ⌝ }
 {
-    match ph {
-        Phase::Idle => true,
-        Phase::Reading => true,
-        Phase::ReadingForWrite(e) => licence::is_licence(e.0),
-        Phase::Storing(e, w) => {
-            if !licence::is_licence(e.0) {
-                return false;
-            }
-            w.0 < NUMBERS
-        }
+    if code < WRITES {
+        return e == 0;
     }
+    licence::is_licence(e)
 }
 
-fn is_sound_client(c: Client) -> bool
-    ensures { λ b. ⌜ b ≡ isSoundClient c ⌝ }
+fn is_sound_counter(code: u64, w: u64) -> bool
+    ensures { λ b. ⌜ b ≡ isSoundCounter code w ⌝ }
 {
-    if c.number < 1 {
-        return false;
+    if code == STORES {
+        return w < NUMBERS;
     }
-    if MOST_CLIENTS < c.number {
-        return false;
-    }
-    if MOST_FAULTY < c.f {
-        return false;
-    }
-    if NUMBERS <= c.reads.0 {
-        return false;
-    }
-    let ph = c.phase;
-    is_sound_phase(ph)
+    w < 1
 }
 
-pub fn is_sound(c: Client, r: &[u64]) -> bool
-    ensures { λ b. ⌜ b ≡ isSound c (now (r .entry)) ⌝ }
+fn are_replies_sound(f: u8, m: &[u64]) -> bool
+    requires { ⌜ length (now m) ≡ 95 ⌝ }
+    ensures { λ b. ⌜ b ≡ areSoundReplies f (now (m .entry)) ⌝ }
 {
-    if !is_sound_client(c) {
+    let c = load(m, 1, f);
+    let ph = c.phase;
+    let n = register::servers(f) as usize;
+    replies::are_sound(&m[REPLIES..], n, is_reading(ph), is_storing(ph))
+}
+
+// Whether a memory is sound, where f servers may be faulty.
+pub fn is_sound(f: u8, m: &[u64]) -> bool
+    ensures { λ b. ⌜ b ≡ isSoundMemory f (now (m .entry)) ⌝ }
+{
+    if MOST_FAULTY < f {
         return false;
     }
-    let ph = c.phase;
-    let n = register::servers(c.f) as usize;
-    replies::are_sound(r, n, is_reading(ph), is_storing(ph))
+    if m.len() != WORDS {
+        return false;
+    }
+    if NUMBERS <= m[READS] {
+        return false;
+    }
+    let code = m[PHASE];
+    if STORES < code {
+        return false;
+    }
+    if !is_sound_entry(code, m[ENTRY]) {
+        return false;
+    }
+    if !is_sound_counter(code, m[COUNTER]) {
+        return false;
+    }
+    are_replies_sound(f, m)
 }
 
 // ---- entry points
 
-// A new client, or why there is none.
-pub enum Made {
-    Ready(Client),
-    Refused(Refusal),
-}
-
-fn refuse(c: Client, x: Refusal) -> Took
-    ensures { λ t. ⌜ t ≡ record { client = c; sends = Sends.Nothing; answer = Answer.Refused x } ⌝ }
+fn refuse(x: Refusal) -> Outcome
+    ensures { λ o. ⌜ o ≡ record { sends = Sends.Nothing; answer = Answer.Refused x } ⌝ }
 {
-    Took {
-        client: c,
+    Outcome {
         sends: Sends::Nothing,
         answer: Answer::Refused(x),
     }
 }
 
-// A new client, in lent memory that is emptied for it.
-pub fn new_client(number: u8, f: u8, r: &mut [u64]) -> Made
-    ensures { λ m. ⌜ (m ≡ newOf number f (now (r .entry))) × (now (r .exit) ≡ newLeaves number f (now (r .entry))) ⌝ }
+fn is_client(number: u8) -> bool
+    ensures { λ b. ⌜ b ≡ isClient number ⌝ }
 {
-    if MOST_FAULTY < f {
-        return Made::Refused(Refusal::Unsound);
-    }
-    if r.len() != WORDS {
-        return Made::Refused(Refusal::Unsound);
-    }
     if number < 1 {
-        return Made::Refused(Refusal::NoSuchProcess);
+        return false;
     }
-    if MOST_CLIENTS < number {
-        return Made::Refused(Refusal::NoSuchProcess);
-    }
-    replies::clear(r);
-    Made::Ready(fresh(number, f))
+    number <= MOST_CLIENTS
 }
 
-// Starts a read.
-pub fn read(c: Client, r: &[u64]) -> Took
-    ensures { λ t. ⌜ after t (now (r .entry)) ≡ readOf c (now (r .entry)) ⌝ }
+fn is_server(k: u8, f: u8) -> bool
+    ensures { λ b. ⌜ b ≡ isServer f k ⌝ }
 {
-    if !is_sound(c, r) {
-        return refuse(c, Refusal::Unsound);
+    if k < 1 {
+        return false;
     }
+    k as u32 <= register::servers(f)
+}
+
+// Client `number` starts a read.
+pub fn read(number: u8, f: u8, m: &mut [u64]) -> Outcome
+    ensures { λ o. ⌜ outcome.after o (now (m .exit)) ≡ readOf number f (now (m .entry)) ⌝ }
+{
+    if !is_sound(f, m) {
+        return refuse(Refusal::Unsound);
+    }
+    if !is_client(number) {
+        return refuse(Refusal::NoSuchProcess);
+    }
+    let c = load(m, number, f);
     let ph = c.phase;
     if !is_idle(ph) {
-        return refuse(c, Refusal::Busy);
+        return refuse(Refusal::Busy);
     }
     if HIGHEST <= c.reads.0 {
-        return refuse(c, Refusal::Exhausted);
+        return refuse(Refusal::Exhausted);
     }
-    start(c, Phase::Reading)
+    start(c, Phase::Reading, m)
 }
 
-// Starts a write of an entry.
-pub fn write(c: Client, e: Entry, r: &[u64]) -> Took
-    ensures { λ t. ⌜ after t (now (r .entry)) ≡ writeOf c (now (r .entry)) e ⌝ }
+// Client `number` starts a write of an entry.
+pub fn write(number: u8, f: u8, e: Entry, m: &mut [u64]) -> Outcome
+    ensures { λ o. ⌜ outcome.after o (now (m .exit)) ≡ writeOf number f (now (m .entry)) e ⌝ }
 {
-    if !is_sound(c, r) {
-        return refuse(c, Refusal::Unsound);
+    if !is_sound(f, m) {
+        return refuse(Refusal::Unsound);
     }
+    if !is_client(number) {
+        return refuse(Refusal::NoSuchProcess);
+    }
+    let c = load(m, number, f);
     let ph = c.phase;
     if !is_idle(ph) {
-        return refuse(c, Refusal::Busy);
+        return refuse(Refusal::Busy);
     }
     if !licence::is_licence(e.0) {
-        return refuse(c, Refusal::NoEntry);
+        return refuse(Refusal::NoEntry);
     }
     if HIGHEST <= c.reads.0 {
-        return refuse(c, Refusal::Exhausted);
+        return refuse(Refusal::Exhausted);
     }
-    start(c, Phase::ReadingForWrite(e))
+    start(c, Phase::ReadingForWrite(e), m)
 }
 
 // Whether a message is of a kind that a server sends.
@@ -462,24 +621,25 @@ pub fn is_reply(m: Message) -> bool
     }
 }
 
-// Takes bytes from server k.
-pub fn take(c: Client, k: u8, bytes: &[u8], r: &mut [u64]) -> Took
-    ensures { λ t. ⌜ after t (now (r .exit)) ≡ takeOf c (now (r .entry)) k (now (bytes .entry)) ⌝ }
+// Client `number` takes bytes from server k.
+pub fn take(number: u8, f: u8, k: u8, bytes: &[u8], m: &mut [u64]) -> Outcome
+    ensures { λ o. ⌜ outcome.after o (now (m .exit)) ≡ takeOf number f (now (m .entry)) k (now (bytes .entry)) ⌝ }
 {
-    if !is_sound(c, r) {
-        return refuse(c, Refusal::Unsound);
+    if !is_sound(f, m) {
+        return refuse(Refusal::Unsound);
     }
-    if k < 1 {
-        return refuse(c, Refusal::NoSuchProcess);
+    if !is_client(number) {
+        return refuse(Refusal::NoSuchProcess);
     }
-    if register::servers(c.f) < k as u32 {
-        return refuse(c, Refusal::NoSuchProcess);
+    if !is_server(k, f) {
+        return refuse(Refusal::NoSuchProcess);
     }
-    let Unpacked::Good(m) = message::unpack(bytes) else {
-        return refuse(c, Refusal::Malformed);
+    let Unpacked::Good(x) = message::unpack(bytes) else {
+        return refuse(Refusal::Malformed);
     };
-    if !is_reply(m) {
-        return refuse(c, Refusal::Malformed);
+    if !is_reply(x) {
+        return refuse(Refusal::Malformed);
     }
-    taken(c, k, m, r)
+    let c = load(m, number, f);
+    take_message(c, k, x, m)
 }

@@ -7,7 +7,6 @@ ghost use Rattle.state.specs.Sound.{areAllowed};
 ghost use Rattle.system.specs.Setup.{setupOf};
 ghost use Rattle.exports.specs.Runs.{setupNumber, answersBy, answersOf};
 use basics::least;
-use register::Answer;
 use state::Settings;
 use system::run::run;
 use system::run::step_in;
@@ -15,7 +14,6 @@ use system::run::write_answer;
 use system::setup::Setup;
 use system::setup::set_up;
 use system::setup::settings_of;
-use system::step::Stepped;
 use system::step::step;
 
 // The numbers of a step, and of an answer.
@@ -38,22 +36,14 @@ fn step_through(t: Settings, steps: &[u64], n: usize, out: &mut [u64])
     requires { ⌜ (areAllowed t ≡ true) × (n * 5 ≤ length (now steps)) × (n * 2 ≤ length (now out)) ⌝ }
     ensures { λ z. ⌜ now (out .exit) ≡ answersBy t (now (steps .entry)) n (now (out .entry)) ⌝ }
 {
+    let mut s = [0u64; 26];
+    let mut c = [0u64; 571];
     let mut b = channel::empty_slots();
-    let mut r = [0u64; 546];
-    let first = set_up(t, &mut b, &mut r);
-    // What the step before gave, of which only the state is read; before the first step it is the state at setup.
-    let mut last = Stepped {
-        answer: Answer::Went,
-        system: first,
-    };
+    set_up(&mut s, &mut c, &mut b);
     let mut i = 0;
     while i < n {
-        let x = step_in(steps, i);
-        let s = last.system;
-        let z = step(s, x, &mut b, &mut r);
-        let a = z.answer;
+        let a = step(t, step_in(steps, i), &mut s, &mut c, &mut b);
         write_answer(out, i, a);
-        last = z;
         i += 1;
     }
 }
@@ -70,11 +60,10 @@ pub extern "C" fn exports_run(
     ensures answer { λ z. ⌜ z ≡ setupNumber (setupOf f clients faulty) ⌝ }
     ensures answers { λ z. ⌜ now (out .exit) ≡ answersOf (setupOf f clients faulty) (now (steps .entry)) (now (out .entry)) ⌝ }
 {
+    let mut s = [0u64; 26];
+    let mut c = [0u64; 571];
     let mut b = channel::empty_slots();
-    let mut r = [0u64; 546];
-    let z = run(f, clients, faulty, steps, out, &mut b, &mut r);
-    let setup = z.setup;
-    setup_number(setup)
+    setup_number(run(f, clients, faulty, steps, out, &mut s, &mut c, &mut b))
 }
 
 // The same run, each step through the public `step`.

@@ -12,6 +12,7 @@ use Prim.Native.Nat.{ℕ, _<_}
 use lib.ListN.{length}
 use borrow.Author.Tests.{leb-false, not-false}
 use Rattle.basics.proofs.Cases.{by-option, both}
+use Rattle.refusal.proofs.Ladders.{none-applies}
 use Rattle.message.specs.declared.Message.{Message}
 use Rattle.message.specs.declared.Unpacked.{Unpacked}
 use Rattle.message.specs.declared.Unpacked.the-variants.{Good, Bad}
@@ -24,7 +25,6 @@ use Rattle.register.specs.Steps.{Step, R, W, K, D, C, L, Formats, oldest
 use Rattle.register.specs.Steps.{roomDown}
 use Rattle.register.specs.Steps.{ladder, refusalOf, servesOldest, takesOldest, liesWith, accepted}
 use Rattle.register.specs.Steps.{eventOf}
-use Rattle.register.proofs.Ladders.{climbed}
 use Rattle.register.proofs.Bounds.{honest-of}
 
 -- the slots that a start keeps free on every channel to an honest server: a read's DONE, a write's WRITE_INFO too
@@ -100,7 +100,7 @@ module _ (S : Settings) (F : Formats) (w : World) where
   accepted-enabled : (s : Step) → refusalOf S F w s ≡ none → Enabled (accepted S F w s)
   unfolding refusalOf ladder accepted
   accepted-enabled (R d) h =
-      let no = climbed (ladder S F w (R d)) h in
+      let no = none-applies (ladder S F w (R d)) h in
       record {
         client = not-false _ (no .0);
         works = no .1 .0;
@@ -110,7 +110,7 @@ module _ (S : Settings) (F : Formats) (w : World) where
         room = not-false _ (no .1 .1 .1 .1 .0);
       }
   accepted-enabled (W d entry) h =
-      let no = climbed (ladder S F w (W d entry)) h in
+      let no = none-applies (ladder S F w (W d entry)) h in
       record {
         client = not-false _ (no .0);
         works = no .1 .0;
@@ -120,19 +120,19 @@ module _ (S : Settings) (F : Formats) (w : World) where
         room = not-false _ (no .1 .1 .1 .1 .1 .0);
       }
   accepted-enabled (K k d) h =
-      let no = climbed (ladder S F w (K k d)) h in
+      let no = none-applies (ladder S F w (K k d)) h in
       let there = both (isClient S d) (isServer S k) (not-false _ (no .0)) in
       serves-enabled k d (w .up d k) refl (there .0) (honest-of S k (there .1) (no .1 .0))
       (not-false _ (no .1 .1 .1 .0))
   accepted-enabled (D d k) h =
-      let no = climbed (ladder S F w (D d k)) h in
+      let no = none-applies (ladder S F w (D d k)) h in
       let there = both (isClient S d) (isServer S k) (not-false _ (no .0)) in
       takes-enabled d k (w .down d k) refl (there .0) (there .1) (no .1 .0) (not-false _ (no .1 .1 .1 .0))
   accepted-enabled (C d) h =
-      let no = climbed (ladder S F w (C d)) h in
+      let no = none-applies (ladder S F w (C d)) h in
       record { client = not-false _ (no .0); works = no .1 .0 }
   accepted-enabled (L k d bytes) h =
-      let no = climbed (ladder S F w (L k d bytes)) h in
+      let no = none-applies (ladder S F w (L k d bytes)) h in
       let there = both (isClient S d) (isServer S k) (not-false _ (no .0)) in
       lies-enabled k d bytes (F .unpack bytes) refl (there .0) (there .1) (not-false _ (no .1 .0))
       (not-false _ (no .1 .1 .0))

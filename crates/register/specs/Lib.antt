@@ -4,6 +4,7 @@ pub mod Server
 pub mod PairSet
 pub mod Client
 pub mod World
+pub mod Ladders
 pub mod Steps
 pub mod History
 pub mod DemandThree

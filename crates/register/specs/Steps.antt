@@ -1,6 +1,6 @@
 -- The six steps, with any arguments: when each is refused, and which event it is (01, 'Rehearsal' and the table).
 --
--- In order: the steps; room on channels; the ladder of refusals of each step, in the table's order; the event of a step.
+-- In order: the steps; room on channels; the tests of each step's ladder (`Ladders`); the event of a step.
 -- Soundness (3) is not here, since every world of a run is well formed; the code's states are judged in `state`.
 -- Assumes nothing.
 use Prim.Native.Nat.{ℕ, suc, _+_}
@@ -12,7 +12,7 @@ use lib.ListN.{length}
 use Rattle.basics.specs.Tests.{allBelow}
 use Rattle.refusal.specs.declared.Refusal.{Refusal}
 use Rattle.refusal.specs.declared.Refusal.the-variants as no
-use Rattle.refusal.specs.Ladder.{Rung, _when_, lowest}
+use Rattle.refusal.specs.Ladder.{Rung, lowest}
 use Rattle.message.specs.declared.Entry.{Entry}
 use Rattle.message.specs.declared.Message.{Message}
 use Rattle.message.specs.declared.Message.the-variants.{GetInfo, Info, Done, WriteInfo, Fwd, WriteAck}
@@ -22,6 +22,7 @@ use Rattle.register.specs.declared.Phase.the-variants.{Reading, ReadingF
 use Rattle.register.specs.Settings.{Settings, servers, isServer, isClient, isHonest}
 use Rattle.register.specs.Server.{serverSends, sentTo}
 use Rattle.register.specs.Client.{isIdle, highest}
+use Rattle.register.specs.Ladders.{readLadder, writeLadder, serveLadder, takeLadder, stopLadder, lieLadder}
 use Rattle.register.specs.World.{World, Event, refuses, begins, serves, takes, stops, lies, takenBy}
 
 -- R d, W d entry, K k d, D d k, C d, and L k d with any bytes
@@ -77,42 +78,24 @@ module _ (S : Settings) (F : Formats) where
       (λ i. w .stopped (suc i)
       || hasRoom (w .down (suc i) k) (length (sentTo (suc i) (serverSends (w .servers k) d m)))) (S .clients)
 
-  -- the refusals of a step, lowest first; a read's start counts 2 slots, a write's 3
+  -- the refusals of a step, lowest first: its tests on the world; a read's start counts 2 slots, a write's 3
   unfoldable pub ladder : World → Step → List Rung
   ladder w (R d) =
-      no.NoSuchProcess when not (isClient S d)
-      ∷ no.Stopped when w .stopped d
-      ∷ no.Busy when not (isIdle (w .clients d .phase))
-      ∷ no.Exhausted when leb highest (w .clients d .reads .0)
-      ∷ no.FullChannel when not (roomUp w d 2)
-      ∷ []
+      readLadder (not (isClient S d)) (w .stopped d) (not (isIdle (w .clients d .phase)))
+      (leb highest (w .clients d .reads .0)) (not (roomUp w d 2))
   ladder w (W d e) =
-      no.NoSuchProcess when not (isClient S d)
-      ∷ no.Stopped when w .stopped d
-      ∷ no.Busy when not (isIdle (w .clients d .phase))
-      ∷ no.NoEntry when not (F .isLicence e)
-      ∷ no.Exhausted when leb highest (w .clients d .reads .0)
-      ∷ no.FullChannel when not (roomUp w d 3)
-      ∷ []
+      writeLadder (not (isClient S d)) (w .stopped d) (not (isIdle (w .clients d .phase))) (not (F .isLicence e))
+      (leb highest (w .clients d .reads .0)) (not (roomUp w d 3))
   ladder w (K k d) =
-      no.NoSuchProcess when not (isClient S d && isServer S k)
-      ∷ no.WrongRole when S .faulty k
-      ∷ no.EmptyChannel when isEmpty (w .up d k)
-      ∷ no.FullChannel when not (roomDown w k d (oldest (w .up d k)))
-      ∷ []
+      serveLadder (not (isClient S d && isServer S k)) (S .faulty k) (isEmpty (w .up d k))
+      (not (roomDown w k d (oldest (w .up d k))))
   ladder w (D d k) =
-      no.NoSuchProcess when not (isClient S d && isServer S k)
-      ∷ no.Stopped when w .stopped d
-      ∷ no.EmptyChannel when isEmpty (w .down d k)
-      ∷ no.FullChannel when not (roomUp w d (length (takenBy S w d k (oldest (w .down d k)) .sends)))
-      ∷ []
-  ladder w (C d) = no.NoSuchProcess when not (isClient S d) ∷ no.Stopped when w .stopped d ∷ []
+      takeLadder (not (isClient S d && isServer S k)) (w .stopped d) (isEmpty (w .down d k))
+      (not (roomUp w d (length (takenBy S w d k (oldest (w .down d k)) .sends))))
+  ladder w (C d) = stopLadder (not (isClient S d)) (w .stopped d)
   ladder w (L k d bytes) =
-      no.NoSuchProcess when not (isClient S d && isServer S k)
-      ∷ no.WrongRole when not (S .faulty k)
-      ∷ no.Malformed when not (isReply (F .unpack bytes))
-      ∷ no.FullChannel when not (w .stopped d || hasRoom (w .down d k) 1)
-      ∷ []
+      lieLadder (not (isClient S d && isServer S k)) (not (S .faulty k)) (not (isReply (F .unpack bytes)))
+      (not (w .stopped d || hasRoom (w .down d k) 1))
 
   -- the refusal of a step, if there is one
   unfoldable pub refusalOf : World → Step → Option Refusal

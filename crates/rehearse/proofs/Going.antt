@@ -18,7 +18,8 @@ use Rattle.script.specs.Lines.{kept, wholeLines, most}
 use Rattle.script.specs.Writing.{Written}
 use Rattle.script.proofs.Writing.{keeps}
 use Rattle.register.specs.World.{newWorld}
-use Rattle.state.specs.declared.System.{System}
+use Rattle.script.specs.Numerals.{numeralOf}
+use Rattle.script.proofs.Numerals.{own-number, number-is}
 use Rattle.system.specs.Setup.{settingsBy}
 use Rattle.system.specs.Stored.{Stored}
 use Rattle.rehearse.specs.declared.lines.Turn.{Turn}
@@ -68,38 +69,41 @@ kept-is s block at n e = ap (take most) (part-is at n s ∙ ap (drop at) e)
 
 -- ---- one turn more
 
--- the program q, with the slots b and the replies r, has `have` bytes of a line at the start of its block
-pub record Going (q : Turn) (b r input : List ℕ) (have : ℕ) (out : List ℕ) : Type 0 where
+-- the program q, with its memory s, c and b, has `have` bytes of a line at the start of its block
+pub record Going (q : Turn) (s c b input : List ℕ) (have : ℕ) (out : List ℕ) : Type 0 where
   pub parts : List (List ℕ)
-  pub known : stageIn q b r ≡ turns (progress beginning [] []) parts .known
+  pub known : stageIn q s c b ≡ turns (progress beginning [] []) parts .known
+  pub numeral : q .number ≡ numeralOf (q .number .number)
   pub left : take have input ≡ turns (progress beginning [] []) parts .left
-  pub sound : Sound (stageIn q b r)
+  pub sound : Sound (stageIn q s c b)
   pub few : have ≤ most
   pub long : length input ≡ 16384
   pub wide : length out ≡ 1310720
 
 -- at first nothing was read
-pub none-read : {s : System} {q : Turn} {b r input out : List ℕ} → q ≡ turnOf s false 0 0 0
-    → Stored (settingsBy 0 1 0) newWorld s b r → length input ≡ 16384 → length out ≡ 1310720 → Going q b r input 0 out
+pub none-read : {q : Turn} {s c b input out : List ℕ} → q ≡ turnOf (settingsBy 0 1 0) false (numeralOf 0) 0 0
+    → Stored newWorld s c b → length input ≡ 16384 → length out ≡ 1310720 → Going q s c b input 0 out
 unfolding turns
-none-read {s} {q} {b} {r} is st long wide =
+none-read {q} {s} {c} {b} is st long wide =
+    let first : stageIn q s c b ≡ beginning =
+    ap (λ (z : Turn). stageIn z s c b) is
+    ∙ (λ k. stage false (settingsBy 0 1 0) (st .servers k) (st .clients k) (st .slots k) (number-is 0 k)) in
     record {
       parts = [];
-      known =
-          ap (λ (z : Turn). stageIn z b r) is
-          ∙ (λ k. stage false (st .system k) (st .slots k) (st .replies k) 0);
+      known = first;
+      numeral = own-number 0 (ap (λ (z : Turn). z .number) is);
       left = refl;
-      sound = subst (λ (z : Turn). Sound (stageIn z b r)) (sym is) (first-sound s b r st);
+      sound = subst Sound (sym first) first-sound;
       few = omega arith;
       long = long;
       wide = wide;
     }
 
 -- bytes xs were read behind what was kept, the block was closed, its lines taken, and the cut one kept
-module _ {q : Turn} {b r input : List ℕ} {have : ℕ} {out : List ℕ} (g : Going q b r input have out)
+module _ {q : Turn} {s c b input : List ℕ} {have : ℕ} {out : List ℕ} (g : Going q s c b input have out)
     (read xs : List ℕ) (same : take have read ≡ take have input)
-    {closed : List ℕ} {total : ℕ} (c : Written (joined (take have read) xs) read 0 total closed) (some : 1 ≤ total)
-    {z : Turn} {b′ r′ out′ : List ℕ} (t : LinesTaken q (take total closed) b r out z b′ r′ out′)
+    {closed : List ℕ} {total : ℕ} (w : Written (joined (take have read) xs) read 0 total closed) (some : 1 ≤ total)
+    {z : Turn} {s′ c′ b′ out′ : List ℕ} (t : LinesTaken q (take total closed) s c b out z s′ c′ b′ out′)
     {have′ : ℕ} {next : List ℕ} (k : Written (kept closed (z .at) total) closed 0 have′ next) where
   abbrev before : Progress
   before = turns (progress beginning [] []) (g .parts)
@@ -109,10 +113,10 @@ module _ {q : Turn} {b r input : List ℕ} {have : ℕ} {out : List ℕ} (g : Go
 
   block-is : take total closed ≡ before .left ++ part
   block-is =
-      let ends = c .ends in
-      starts c ∙ joined-part (take have read) xs (omega arith) ∙ ap (λ (l : List ℕ). l ++ part) (same ∙ g .left)
+      let ends = w .ends in
+      starts w ∙ joined-part (take have read) xs (omega arith) ∙ ap (λ (l : List ℕ). l ++ part) (same ∙ g .left)
 
-  known-is : stageIn z b′ r′ ≡ stageAfter (before .known) (wholeLines (before .left ++ part))
+  known-is : stageIn z s′ c′ b′ ≡ stageAfter (before .known) (wholeLines (before .left ++ part))
   known-is = t .state ∙ (λ i. stageAfter (g .known i) (wholeLines (block-is i)))
 
   left-is : take have′ next ≡ take most (cutLine (before .left ++ part))
@@ -121,19 +125,20 @@ module _ {q : Turn} {b r input : List ℕ} {have : ℕ} {out : List ℕ} (g : Go
       ∙ ap (λ (n : ℕ). take most (drop n (before .left ++ part)))
       (t .place ∙ ap (λ (l : List ℕ). lengthOf (wholeLines l)) block-is)
 
-  pub one-turn : length read ≡ 16384 → length out′ ≡ length out → Going z b′ r′ next have′ out′
+  pub one-turn : length read ≡ 16384 → length out′ ≡ length out → Going z s′ c′ b′ next have′ out′
   one-turn long wide =
       let turned = turns-more (progress beginning [] []) (g .parts) part in
       let ends = k .ends in
-      let closed-long = keeps c in
+      let closed-long = keeps w in
       let next-long = keeps k in
       let was-wide = g .wide in
       let short : length (kept closed (z .at) total) ≤ most = simp length-take (omega arith) in
       record {
         parts = g .parts ++ part ∷ [];
         known = known-is ∙ sym (ap (λ (y : Progress). y .known) turned);
+        numeral = t .numeral;
         left = left-is ∙ sym (ap (λ (y : Progress). y .left) turned);
-        sound = subst Sound (sym (t .state)) (stage-sound (stageIn q b r) (wholeLines (take total closed)) (g .sound));
+        sound = subst Sound (sym (t .state)) (stage-sound (stageIn q s c b) (wholeLines (take total closed)) (g .sound));
         few = omega arith;
         long = omega arith;
         wide = omega arith;

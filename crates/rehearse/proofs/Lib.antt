@@ -1,8 +1,7 @@
 pub mod Printing
-pub mod Hearing
-pub mod Parts
 pub mod Scripts
 pub mod Staying
+pub mod Obeying
 pub mod Taking
 pub mod Closing
 pub mod Going

@@ -19,45 +19,36 @@ use Rattle.script.specs.declared.parse.Line.the-variants as line
 use Rattle.script.specs.Grammar.{lineOf}
 use Rattle.server.specs.State.{contains}
 use Rattle.state.specs.declared.Settings.{Settings}
-use Rattle.state.specs.declared.System.{System}
 use Rattle.state.specs.Sound.{areAllowed, isSound}
-use Rattle.state.specs.State.{settingsOf, storeSystem, storeSlots}
-use Rattle.state.proofs.SoundFacts.{allowed-facts, allowed-of}
+use Rattle.state.specs.State.{settingsOf, storeServers, storeClients, storeSlots}
+use Rattle.state.proofs.SoundFacts.{Allowed, allowed-facts}
 use Rattle.state.proofs.StoredSound.{stored-state}
 use Rattle.system.specs.declared.setup.Setup.{Setup}
 use Rattle.system.specs.declared.setup.Setup.the-variants.{Set, Refused}
 use Rattle.system.specs.Setup.{settingsBy, setupOf}
-use Rattle.system.specs.Step.{stepped}
-use Rattle.system.specs.Stored.{Stored}
 use Rattle.system.proofs.Histories.{kept}
 use Rattle.system.proofs.SetupLaws.{allowed-set}
-use Rattle.rehearse.specs.Saying.{Stage, counted, moved, setUp, after, stageAfter}
+use Rattle.rehearse.specs.Saying.{Stage, stepOn, counted, moved, setUp, after, stageAfter}
+use Rattle.rehearse.specs.Blocks.{beginning}
 
 abbrev pub Sound : Stage → Type 0
-Sound p = isSound (p .system) (p .slots) (p .replies) ≡ true
+Sound p = isSound (p .settings) (p .servers) (p .clients) (p .slots) ≡ true
 
 -- ---- a state at setup
 
-at-setup : (t : Settings) → areAllowed t ≡ true → (s : System) (b r : List ℕ) → Stored t newWorld s b r
-    → isSound s b r ≡ true
-at-setup t allowed s b r st =
-    subst (λ (u : System). isSound u b r ≡ true) (sym (st .system))
-    (subst (λ (l : List ℕ). isSound (storeSystem t newWorld) l r ≡ true) (sym (st .slots))
-    (subst (λ (l : List ℕ). isSound (storeSystem t newWorld) (storeSlots newWorld) l ≡ true)
-    (sym (st .replies))
-    (stored-state t (allowed-facts t allowed) newWorld (well-new (settingsOf t) formats))))
+new-sound : (t : Settings) → Allowed t → isSound t (storeServers newWorld) (storeClients newWorld) (storeSlots newWorld) ≡ true
+new-sound t allowed = stored-state t allowed newWorld (well-new (settingsOf t) formats)
 
 -- that of the settings that the program starts with
 first-allowed : areAllowed (settingsBy 0 1 0) ≡ true
 unfolding areAllowed setupRefusal inRange settingsOf allBelow count contains
 first-allowed = refl
 
-pub first-sound : (s : System) (b r : List ℕ) → Stored (settingsBy 0 1 0) newWorld s b r → isSound s b r ≡ true
-first-sound = at-setup (settingsBy 0 1 0) first-allowed
+pub first-sound : Sound beginning
+first-sound = new-sound (settingsBy 0 1 0) (allowed-facts (settingsBy 0 1 0) first-allowed)
 
 set-sound : (p : Stage) (f c m : ℕ) (s : Setup) → setupOf f c m ≡ s → Sound p → Sound (setUp p s)
-set-sound p f c m (Set t) e h =
-    stored-state t (allowed-facts t (allowed-of t (allowed-set f c m t e))) newWorld (well-new (settingsOf t) formats)
+set-sound p f c m (Set t) e h = new-sound t (allowed-set f c m t e)
 set-sound p f c m (Refused n) e h = h
 
 -- ---- after a line, and after lines
@@ -66,10 +57,10 @@ pub line-sound : (p : Stage) (l : Line) → Sound p → Sound (after p l)
 unfolding after
 line-sound p (line.Setup f c m) h = set-sound p f c m (setupOf f c m) refl h
 line-sound p (line.Take x) h =
-    let o = stepped (p .system) (p .slots) (p .replies) x in
+    let o = stepOn p x in
     by-test (p .isSet)
     (λ t. subst (λ (i : Bool). Sound (cond i (moved p o) (counted p))) (sym t)
-    (kept (p .system) (p .slots) (p .replies) x h))
+    (kept (p .settings) (p .servers) (p .clients) (p .slots) x h))
     (λ t. subst (λ (i : Bool). Sound (cond i (moved p o) (counted p))) (sym t) h)
 line-sound p line.Unread h = h
 

@@ -1,70 +1,32 @@
 -- Lines taken one by one: the text of one line more stands behind the text of the others, and what is known after it follows
 -- from what was known before. There is room for it, since no line prints more than 80 bytes.
 --
--- In order: what a line leaves, by what it is taken for; the lines so far; one line more; the end of the lines.
+-- In order: the lines so far; one line more; the end of the lines.
 -- Assumes nothing.
 use mathlib.Core.Path.{_≡_, refl, sym, ap, subst, _∙_}
-use mathlib.Core.Bool.{Bool, _||_}
+use mathlib.Core.Bool.{Bool}
 use mathlib.Core.List.{List, [], _∷_, _++_, append-nil}
 use Prim.Native.Nat.{ℕ, _+_, _*_, _≤_, _<_}
 use native.Mathlib.Omega.{arith}
 use lib.ListN.{length, drop}
 use lib.Seq.{append-snoc}
-use Rattle.register.specs.declared.Step.{Step}
 use Rattle.script.specs.declared.next.Found.{Found}
-use Rattle.script.specs.declared.parse.Line.{Line}
+use Rattle.script.specs.declared.print.Numeral.{Numeral}
 use Rattle.script.specs.declared.print.Output.{Output}
-use Rattle.script.specs.declared.print.Output.the-variants as output
 use Rattle.script.specs.Grammar.{lineOf}
 use Rattle.script.specs.Lines.{part, lineEnd, wholeLines}
 use Rattle.script.specs.Next.{foundAt}
+use Rattle.script.specs.Numerals.{nextNumber, numeralOf}
 use Rattle.script.specs.Printed.{printed}
 use Rattle.script.specs.Writing.{Written}
 use Rattle.script.proofs.Lengths.{printed-short}
 use Rattle.script.proofs.Writing.{then, reads, keeps, written-none}
-use Rattle.state.specs.declared.System.{System}
-use Rattle.system.specs.declared.setup.Setup.{Setup}
-use Rattle.system.specs.Step.{Result, stepped}
+use Rattle.state.specs.declared.Settings.{Settings}
 use Rattle.rehearse.specs.declared.lines.Turn.{Turn}
-use Rattle.rehearse.specs.Saying.{Stage, stage, nextNumber, moved, setupSays, setUp}
-use Rattle.rehearse.specs.Saying.{says, after, textOf, stageAfter}
-use Rattle.rehearse.specs.Blocks.{isAccepted, lengthOf, turnOf, stageIn, LinesTaken}
-use Rattle.rehearse.proofs.Hearing.{Sets, Steps, Passed}
+use Rattle.rehearse.specs.Saying.{Stage, stage, says, after, Obeys, textOf, stageAfter}
+use Rattle.rehearse.specs.Blocks.{lengthOf, turnOf, stageIn, LinesTaken}
 use Rattle.rehearse.proofs.Scripts.{stage-more, text-more, length-more, next-line, line-length, no-line}
 use Rattle.rehearse.proofs.Staying.{Sound, line-sound}
-
--- ---- what a line leaves: what is printed of it, and the parts of the state, before the lines are counted
-
-pub record Left (p : Stage) (l : Line) (what : Output) (isSet : Bool) (s : System) (b r : List ℕ) : Type 0 where
-  pub says-it : what ≡ says p l
-  pub leaves : stage isSet s b r (nextNumber (p .number)) ≡ after p l
-
-module _ {p : Stage} {l : Line} where
-  pub left-unread : Passed p l → Left p l output.Unread (p .isSet) (p .system) (p .slots) (p .replies)
-  left-unread m = record { says-it = sym (m .says-it); leaves = sym (m .leaves) }
-
-  pub left-setup : {s : Setup} {u : System} {b r : List ℕ} {what : Output} → Sets p l s → what ≡ setupSays s
-      → ((i : Bool) (n : ℕ) → stage (i || isAccepted s) u b r (nextNumber n) ≡ setUp (stage i (p .system) (p .slots) (p .replies) n) s)
-      → Left p l what (p .isSet || isAccepted s) u b r
-  left-setup m e f = record { says-it = e ∙ sym (m .says-it); leaves = f (p .isSet) (p .number) ∙ sym (m .leaves) }
-
-  pub left-step : {x : Step} → Steps p l x → (o : Result) → o ≡ stepped (p .system) (p .slots) (p .replies) x
-      → {what : Output} → what ≡ output.Answered (o .answer)
-      → Left p l what (p .isSet) (o .system) (o .slots) (o .replies)
-  left-step m o e w =
-      record {
-        says-it = w ∙ ap (λ (y : Result). output.Answered (y .answer)) e ∙ sym (m .says-it);
-        leaves = ap (moved p) e ∙ sym (m .leaves);
-      }
-
-  -- the same, said of what the code has
-  pub renamed : {w w′ : Output} {i i′ : Bool} {u u′ : System} {b b′ r r′ : List ℕ}
-      → b′ ≡ b → r′ ≡ r → u′ ≡ u → i′ ≡ i → w′ ≡ w → Left p l w i u b r → Left p l w′ i′ u′ b′ r′
-  renamed eb er eu ei ew h =
-      record {
-        says-it = ew ∙ h .says-it;
-        leaves = (λ k. stage (ei k) (eu k) (eb k) (er k) (nextNumber (p .number))) ∙ h .leaves;
-      }
 
 -- ---- the lines so far
 
@@ -116,12 +78,12 @@ module _ {p : Stage} {input out : List ℕ} where
       reads-as =
           ap (λ (y : Found). y .line) found ∙ ap (λ (k : ℕ). lineOf (part input at k)) (sym ends)
 
-      pub one-more : {what : Output} {i : Bool} {u : System} {b r : List ℕ} → Left q (z .line) what i u b r
+      pub one-more : {what : Output} {next : ℕ → Stage} → Obeys q (z .line) what next
           → {used′ : ℕ} {out′ : List ℕ} → Written (printed (q .number) what) mid used used′ out′
           → (n : ℕ) → n ≡ nextNumber (q .number)
-          → Taken p input out (stage i u b r n) (z .end + 1) used′ out′
-      one-more {what} {i} {u} {b} {r} g {used′} w n en =
-          let is : stage i u b r n ≡ after q (z .line) = ap (stage i u b r) en ∙ g .leaves in
+          → Taken p input out (next n) (z .end + 1) used′ out′
+      one-more {what} {next} g {used′} w n en =
+          let is : next n ≡ after q (z .line) = ap next en ∙ g .leaves in
           let short = printed-short (q .number) what in
           let fits = w .ends in
           let few = h .few in
@@ -139,7 +101,7 @@ module _ {p : Stage} {input out : List ℕ} where
             text =
                 reads (then (h .text) w) (textOf p (h .lines ++ text ∷ []))
                 (ap (λ (o : Output). textOf p (h .lines) ++ printed (q .number) o)
-                (g .says-it ∙ ap (says q) reads-as)
+                (g .prints ∙ ap (says q) reads-as)
                 ∙ ap (λ (y : Stage). textOf p (h .lines) ++ printed (y .number) (says y (lineOf text)))
                 (h .state)
                 ∙ sym (text-more p (h .lines) text));
@@ -168,11 +130,11 @@ module _ {p : Stage} {input out : List ℕ} where
     )
 
 -- what the code answers there
-pub lines-taken : {q : Turn} {input out b r b′ r′ out′ : List ℕ} {s : System} {i : Bool} {n at used : ℕ} (z : Turn)
-    → z ≡ turnOf s i n at used
-    → (Written (textOf (stageIn q b r) (wholeLines input)) out 0 used out′)
-    × (stage i s b′ r′ n ≡ stageAfter (stageIn q b r) (wholeLines input)) × (at ≡ lengthOf (wholeLines input))
-    → LinesTaken q input b r out z b′ r′ out′
-lines-taken {q} {input} {out} {b} {r} {b′} {r′} {out′} z is h =
-    subst (λ (y : Turn). LinesTaken q input b r out y b′ r′ out′) (sym is)
-    (record { state = h .1; text = h .0; place = h .2 })
+pub lines-taken : {q : Turn} {input out s c b s′ c′ b′ out′ : List ℕ} {t : Settings} {i : Bool} {n : Numeral} {at used : ℕ}
+    (z : Turn) → z ≡ turnOf t i n at used → n ≡ numeralOf (n .number)
+    → (Written (textOf (stageIn q s c b) (wholeLines input)) out 0 used out′)
+    × (stage i t s′ c′ b′ (n .number) ≡ stageAfter (stageIn q s c b) (wholeLines input)) × (at ≡ lengthOf (wholeLines input))
+    → LinesTaken q input s c b out z s′ c′ b′ out′
+lines-taken {q} {input} {out} {s} {c} {b} {s′} {c′} {b′} {out′} z is own h =
+    subst (λ (y : Turn). LinesTaken q input s c b out y s′ c′ b′ out′) (sym is)
+    (record { state = h .1; numeral = own; text = h .0; place = h .2 })

@@ -12,8 +12,8 @@ use libc::STDOUT_FILENO;
 use lines::take_lines;
 use lines::turn_of;
 use script::lines::keep;
+use script::print::numeral_of;
 use state::Settings;
-use system::setup::set_up;
 
 mod lines;
 
@@ -61,20 +61,17 @@ fn close(input: &mut [u8], have: usize, n: usize) -> usize
 // Every line of input prints at most 80 bytes, so the output of a block has room. A proved loop has to end, and nothing says that
 // the input does: so the loop counts its turns down, from a number that no run uses up.
 fn main() {
+    let mut s = [0u64; 26];
+    let mut c = [0u64; 571];
     let mut b = channel::empty_slots();
-    let mut r = [0u64; 546];
     let mut input = new_input();
     let mut out = new_output();
-    let s = set_up(
-        Settings {
-            f: 0,
-            clients: 1,
-            faulty: 0,
-        },
-        &mut b,
-        &mut r,
-    );
-    let mut q = turn_of(s, false, 0, 0, 0);
+    let t = Settings {
+        f: 0,
+        clients: 1,
+        faulty: 0,
+    };
+    let mut q = turn_of(t, false, numeral_of(0), 0, 0);
     let mut have = 0;
     let mut turns = u64::MAX;
     while 0 < turns {
@@ -83,7 +80,7 @@ fn main() {
         if total < 1 {
             return;
         }
-        q = take_lines(q, &input[..total], &mut out, &mut b, &mut r);
+        q = take_lines(q, &input[..total], &mut out, &mut s, &mut c, &mut b);
         let used = q.used;
         io::write_all(STDOUT_FILENO, &out[..used]);
         let at = q.at;

@@ -1,5 +1,5 @@
 -- How long a printed line can be: 20 digits, a word with a counter, a client and an entry, blanks between, and the line's end.
--- Counting 20 digits for every number is enough.
+-- Counting 20 digits for every number is enough. And how short it can be: 5 bytes behind the number.
 -- Assumes nothing.
 use mathlib.Core.List.{[], _∷_, _++_}
 use Prim.Native.Nat.{ℕ, _≤_}
@@ -46,3 +46,19 @@ unfolding printed
 printed-short n o =
     rw (length-append (decimal n) (behindNumber o), length-append (32 ∷ outputText o) (10 ∷ []))
     (omega (arith, decimal-short n, output-short o))
+
+-- what stands behind the number is no shorter than ` SET` and the line's end
+answer-long : (a : Answer) → 3 ≤ length (answerText a)
+answer-long Went = omega arith
+answer-long (Read p) = omega arith
+answer-long (Wrote p) = omega arith
+answer-long Spent = omega arith
+answer-long (Refused r) = omega arith
+
+output-long : (o : Output) → 3 ≤ length (outputText o)
+output-long Set = omega arith
+output-long Unread = omega arith
+output-long (Answered a) = answer-long a
+
+pub behind-long : (o : Output) → 5 ≤ length (behindNumber o)
+behind-long o = rw (length-append (32 ∷ outputText o) (10 ∷ [])) (omega (arith, output-long o))

@@ -7,6 +7,9 @@ pub mod Writing
 pub mod Digits
 pub mod Trailing
 pub mod Lengths
+pub mod Over
+pub mod Hundreds
+pub mod Numerals
 pub mod RoundTrip
 pub mod Kept
 pub mod Split

@@ -4,3 +4,4 @@ pub mod Grammar
 pub mod Next
 pub mod Writing
 pub mod Printed
+pub mod Numerals

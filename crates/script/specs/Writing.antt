@@ -14,3 +14,10 @@ pub record Written (text before : List ℕ) (at r : ℕ) (after : List ℕ) : Ty
   pub fits : at + length text ≤ length before
   pub ends : r ≡ at + length text
   pub holds : after ≡ written before at text
+
+-- a text was written at the start, r is where it ends, and up to five bytes behind it have changed
+pub record Begun (text before : List ℕ) (r : ℕ) (after : List ℕ) : Type 0 where
+  pub more : List ℕ
+  pub few : length more ≤ 5
+  pub ends : r ≡ length text
+  pub wrote : Written (text ++ more) before 0 (r + length more) after

@@ -5,8 +5,9 @@ ghost use Prim.Native.Nat.{_+_, _/_, _%_, _≤_, _<_};
 ghost use lib.ListN.{length, set};
 ghost use Rattle.register.specs.declared.Answer.the-variants.{Refused};
 ghost use Rattle.script.specs.Numbers.{hexDigit, digitsOf, digitCount, decimal};
+ghost use Rattle.script.specs.Numerals.{nextNumber, numeralOf};
 ghost use Rattle.script.specs.Printed.{spaced, pairText, answerText, behindNumber, printed, Shown};
-ghost use Rattle.script.specs.Writing.{Written};
+ghost use Rattle.script.specs.Writing.{Written, Begun};
 use message::Pair;
 use refusal::Refusal;
 use register::Answer;
@@ -20,6 +21,9 @@ pub enum Output {
 
 // No line is longer.
 const LONGEST: usize = 80;
+
+// The least number of seven digits.
+const SEVEN_DIGITS: u64 = 1000000;
 
 // How many decimal digits a number has, by powers of ten, which are quicker than divisions. The 20th does not fit 64 bits.
 fn digit_count(v: u64) -> usize
@@ -71,7 +75,7 @@ fn put_two(out: &mut [u8], at: usize, v: u64)
 
 // Two digits at a time, the last ones first; the first digit stands alone where their number is odd.
 fn put_decimal(out: &mut [u8], at: usize, v: u64) -> usize
-    requires { ⌜ at + 20 ≤ length (now out) ⌝ }
+    requires { ⌜ at + length (decimal v) ≤ length (now out) ⌝ }
     ensures { λ r. ⌜ Written (decimal v) (now (out .entry)) at r (now (out .exit)) ⌝ }
 {
     let n = digit_count(v);
@@ -161,13 +165,80 @@ fn put_output(out: &mut [u8], at: usize, what: Output) -> usize
     }
 }
 
+// ---- the line's number, with its text kept from one line to the next
+
+// A number of 3 to 8 digits with the digits of its hundreds, number / 100, and how many they are. Of another number none are kept.
+pub struct Numeral {
+    pub number: u64,
+    pub text: [u8; 8],
+    pub kept: usize,
+}
+
+pub fn numeral_of(v: u64) -> Numeral
+    ensures { λ r. ⌜ r ≡ numeralOf v ⌝ }
+{
+    let hundreds = v / 100;
+    let mut text = [0u8; 8];
+    let mut kept = 0;
+    if 0 < hundreds && hundreds < SEVEN_DIGITS {
+        kept = put_decimal(&mut text, 0, hundreds);
+    }
+    Numeral {
+        number: v,
+        text: text,
+        kept: kept,
+    }
+}
+
+// The hundreds are the same but once in a hundred numbers. No run counts so far that the last number matters.
+pub fn next_numeral(q: Numeral) -> Numeral
+    requires { ⌜ q ≡ numeralOf (q .number) ⌝ }
+    ensures { λ r. ⌜ r ≡ numeralOf (nextNumber (q .number)) ⌝ }
+{
+    if u64::MAX <= q.number {
+        return q;
+    }
+    let number = q.number + 1;
+    if number % 100 == 0 {
+        return numeral_of(number);
+    }
+    let text = q.text;
+    Numeral {
+        number: number,
+        text: text,
+        kept: q.kept,
+    }
+}
+
+// All eight bytes of the text are written at once, so up to five bytes behind the number may change.
+fn put_numeral(out: &mut [u8], q: Numeral) -> usize
+    requires { ⌜ (q ≡ numeralOf (q .number)) × (20 ≤ length (now out)) ⌝ }
+    ensures { λ r. ⌜ Begun (decimal (q .number)) (now (out .entry)) r (now (out .exit)) ⌝ }
+{
+    if q.kept < 1 {
+        return put_decimal(out, 0, q.number);
+    }
+    let text = q.text;
+    put_text(out, 0, &text);
+    put_two(out, q.kept, q.number);
+    q.kept + 2
+}
+
 // The line of a number, at the start of a buffer; the answer is its length. A buffer that could be too short stays as it is.
-pub fn print(out: &mut [u8], number: u64, what: Output) -> usize
-    ensures { λ r. ⌜ Shown (printed number what) (now (out .entry)) r (now (out .exit)) ⌝ }
+pub fn print_numbered(out: &mut [u8], q: Numeral, what: Output) -> usize
+    requires { ⌜ q ≡ numeralOf (q .number) ⌝ }
+    ensures { λ r. ⌜ Shown (printed (q .number) what) (now (out .entry)) r (now (out .exit)) ⌝ }
 {
     if out.len() < LONGEST {
         return 0;
     }
-    let a = put_decimal(out, 0, number);
+    let a = put_numeral(out, q);
     put_output(out, a, what)
+}
+
+// The same of a number whose text was not kept.
+pub fn print(out: &mut [u8], number: u64, what: Output) -> usize
+    ensures { λ r. ⌜ Shown (printed number what) (now (out .entry)) r (now (out .exit)) ⌝ }
+{
+    print_numbered(out, numeral_of(number), what)
 }

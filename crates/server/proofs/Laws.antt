@@ -1,8 +1,8 @@
 -- What a user of a server may rely on.
 --
 -- A taken message makes it the model's next server (`view-after`) and sends what the model's does (`sends-are`). Whatever bytes
--- come from whomever, a sound server stays sound (`sound-kept`) and its timestamp never falls (`stamp-kept`): a refusal leaves it
--- as it was, and WRITE_INFO replaces the pair only by one of a higher timestamp.
+-- come from whomever, sound memory stays sound (`sound-kept`) and the timestamp in it never falls (`stamp-kept`): a refusal leaves
+-- it as it was, what is stored is sound, and WRITE_INFO replaces the pair only by one of a higher timestamp.
 -- Assumes nothing.
 use mathlib.Core.Path.{_≡_, refl, ap, _∙_}
 use mathlib.Core.Bool.{true}
@@ -20,22 +20,28 @@ use Rattle.message.specs.declared.Unpacked.{Unpacked}
 use Rattle.message.specs.declared.Unpacked.the-variants.{Good, Bad}
 use Rattle.message.specs.Layout.{unpackOf}
 use Rattle.message.specs.Pair.{stamp}
+use Rattle.register.specs.Server as model
 use Rattle.register.specs.Server.{newServer, stored, serverAfter, serverSends}
+use Rattle.server.specs.declared.Served.{Served}
 use Rattle.server.specs.declared.Server.{Server}
-use Rattle.server.specs.State.{view, store, sound}
-use Rattle.server.specs.Taking.{sentBy, sendsOf, servedOf, isRequest, takenOf}
-use Rattle.server.proofs.Views.{store-sound, view-store, view-formed, after-formed, new-formed}
+use Rattle.server.specs.State as state
+use Rattle.server.specs.State.{sound}
+use Rattle.server.specs.Memory.{loaded, numbersOf, view, store, isSound}
+use Rattle.server.specs.Taking.{sentBy, sendsOf, servedOf, servedIn, isRequest, messages, became, takenOf}
+use Rattle.server.proofs.Memory.{store-sound, view-store}
+use Rattle.server.proofs.Views as views
+use Rattle.server.proofs.Views.{after-formed, new-formed}
 use Rattle.server.proofs.Outcomes.{unsound, no-process-low, no-process-high, malformed, taken}
 
 -- ---- a message taken
 
 pub view-after : (s : Server) (d : ℕ) (m : Message) → sound s ≡ true → 1 ≤ d → d ≤ 6
-    → view (servedOf s d m .server) ≡ serverAfter (view s) d m
+    → state.view (servedOf s d m .server) ≡ serverAfter (state.view s) d m
 view-after s d m h low top =
-    view-store (serverAfter (view s) d m) (after-formed (view s) d m (view-formed s h) low top)
+    views.view-store (serverAfter (state.view s) d m) (after-formed (state.view s) d m (views.view-formed s h) low top)
 
-pub sends-are : (s : Server) (d : ℕ) (m : Message) → sentBy d (sendsOf s m) ≡ serverSends (view s) d m
-unfolding sentBy sendsOf serverSends view
+pub sends-are : (s : Server) (d : ℕ) (m : Message) → sentBy d (sendsOf s m) ≡ serverSends (state.view s) d m
+unfolding sentBy sendsOf serverSends state.view
 sends-are s d (GetInfo n) = refl
 sends-are s d Done = refl
 sends-are s d (WriteInfo p) = refl
@@ -43,14 +49,24 @@ sends-are s d (Info n p) = refl
 sends-are s d (Fwd p) = refl
 sends-are s d (WriteAck c) = refl
 
+-- the same in memory, where r is taken by value and n are the numbers stored
+pub served-in : (m : List ℕ) (d : ℕ) (x : Message) (r : Served) (n : List ℕ) → r ≡ servedOf (loaded m) d x
+    → n ≡ numbersOf (r .server) → became (messages (r .sends) (sentBy d (r .sends))) n ≡ servedIn m d x
+unfolding view store
+served-in m d x r n e f =
+    let sent : sentBy d (r .sends) ≡ serverSends (view m) d x =
+    ap (λ (q : Served). sentBy d (q .sends)) e ∙ sends-are (loaded m) d x in
+    let next = f ∙ ap (λ (q : Served). numbersOf (q .server)) e in
+    λ i. record { result = messages (e i .sends) (sent i); memory = next i }
+
 stored-stamp : (old new : Pair) → stamp old ≤ stamp (stored old new)
 unfolding stored
 stored-stamp old new =
     by-test (ltb (stamp old) (stamp new)) (λ e. rw e (let l = ltb-true (stamp old) (stamp new) e in omega arith))
     (λ e. rw e (le-refl (stamp old)))
 
-pub after-stamp : (s : Server) (d : ℕ) (m : Message) → stamp (s .pair) ≤ stamp (servedOf s d m .server .pair)
-unfolding store view serverAfter
+pub after-stamp : (s : model.Server) (d : ℕ) (m : Message) → stamp (s .pair) ≤ stamp (serverAfter s d m .pair)
+unfolding serverAfter
 after-stamp s d (GetInfo n) = le-refl (stamp (s .pair))
 after-stamp s d Done = le-refl (stamp (s .pair))
 after-stamp s d (WriteInfo p) = stored-stamp (s .pair) p
@@ -60,33 +76,36 @@ after-stamp s d (WriteAck c) = le-refl (stamp (s .pair))
 
 -- ---- bytes taken or refused
 
--- what holds of the server before and after each message holds after any bytes
-module _ (P : Server → Type 0) (s : Server) (d : ℕ) (bytes : List ℕ) (same : P s)
-    (next : (m : Message) → sound s ≡ true → 1 ≤ d → d ≤ 6 → P (servedOf s d m .server)) where
-  by-message : sound s ≡ true → 1 ≤ d → d ≤ 6 → (u : Unpacked) → unpackOf bytes ≡ u → P (takenOf s d bytes .server)
+-- what holds of memory before and after each message holds after any bytes
+module _ (P : List ℕ → Type 0) (m : List ℕ) (d : ℕ) (bytes : List ℕ) (same : P m)
+    (next : (x : Message) → P (store (serverAfter (view m) d x))) where
+  by-message : isSound m ≡ true → 1 ≤ d → d ≤ 6 → (u : Unpacked) → unpackOf bytes ≡ u → P (takenOf m d bytes .memory)
   unfolding isRequest
-  by-message h low top Bad e = rw (malformed s d bytes h low top (ap isRequest e)) same
-  by-message h low top (Good m) e =
-      by-test (isRequest (Good m)) (λ good. rw (taken s d bytes h low top m e good) (next m h low top))
-      (λ bad. rw (malformed s d bytes h low top (ap isRequest e ∙ bad)) same)
+  by-message h low top Bad e = rw (malformed m d bytes h low top (ap isRequest e)) same
+  by-message h low top (Good x) e =
+      by-test (isRequest (Good x)) (λ good. rw (taken m d bytes h low top x e good) (next x))
+      (λ bad. rw (malformed m d bytes h low top (ap isRequest e ∙ bad)) same)
 
-  by-outcome : P (takenOf s d bytes .server)
+  by-outcome : P (takenOf m d bytes .memory)
   by-outcome =
-      by-test (sound s)
+      by-test (isSound m)
       (λ h. by-test (leb 1 d)
       (λ low. by-test (leb d 6)
       (λ top. by-message h (leb-true 1 d low) (leb-true d 6 top) (unpackOf bytes) refl)
-      (λ over. rw (no-process-high s d bytes h (leb-true 1 d low) (leb-false d 6 over)) same))
-      (λ no. rw (no-process-low s d bytes h (leb-false 1 d no)) same))
-      (λ no. rw (unsound s d bytes no) same)
+      (λ over. rw (no-process-high m d bytes h (leb-true 1 d low) (leb-false d 6 over)) same))
+      (λ no. rw (no-process-low m d bytes h (leb-false 1 d no)) same))
+      (λ no. rw (unsound m d bytes no) same)
 
-pub sound-kept : (s : Server) (d : ℕ) (bytes : List ℕ) → sound s ≡ true → sound (takenOf s d bytes .server) ≡ true
-sound-kept s d bytes h =
-    by-outcome (λ x. sound x ≡ true) s d bytes h (λ m k low top. store-sound (serverAfter (view s) d m))
+pub sound-kept : (m : List ℕ) (d : ℕ) (bytes : List ℕ) → isSound m ≡ true → isSound (takenOf m d bytes .memory) ≡ true
+sound-kept m d bytes h =
+    by-outcome (λ n. isSound n ≡ true) m d bytes h (λ x. store-sound (serverAfter (view m) d x))
 
-pub stamp-kept : (s : Server) (d : ℕ) (bytes : List ℕ) → stamp (s .pair) ≤ stamp (takenOf s d bytes .server .pair)
-stamp-kept s d bytes =
-    by-outcome (λ x. stamp (s .pair) ≤ stamp (x .pair)) s d bytes (le-refl (stamp (s .pair))) (λ m k low top. after-stamp s d m)
+pub stamp-kept : (m : List ℕ) (d : ℕ) (bytes : List ℕ)
+    → stamp (view m .pair) ≤ stamp (view (takenOf m d bytes .memory) .pair)
+unfolding view store loaded numbersOf state.view state.store
+stamp-kept m d bytes =
+    by-outcome (λ n. stamp (view m .pair) ≤ stamp (view n .pair)) m d bytes (le-refl (stamp (view m .pair)))
+    (λ x. after-stamp (view m) d x)
 
 -- ---- at setup
 

@@ -10,34 +10,33 @@ use Rattle.refusal.specs.Ladder.{rising}
 use Rattle.message.specs.declared.Message.{Message}
 use Rattle.message.specs.declared.Unpacked.the-variants.{Good}
 use Rattle.message.specs.Layout.{unpackOf}
-use Rattle.server.specs.declared.Server.{Server}
-use Rattle.server.specs.State.{sound}
-use Rattle.server.specs.Taking.{isRequest, servedOf, ladder, unchanged, served, takenOf}
+use Rattle.server.specs.Memory.{isSound}
+use Rattle.server.specs.Taking.{servedIn, isRequest, refusal, became, ladder, takenOf}
 
 -- the ladder stands in the table's order
-pub ladder-rising : (s : Server) (d : ℕ) (bytes : List ℕ) → rising 0 (ladder s d bytes) ≡ true
-ladder-rising s d bytes = refl
+pub ladder-rising : (m : List ℕ) (d : ℕ) (bytes : List ℕ) → rising 0 (ladder m d bytes) ≡ true
+ladder-rising m d bytes = refl
 
-module _ (s : Server) (d : ℕ) (bytes : List ℕ) where
-  pub unsound : sound s ≡ false → takenOf s d bytes ≡ unchanged s Unsound
+module _ (m : List ℕ) (d : ℕ) (bytes : List ℕ) where
+  pub unsound : isSound m ≡ false → takenOf m d bytes ≡ became (refusal Unsound) m
   unfolding takenOf
   unsound h = rw h
 
-  module _ (h : sound s ≡ true) where
-    pub no-process-low : d < 1 → takenOf s d bytes ≡ unchanged s NoSuchProcess
+  module _ (h : isSound m ≡ true) where
+    pub no-process-low : d < 1 → takenOf m d bytes ≡ became (refusal NoSuchProcess) m
     unfolding takenOf
     no-process-low low = rw (h, lt-leb 1 d low)
 
-    pub no-process-high : 1 ≤ d → 6 < d → takenOf s d bytes ≡ unchanged s NoSuchProcess
+    pub no-process-high : 1 ≤ d → 6 < d → takenOf m d bytes ≡ became (refusal NoSuchProcess) m
     unfolding takenOf
     no-process-high low over = rw (h, le-leb 1 d low, lt-leb d 6 over)
 
     module _ (low : 1 ≤ d) (top : d ≤ 6) where
-      pub malformed : isRequest (unpackOf bytes) ≡ false → takenOf s d bytes ≡ unchanged s Malformed
+      pub malformed : isRequest (unpackOf bytes) ≡ false → takenOf m d bytes ≡ became (refusal Malformed) m
       unfolding takenOf
       malformed bad = rw (h, le-leb 1 d low, le-leb d 6 top, bad)
 
-      pub taken : (m : Message) → unpackOf bytes ≡ Good m → isRequest (Good m) ≡ true
-          → takenOf s d bytes ≡ served (servedOf s d m)
+      pub taken : (x : Message) → unpackOf bytes ≡ Good x → isRequest (Good x) ≡ true
+          → takenOf m d bytes ≡ servedIn m d x
       unfolding takenOf
-      taken m e good = rw (h, le-leb 1 d low, le-leb d 6 top, e, good)
+      taken x e good = rw (h, le-leb 1 d low, le-leb d 6 top, e, good)

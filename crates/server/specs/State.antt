@@ -1,6 +1,6 @@
--- A server in memory: one pair, and its reading clients as bits of one byte (01, 'Keeper').
+-- A server by value, inside a step: one pair, and its reading clients as bits of one byte (01, 'Keeper').
 --
--- In order: a set of clients as bits; the server of the model that a server in memory is (`view`), and back (`store`); soundness.
+-- In order: a set of clients as bits; the server of the model that it is (`view`), and back (`store`); soundness.
 -- The model's server, and what it does with a message, are in the register's definitions.
 -- Assumes nothing.
 use Prim.Native.Nat.{ℕ, zero, suc, _+_, _*_, _/_, _%_, _^_}

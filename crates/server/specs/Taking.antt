@@ -1,6 +1,7 @@
 -- What a server makes of a message, and of bytes that say they are one (01, 'Keeper' and the table).
 --
--- In order: what it sends, to whom, in which order; a message taken; the refusals, lowest first; bytes taken.
+-- In order: what it sends, to whom, in which order; a message taken, by value and in memory; the refusals, lowest first; bytes
+-- taken.
 -- Assumes nothing.
 use Prim.Native.Nat.{ℕ}
 use mathlib.Core.Bool.{Bool, true, false, not, _&&_}
@@ -16,15 +17,17 @@ use Rattle.message.specs.declared.Unpacked.{Unpacked}
 use Rattle.message.specs.declared.Unpacked.the-variants.{Good, Bad}
 use Rattle.message.specs.Layout.{unpackOf}
 use Rattle.message.specs.Pair.{counter}
-use Rattle.register.specs.Server.{Sent, sent, forwards, serverAfter}
+use Rattle.register.specs.Server.{Sent, sent, forwards, serverAfter, serverSends}
 use Rattle.register.specs.Settings.{mostClients}
+use Rattle.server.specs.declared.Outcome.{Outcome}
 use Rattle.server.specs.declared.Outcome.the-variants as outcome
 use Rattle.server.specs.declared.Sends.{Sends}
 use Rattle.server.specs.declared.Sends.the-variants as sends
 use Rattle.server.specs.declared.Served.{Served}
 use Rattle.server.specs.declared.Server.{Server}
-use Rattle.server.specs.declared.Taken.{Taken}
-use Rattle.server.specs.State.{contains, view, store, sound}
+use Rattle.server.specs.State as state
+use Rattle.server.specs.State.{contains}
+use Rattle.server.specs.Memory.{loaded, view, store, isSound}
 
 -- the messages that an answer to client d stands for: to whom which, in order
 unfoldable pub sentBy : ℕ → Sends → List Sent
@@ -41,9 +44,27 @@ sendsOf s (Info t p) = sends.Nothing
 sendsOf s (Fwd p) = sends.Nothing
 sendsOf s (WriteAck c) = sends.Nothing
 
--- a message of client d taken
+-- a message of client d taken, by value
 abbrev pub servedOf : Server → ℕ → Message → Served
-servedOf s d m = record { server = store (serverAfter (view s) d m); sends = sendsOf s m }
+servedOf s d m = record { server = state.store (serverAfter (state.view s) d m); sends = sendsOf s m }
+
+-- what taking comes to: an answer with the messages that it stands for, or a refusal
+pub data Result : Type 0 where
+  messages : Sends → List Sent → Result
+  refusal : Refusal → Result
+
+-- and the memory after it
+pub record Taken : Type 0 where
+  pub result : Result
+  pub memory : List ℕ
+
+abbrev pub became : Result → List ℕ → Taken
+became r m = record { result = r; memory = m }
+
+-- a message of client d taken, in memory: the model's next server, and what the model's server sends
+abbrev pub servedIn : List ℕ → ℕ → Message → Taken
+servedIn m d x =
+    became (messages (sendsOf (loaded m) x) (serverSends (view m) d x)) (store (serverAfter (view m) d x))
 
 -- the kinds that a server takes: GET_INFO, DONE, WRITE_INFO
 unfoldable pub isRequest : Unpacked → Bool
@@ -55,26 +76,25 @@ isRequest (Good (Fwd p)) = false
 isRequest (Good (WriteAck c)) = false
 isRequest Bad = false
 
--- 3 an unsound server; 4 a sender that is not 1 to 6; 9 not a message, or of a kind that a server does not take
-abbrev pub ladder : Server → ℕ → List ℕ → List Rung
-ladder s d bytes =
-    Unsound when not (sound s)
+-- the result that the code's outcome stands for
+unfoldable pub resultOf : ℕ → Outcome → Result
+resultOf d (outcome.Sent s) = messages s (sentBy d s)
+resultOf d (outcome.Refused r) = refusal r
+
+-- 3 unsound memory; 4 a sender that is not 1 to 6; 9 not a message, or of a kind that a server does not take
+abbrev pub ladder : List ℕ → ℕ → List ℕ → List Rung
+ladder m d bytes =
+    Unsound when not (isSound m)
     ∷ NoSuchProcess when not (leb 1 d && leb d mostClients)
     ∷ Malformed when not (isRequest (unpackOf bytes))
     ∷ []
 
--- a refusal leaves the server as it was
-abbrev pub unchanged : Server → Refusal → Taken
-unchanged s r = record { server = s; outcome = outcome.Refused r }
-
-abbrev pub served : Served → Taken
-served x = record { server = x .server; outcome = outcome.Sent (x .sends) }
-
-abbrev pub decided : Server → ℕ → Option Refusal → Unpacked → Taken
-decided s d (some r) u = unchanged s r
-decided s d none (Good m) = served (servedOf s d m)
-decided s d none Bad = unchanged s Malformed
+-- a refusal leaves the memory as it was
+abbrev pub decided : List ℕ → ℕ → Option Refusal → Unpacked → Taken
+decided m d (some r) u = became (refusal r) m
+decided m d none (Good x) = servedIn m d x
+decided m d none Bad = became (refusal Malformed) m
 
 -- bytes of sender d taken, or refused
-unfoldable pub takenOf : Server → ℕ → List ℕ → Taken
-takenOf s d bytes = decided s d (lowest (ladder s d bytes)) (unpackOf bytes)
+unfoldable pub takenOf : List ℕ → ℕ → List ℕ → Taken
+takenOf m d bytes = decided m d (lowest (ladder m d bytes)) (unpackOf bytes)

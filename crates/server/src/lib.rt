@@ -1,10 +1,13 @@
 // The server (01: the keeper end): one pair and a set of reading clients, and what it answers to each message.
+// It stands in memory that it is lent (specs/Memory). Inside a step it is loaded, goes by value, and is stored again.
 ghost use mathlib.Core.Path.{_≡_};
 ghost use mathlib.Core.Bool.{true};
 ghost use Prim.Native.Nat.{_≤_};
-ghost use Rattle.register.specs.Server.{newServer, stored};
-ghost use Rattle.server.specs.State.{sound, store};
-ghost use Rattle.server.specs.Taking.{isRequest, servedOf, takenOf, unchanged};
+ghost use lib.ListN.{length};
+ghost use Rattle.register.specs.Server.{stored};
+ghost use Rattle.server.specs.Memory.{loaded, numbersOf, isSound};
+ghost use Rattle.server.specs.State.{sound};
+ghost use Rattle.server.specs.Taking.{sentBy, servedOf, servedIn, isRequest, messages, resultOf, became, takenOf};
 use message::Message;
 use message::Pair;
 use message::ReadNumber;
@@ -37,26 +40,38 @@ pub enum Outcome {
     Refused(Refusal),
 }
 
-// The next server, which a refusal leaves as it was, and the outcome.
-pub struct Taken {
-    pub server: Server,
-    pub outcome: Outcome,
-}
+// A server in memory is two numbers: the pair, and the readers.
+pub const PAIR_AT: usize = 0;
+
+pub const READERS_AT: usize = 1;
+
+pub const WORDS: usize = 2;
 
 // The clients from 1 on.
 const MOST_CLIENTS: u32 = 6;
 
 // The first number that is no set of clients.
-const OVER_SETS: u8 = 64;
+const OVER_SETS: u64 = 64;
 
-// The server at setup: the initial pair and no reader.
-pub fn new_server() -> Server
-    ensures { λ r. ⌜ r ≡ store newServer ⌝ }
+// The server that stands in memory.
+pub fn load(m: &[u64]) -> Server
+    requires { ⌜ length (now m) ≡ 2 ⌝ }
+    ensures { λ s. ⌜ s ≡ loaded (now (m .entry)) ⌝ }
 {
     Server {
-        pair: Pair(0),
-        readers: 0,
+        pair: Pair(m[PAIR_AT]),
+        readers: (m[READERS_AT] % 256) as u8,
     }
+}
+
+// Puts it back.
+pub fn store(m: &mut [u64], s: Server)
+    requires { ⌜ length (now m) ≡ 2 ⌝ }
+    ensures { λ r. ⌜ now (m .exit) ≡ numbersOf s ⌝ }
+{
+    let pair = s.pair;
+    m[PAIR_AT] = pair.0;
+    m[READERS_AT] = s.readers as u64;
 }
 
 // The pair of the higher timestamp; the old one where both are the same.
@@ -120,38 +135,43 @@ fn is_taken(m: Message) -> bool
     }
 }
 
-// A refusal leaves the server as it was.
-fn refused(old: Server, r: Refusal) -> Taken
-    ensures { λ t. ⌜ t ≡ unchanged old r ⌝ }
+// Two numbers, and no reader but clients 1 to 6.
+fn is_sound(m: &[u64]) -> bool
+    ensures { λ r. ⌜ r ≡ isSound (now (m .entry)) ⌝ }
 {
-    Taken {
-        server: old,
-        outcome: Outcome::Refused(r),
+    if m.len() != WORDS {
+        return false;
     }
+    m[READERS_AT] < OVER_SETS
 }
 
-// Takes the bytes that sender d sent. Refuses (3, 4, 9, the lowest first) an unsound server, a sender that is not 1 to 6, and
-// bytes that are no message or one that a server does not take; the server stays as it was.
-pub fn take(s: Server, d: u32, bytes: &[u8]) -> Taken
-    ensures { λ r. ⌜ r ≡ takenOf s d (now (bytes .entry)) ⌝ }
+// Takes message x of client d, in memory.
+fn serve(d: u8, x: Message, m: &mut [u64]) -> Sends
+    requires { ⌜ (isSound (now m) ≡ true) × (1 ≤ d) × (d ≤ 6) ⌝ }
+    ensures { λ r. ⌜ became (messages r (sentBy d r)) (now (m .exit)) ≡ servedIn (now (m .entry)) d x ⌝ }
 {
-    if OVER_SETS <= s.readers {
-        return refused(s, Refusal::Unsound);
+    let served = after(load(m), d, x);
+    let sends = served.sends;
+    store(m, served.server);
+    sends
+}
+
+// Takes the bytes that sender d sent to the server in memory m. Refuses (3, 4, 9, the lowest first) unsound memory, a sender that
+// is not 1 to 6, and bytes that are no message or one that a server does not take; the memory stays as it was.
+pub fn take(d: u32, bytes: &[u8], m: &mut [u64]) -> Outcome
+    ensures { λ r. ⌜ became (resultOf d r) (now (m .exit)) ≡ takenOf (now (m .entry)) d (now (bytes .entry)) ⌝ }
+{
+    if !is_sound(m) {
+        return Outcome::Refused(Refusal::Unsound);
     }
     if d < 1 || MOST_CLIENTS < d {
-        return refused(s, Refusal::NoSuchProcess);
+        return Outcome::Refused(Refusal::NoSuchProcess);
     }
-    let Unpacked::Good(m) = message::unpack(bytes) else {
-        return refused(s, Refusal::Malformed);
+    let Unpacked::Good(message) = message::unpack(bytes) else {
+        return Outcome::Refused(Refusal::Malformed);
     };
-    if !is_taken(m) {
-        return refused(s, Refusal::Malformed);
+    if !is_taken(message) {
+        return Outcome::Refused(Refusal::Malformed);
     }
-    let served = after(s, d as u8, m);
-    let server = served.server;
-    let sends = served.sends;
-    Taken {
-        server: server,
-        outcome: Outcome::Sent(sends),
-    }
+    Outcome::Sent(serve(d as u8, message, m))
 }

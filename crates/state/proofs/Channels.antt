@@ -8,23 +8,24 @@
 use mathlib.Core.Path.{_≡_, refl, ap, _∙_}
 use mathlib.Core.Bool.{true, cond, _&&_}
 use mathlib.Core.List.{List, [], _∷_, _++_}
-use Prim.Native.Nat.{ℕ, zero, suc, _+_, _-_, _*_, _/_, _%_, _≤_, _<_}
+use Prim.Native.Nat.{ℕ, suc, _+_, _-_, _*_, _/_, _%_, _≤_, _<_}
 use native.Mathlib.Omega.{arith}
-use lib.Dec.{eqb, ltb, eqb·suc-suc}
+use lib.Dec.{eqb, ltb}
 use lib.ListN.{length}
 use borrow.Author.Tests.{ltb-true, ltb-false, lt-ltb, le-ltb, eqb-true, eqb-false, eq-eqb, ne-eqb}
-use Rattle.basics.specs.Bytes.{spelt}
 use Rattle.basics.specs.Update.{update}
 use Rattle.basics.proofs.Cases.{by-test}
 use Rattle.message.specs.declared.Message.{Message}
-use Rattle.message.specs.Layout.{bytesOf, messageOf, wellFormed, words, wordsNumber, wordsOf}
-use Rattle.message.proofs.RoundTrip.{packed-length, packing-spells, of-words-of}
-use Rattle.channel.specs.Memory.{countAt, putOn, oldestOn, taken, cleared}
+use Rattle.message.specs.declared.Words.{Words}
+use Rattle.message.specs.Layout.{messageOf, wellFormed, wordsNumber, wordsOf}
+use Rattle.message.proofs.RoundTrip.{of-words-of}
+use Rattle.channel.specs.Memory.{countAt, putOn, taken, cleared}
 use Rattle.channel.specs.Layout.{Fitting, layout}
-use Rattle.channel.proofs.Laws.{layout-same, layout-count, layout-put, layout-take, layout-clear}
-use Rattle.channel.proofs.Laws.{layout-oldest}
+use Rattle.channel.specs.Sound.{messageIn}
+use Rattle.channel.proofs.Laws.{layout-same, layout-count, layout-put, layout-take, layout-clear, layout-oldest}
 use Rattle.register.specs.World.{World}
-use Rattle.state.specs.State.{upIndex, downIndex, channelOf, storeSlots, messageIn, messageAt}
+use Rattle.state.specs.State.{upIndex, downIndex, channelOf, storeSlots, messageAt}
+use Rattle.state.proofs.Ranges.{back-one, same-place}
 
 -- the messages between each client and each server
 abbrev pub Table : Type 0
@@ -37,7 +38,7 @@ tableAt u n c =
 
 -- the slots of two tables
 unfoldable pub slotsOf : Table → Table → List ℕ
-slotsOf u n = layout bytesOf (tableAt u n)
+slotsOf u n = layout (tableAt u n)
 
 pub store-slots : (w : World) → storeSlots w ≡ slotsOf (w .up) (w .down)
 unfolding storeSlots channelOf slotsOf
@@ -82,14 +83,6 @@ place-is i j c h =
     let no : i ≡ c / 13 → ⊥ = λ b. q (omega arith) in
     rw (a, ne-eqb i (c / 13) no))
     (λ a. rw a)))
-
--- a number from 1 on, and one less
-less-one : (k x : ℕ) → 1 ≤ k → eqb k (suc x) ≡ eqb (k - 1) x
-less-one zero x h = let z : ⊥ = omega arith in absurd z
-less-one (suc k) x h = let e : suc k - 1 ≡ k = omega arith in rw e (eqb·suc-suc k x)
-
-back-one : (k : ℕ) → 1 ≤ k → suc (k - 1) ≡ k
-back-one k h = omega arith
 
 -- a place behind the first 78
 behind : (x c : ℕ) → 78 ≤ c → eqb (78 + x) c ≡ eqb x (c - 78)
@@ -144,20 +137,20 @@ module _ (u n : Table) (d k : ℕ) (i : Inside d k) where
 
   here : (c : ℕ) → eqb up c ≡ eqb k (suc (c % 13)) && eqb d (suc (c / 13))
   here c =
-      rw (less-one k (c % 13) (i .first), less-one d (c / 13) (i .low)) (place-is (d - 1) (k - 1) c inner)
+      rw (same-place k (c % 13) (i .first), same-place d (c / 13) (i .low)) (place-is (d - 1) (k - 1) c inner)
 
-  up-changed : (l : List Message) → layout bytesOf (update (tableAt u n) up l) ≡ slotsOf (changed u d k l) n
+  up-changed : (l : List Message) → layout (update (tableAt u n) up l) ≡ slotsOf (changed u d k l) n
   unfolding slotsOf changed update
   up-changed l =
-      layout-same bytesOf packed-length (update (tableAt u n) up l) (tableAt (changed u d k l) n)
+      layout-same (update (tableAt u n) up l) (tableAt (changed u d k l) n)
       (λ c less. by-test (ltb c 78) (λ e. rw (e, here c))
       (λ e. rw (e, ne-eqb up c (λ z. omega (arith, up-less, ltb-false c 78 e)))))
 
   down-changed : (l : List Message)
-      → layout bytesOf (update (tableAt u n) down l) ≡ slotsOf u (changed n d k l)
+      → layout (update (tableAt u n) down l) ≡ slotsOf u (changed n d k l)
   unfolding slotsOf changed update
   down-changed l =
-      layout-same bytesOf packed-length (update (tableAt u n) down l) (tableAt u (changed n d k l))
+      layout-same (update (tableAt u n) down l) (tableAt u (changed n d k l))
       (λ c less. by-test (ltb c 78) (λ e. rw (e, ne-eqb down c (λ z. omega (arith, ltb-true c 78 e))))
       (λ e. rw (e, behind up c (ltb-false c 78 e), here (c - 78))))
 
@@ -174,54 +167,52 @@ module _ (u n : Table) (d k : ℕ) (i : Inside d k) where
     -- how many messages wait
     pub up-count : countAt (slotsOf u n) up ≡ length (u d k)
     unfolding slotsOf
-    up-count = layout-count bytesOf packed-length (tableAt u n) fits up up-inside ∙ ap length up-entry
+    up-count = layout-count (tableAt u n) fits up up-inside ∙ ap length up-entry
 
     pub down-count : countAt (slotsOf u n) down ≡ length (n d k)
     unfolding slotsOf
-    down-count = layout-count bytesOf packed-length (tableAt u n) fits down down-inside ∙ ap length down-entry
+    down-count = layout-count (tableAt u n) fits down down-inside ∙ ap length down-entry
 
     -- a message put behind them
     pub up-put : (m : Message) → length (u d k) < 8
-        → putOn (slotsOf u n) up (bytesOf m) ≡ slotsOf (changed u d k (u d k ++ m ∷ [])) n
+        → putOn (slotsOf u n) up (wordsOf m) ≡ slotsOf (changed u d k (u d k ++ m ∷ [])) n
     unfolding slotsOf
     up-put m room =
-        layout-put bytesOf packed-length (tableAt u n) fits up up-inside m (rw up-entry room)
+        layout-put (tableAt u n) fits up up-inside m (rw up-entry room)
         ∙ rw up-entry (up-changed (u d k ++ m ∷ []))
 
     pub down-put : (m : Message) → length (n d k) < 8
-        → putOn (slotsOf u n) down (bytesOf m) ≡ slotsOf u (changed n d k (n d k ++ m ∷ []))
+        → putOn (slotsOf u n) down (wordsOf m) ≡ slotsOf u (changed n d k (n d k ++ m ∷ []))
     unfolding slotsOf
     down-put m room =
-        layout-put bytesOf packed-length (tableAt u n) fits down down-inside m (rw down-entry room)
+        layout-put (tableAt u n) fits down down-inside m (rw down-entry room)
         ∙ rw down-entry (down-changed (n d k ++ m ∷ []))
 
     -- all of them gone
     pub down-clear : cleared (slotsOf u n) down ≡ slotsOf u (changed n d k [])
     unfolding slotsOf
-    down-clear = layout-clear bytesOf packed-length (tableAt u n) fits down down-inside ∙ down-changed []
+    down-clear = layout-clear (tableAt u n) fits down down-inside ∙ down-changed []
 
     module _ (m : Message) (ms : List Message) where
       -- the oldest taken
       pub up-take : u d k ≡ m ∷ ms → taken (slotsOf u n) up ≡ slotsOf (changed u d k ms) n
       unfolding slotsOf
       up-take e =
-          layout-take bytesOf packed-length (tableAt u n) fits up up-inside m ms (up-entry ∙ e)
+          layout-take (tableAt u n) fits up up-inside m ms (up-entry ∙ e)
           ∙ up-changed ms
 
       pub down-take : n d k ≡ m ∷ ms → taken (slotsOf u n) down ≡ slotsOf u (changed n d k ms)
       unfolding slotsOf
       down-take e =
-          layout-take bytesOf packed-length (tableAt u n) fits down down-inside m ms (down-entry ∙ e)
+          layout-take (tableAt u n) fits down down-inside m ms (down-entry ∙ e)
           ∙ down-changed ms
 
       -- the oldest read
       message-read : (c : ℕ) → c < 156 → tableAt u n c ≡ m ∷ ms → wellFormed m ≡ true
           → messageAt (slotsOf u n) c ≡ m
-      unfolding slotsOf oldestOn wordsOf
+      unfolding slotsOf messageIn
       message-read c less e well =
-          ap (λ (l : List ℕ). messageIn (messageOf (wordsNumber (words (spelt 0 l)))))
-          (layout-oldest bytesOf packed-length (tableAt u n) fits c less m ms e)
-          ∙ ap (λ (x : ℕ). messageIn (messageOf (wordsNumber (words x)))) (packing-spells m)
+          ap (λ (x : Words). messageIn (messageOf (wordsNumber x))) (layout-oldest (tableAt u n) fits c less m ms e)
           ∙ ap messageIn (of-words-of m well)
 
       pub up-oldest : u d k ≡ m ∷ ms → wellFormed m ≡ true → messageAt (slotsOf u n) up ≡ m

@@ -1,11 +1,12 @@
 pub mod Formats
 pub mod Ranges
+pub mod Tested
 pub mod Channels
 pub mod OwnChannels
-pub mod StoredClient
+pub mod StoredParts
 pub mod StoredServer
-pub mod Replies
-pub mod Numbered
+pub mod StoredClient
+pub mod StoredSetup
 pub mod SoundFacts
 pub mod SoundServer
 pub mod Orders
@@ -14,6 +15,6 @@ pub mod SoundChannels
 pub mod WellViewed
 pub mod Restored
 pub mod StoredReplies
-pub mod StoredSound
 pub mod StoredSlots
+pub mod StoredSound
 pub mod Viewed

@@ -1,10 +1,11 @@
--- The numbers from 1 to n: none for 0, and one more for n + 1. The test of them as two bounds, and back.
+-- The numbers from 1 to n: none for 0, and one more for n + 1. The test of them as two bounds, and back. And the place of a
+-- number, which is one less.
 -- Assumes nothing.
 use mathlib.Core.Path.{_≡_, refl}
 use mathlib.Core.Bool.{Bool, true, false, _&&_, _||_}
-use Prim.Native.Nat.{ℕ, suc, _≤_, _<_}
+use Prim.Native.Nat.{ℕ, zero, suc, _-_, _≤_, _<_}
 use native.Mathlib.Omega.{arith}
-use lib.Dec.{leb, eqb}
+use lib.Dec.{leb, eqb, eqb·suc-suc}
 use borrow.Author.Tests.{leb-true, leb-false, eqb-true, eqb-false, le-leb, lt-leb}
 use Rattle.basics.proofs.Cases.{by-test, both, both-of}
 use Rattle.state.specs.State.{isOf}
@@ -41,3 +42,15 @@ range-more n k =
 pub over-range : (n k : ℕ) → n < k → isOf n k ≡ false
 over-range n k h =
     by-test (isOf n k) (λ e. let r = in-range n k e in let z : ⊥ = omega arith in absurd z) (λ e. e)
+
+-- ---- places
+
+pub back-one : (k : ℕ) → 1 ≤ k → suc (k - 1) ≡ k
+back-one k h = omega arith
+
+pub less-one : (j : ℕ) → suc j - 1 ≡ j
+less-one j = omega arith
+
+pub same-place : (k j : ℕ) → 1 ≤ k → eqb k (suc j) ≡ eqb (k - 1) j
+same-place zero j h = let z : ⊥ = omega arith in absurd z
+same-place (suc k) j h = rw (less-one k) (eqb·suc-suc k j)

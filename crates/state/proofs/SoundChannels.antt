@@ -11,14 +11,15 @@ use Prim.Native.Nat.{ℕ, _^_, _≤_, _<_}
 use lib.Dec.{ltb}
 use borrow.Author.Tests.{ltb-true, lt-leb, le-leb}
 use Rattle.basics.specs.Members.{Member}
+use Rattle.basics.specs.Tables.{listed}
 use Rattle.basics.specs.Tests.{all}
 use Rattle.basics.proofs.Cases.{both, both-of, true-or-false}
 use Rattle.message.specs.declared.Message.{Message}
 use Rattle.message.specs.declared.Message.the-variants.{GetInfo, Info, Done, WriteInfo, Fwd, WriteAck}
 use Rattle.message.specs.declared.Unpacked.the-variants.{Good}
 use Rattle.message.specs.Layout.{wellFormed}
-use Rattle.channel.specs.Memory.{countAt, listed}
-use Rattle.channel.specs.Sound.{goes, isDown, sound, held, messages}
+use Rattle.channel.specs.Memory.{countAt}
+use Rattle.channel.specs.Sound.{goes, isDown, sound, messages}
 use Rattle.channel.proofs.Messages.{suits, messages-fit, messages-suit}
 use Rattle.register.proofs.WellFormed.{FromClient, FromServer, WellChannel}
 use Rattle.state.proofs.Formats.{client-message, server-message}
@@ -102,7 +103,7 @@ module _ (b : List ℕ) (h : sound b ≡ true) (i : ℕ) (inside : i < 156) wher
 
 -- no message waits where the count is 0
 pub no-messages : (b : List ℕ) (i : ℕ) → countAt b i ≡ 0 → messages b i ≡ []
-unfolding held listed
+unfolding messages listed
 no-messages b i e = rw e
 
 -- ---- messages that are stored

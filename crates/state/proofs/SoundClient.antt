@@ -1,5 +1,5 @@
--- A sound client's place: its session and its replies hold a well-formed client, the client at setup where
--- there is none, and storing what they hold gives the replies back.
+-- A sound client's memory: it holds a well-formed client, the client at setup where there is none, and storing what it holds gives
+-- it back.
 --
 -- The client's own test speaks of numbers in memory; here each is read as what it says of the client.
 -- Assumes nothing.
@@ -7,15 +7,15 @@ use mathlib.Core.Path.{_≡_, refl, sym, ap, fun-ext, _∙_}
 use mathlib.Core.Bool.{Bool, true, false, not, _&&_, _||_}
 use mathlib.Core.List.{List, [], _∷_}
 use mathlib.Core.Option.{Option, none, some}
-use Prim.Native.Nat.{ℕ, zero, suc, _+_, _*_, _^_, _≤_, _<_}
+use Prim.Native.Nat.{ℕ, zero, suc, _+_, _*_, _%_, _^_, _≤_, _<_}
 use native.Mathlib.Omega.{arith}
-use lib.Dec.{eqb, leb, ltb}
-use lib.ListN.{length, getD}
+use lib.Dec.{eqb, ltb}
+use lib.ListN.{length, getD, drop}
+use lib.Seq.{getD-drop}
 use borrow.Author.Tests.{eqb-true, ltb-true}
 use Rattle.basics.specs.Members.{Member}
 use Rattle.basics.proofs.Cases.{by-test, both, true-or-false, clash}
 use Rattle.basics.proofs.Members.{every-at}
-use Rattle.basics.proofs.Tests.{each}
 use Rattle.licence.specs.Entry.{isLicence}
 use Rattle.message.specs.declared.Entry.{Entry}
 use Rattle.message.specs.declared.Pair.{Pair}
@@ -23,23 +23,23 @@ use Rattle.message.specs.declared.WriteCounter.{WriteCounter}
 use Rattle.message.specs.Pair.{initial}
 use Rattle.register.specs.declared.Phase.{Phase}
 use Rattle.register.specs.declared.Phase.the-variants.{Idle, Reading, ReadingForWrite, Storing}
-use Rattle.register.specs.Client.{newClient, isIdle, isReading}
+use Rattle.register.specs.Client.{newClient, isReading}
 use Rattle.register.specs.Settings.{isServer}
 use Rattle.register.proofs.WellFormed.{WellPhase, WellSet, WellClient}
-use Rattle.replies.specs.Replies.{noteOf, notedIn, setIn, ackIn, storeReplies}
-use Rattle.replies.specs.Sound.{areSound}
+use Rattle.replies.specs.Replies.{noteOf, notedIn, setIn, ackIn}
 use Rattle.replies.proofs.Places.{noted-at, ack-at, size-most, size-below, pair-at}
 use Rattle.replies.proofs.Soundness.{Sound, facts, most}
-use Rattle.replies.proofs.Storing.{store-held}
-use Rattle.client.specs.Sound.{isSoundPhase, stores, isSoundClient, isSound}
-use Rattle.state.specs.declared.Session.{Session}
+use Rattle.client.specs.Memory.{phaseOf, phaseIn, view, store}
+use Rattle.client.specs.Sound.{isSoundPhase, stores, isSoundMemory}
+use Rattle.client.proofs.Heads.{mod-small}
+use Rattle.client.proofs.Memory.{SoundMemory, memory-facts, store-view}
 use Rattle.state.specs.declared.Settings.{Settings}
 use Rattle.register.specs.Formats.{formats}
-use Rattle.state.specs.State.{settingsOf, clientIn}
-use Rattle.state.specs.Sound.{clientEnd, isClientSound}
+use Rattle.state.specs.State.{settingsOf}
+use Rattle.state.specs.Sound.{isClientSound}
 use Rattle.state.proofs.Ranges.{and-false}
 use Rattle.state.proofs.Orders.{rising-ordered, every-place}
-use Rattle.state.proofs.SoundServer.{server-place}
+use Rattle.state.proofs.Tested.{server-place}
 
 -- ---- phases, notes, lists
 
@@ -50,13 +50,6 @@ or-else false b h e = h
 pub or-first : (a b : Bool) → a || b ≡ true → b ≡ false → a ≡ true
 or-first true b h e = refl
 or-first false b h e = absurd (true-or-false b h e)
-
-idle-is : (p : Phase) → isIdle p ≡ true → p ≡ Idle
-unfolding isIdle
-idle-is Idle h = refl
-idle-is Reading h = absurd (true-or-false false h refl)
-idle-is (ReadingForWrite e) h = absurd (true-or-false false h refl)
-idle-is (Storing e c) h = absurd (true-or-false false h refl)
 
 well-phase : (p : Phase) → isSoundPhase p ≡ true → WellPhase formats p
 unfolding isSoundPhase
@@ -85,50 +78,45 @@ no-length (x ∷ xs) e = absurd (let z : ⊥ = omega arith in z)
 empty-set : WellSet []
 empty-set = record { ordered = tt; few = omega arith; pairs = λ p m. absurd m }
 
--- ---- the client at place i
+-- ---- the client's memory m at place i
 
-module _ (t : Settings) (i : ℕ) (c : Session) (l : List ℕ) (h : isClientSound t i c l ≡ true) where
-  pub end-sound : isSound (clientEnd t i c) l ≡ true
+module _ (t : Settings) (i : ℕ) (m : List ℕ) (h : isClientSound t i m ≡ true) where
+  abbrev ph : Phase
+  ph = phaseIn m
+
+  abbrev l : List ℕ
+  l = drop 4 m
+
+  parts : (isSoundMemory (t .f) m ≡ true)
+      × ((ltb i (t .clients) || (eqb (getD m 0 0) 0 && eqb (getD m 1 0) 0)) ≡ true)
   unfolding isClientSound
-  end-sound =
-      both (isSound (clientEnd t i c) l) (ltb i (t .clients) || (isIdle (c .phase) && eqb (c .reads .0) 0))
-      h .0
+  parts = both (isSoundMemory (t .f) m) (ltb i (t .clients) || (eqb (getD m 0 0) 0 && eqb (getD m 1 0) 0)) h
 
-  both-sound : (isSoundClient (clientEnd t i c) ≡ true)
-      × (areSound (3 * t .f + 1) (isReading (c .phase)) (stores (c .phase)) l ≡ true)
-  unfolding isSound
-  both-sound =
-      both (isSoundClient (clientEnd t i c))
-      (areSound (3 * t .f + 1) (isReading (c .phase)) (stores (c .phase)) l) end-sound
+  known : SoundMemory (t .f) m
+  known = memory-facts (t .f) m (parts .0)
 
   -- a place that is not used
-  at-rest : ltb i (t .clients) ≡ false → (c .phase ≡ Idle) × (c .reads .0 ≡ 0)
-  unfolding isClientSound
+  at-rest : ltb i (t .clients) ≡ false → (getD m 0 0 ≡ 0) × (getD m 1 0 ≡ 0)
   at-rest e =
-      let a = both (isSound (clientEnd t i c) l)
-      (ltb i (t .clients) || (isIdle (c .phase) && eqb (c .reads .0) 0)) h in
-      let b = both (isIdle (c .phase)) (eqb (c .reads .0) 0)
-      (or-else (ltb i (t .clients)) (isIdle (c .phase) && eqb (c .reads .0) 0) (a .1) e) in
-      (idle-is (c .phase) (b .0), eqb-true (c .reads .0) 0 (b .1))
+      let q = both (eqb (getD m 0 0) 0) (eqb (getD m 1 0) 0)
+      (or-else (ltb i (t .clients)) (eqb (getD m 0 0) 0 && eqb (getD m 1 0) 0) (parts .1) e) in
+      (eqb-true (getD m 0 0) 0 (q .0), eqb-true (getD m 1 0) 0 (q .1))
 
-  -- the client's number, f, read number and phase
-  own : (c .reads .0 < 2 ^ 20) × WellPhase formats (c .phase)
-  unfolding isSoundClient
-  own =
-      let q = each
-      (leb 1 (suc i) ∷ leb (suc i) 6 ∷ leb (t .f) 4
-      ∷ ltb (c .reads .0) (2 ^ 20) ∷ isSoundPhase (c .phase) ∷ [])
-      (both-sound .0) in
-      (ltb-true (c .reads .0) (2 ^ 20) (q .1 .1 .1 .0), well-phase (c .phase) (q .1 .1 .1 .1 .0))
+  idle : ltb i (t .clients) ≡ false → ph ≡ Idle
+  unfolding phaseOf
+  idle e = rw (at-rest e .1)
 
-  pub memory : Sound (3 * t .f + 1) (isReading (c .phase)) (stores (c .phase)) l
-  memory = facts (3 * t .f + 1) (isReading (c .phase)) (stores (c .phase)) l (both-sound .1)
+  small-reads : getD m 0 0 % 2 ^ 32 ≡ getD m 0 0
+  small-reads = let few = known .reads in mod-small (getD m 0 0) (omega arith)
+
+  memory : Sound (3 * t .f + 1) (isReading ph) (stores ph) l
+  memory = facts (3 * t .f + 1) (isReading ph) (stores ph) l (known .replies)
 
   abbrev reading : ℕ → Bool
-  reading j = ltb j (3 * t .f + 1) && isReading (c .phase)
+  reading j = ltb j (3 * t .f + 1) && isReading ph
 
   abbrev storing : ℕ → Bool
-  storing j = ltb j (3 * t .f + 1) && stores (c .phase)
+  storing j = ltb j (3 * t .f + 1) && stores ph
 
   -- ---- what the memory says of each server
 
@@ -143,10 +131,10 @@ module _ (t : Settings) (i : ℕ) (c : Session) (l : List ℕ) (h : isClientSoun
       omega arith)
       (λ q. let z : _≡_ {A = Option ℕ} none (some x) = rw q at e in clash (cc))
 
-  not-read : (j : ℕ) → isServer (settingsOf t) (suc j) && isReading (c .phase) ≡ false → reading j ≡ false
-  not-read j e = ap (λ (b : Bool). b && isReading (c .phase)) (sym (server-place t j)) ∙ e
+  not-read : (j : ℕ) → isServer (settingsOf t) (suc j) && isReading ph ≡ false → reading j ≡ false
+  not-read j e = ap (λ (b : Bool). b && isReading ph) (sym (server-place t j)) ∙ e
 
-  noted-unused : (k : ℕ) → isServer (settingsOf t) k && isReading (c .phase) ≡ false → notedIn l k ≡ none
+  noted-unused : (k : ℕ) → isServer (settingsOf t) k && isReading ph ≡ false → notedIn l k ≡ none
   unfolding notedIn noteOf
   noted-unused zero e = refl
   noted-unused (suc j) e =
@@ -158,7 +146,7 @@ module _ (t : Settings) (i : ℕ) (c : Session) (l : List ℕ) (h : isClientSoun
       noted-at l j less ∙ ap noteOf z)
       (λ q. rw q)
 
-  sets-unused : (k : ℕ) → isServer (settingsOf t) k && isReading (c .phase) ≡ false → setIn l k ≡ []
+  sets-unused : (k : ℕ) → isServer (settingsOf t) k && isReading ph ≡ false → setIn l k ≡ []
   unfolding setIn
   sets-unused zero e = refl
   sets-unused (suc j) e =
@@ -182,23 +170,24 @@ module _ (t : Settings) (i : ℕ) (c : Session) (l : List ℕ) (h : isClientSoun
   acks-unused : (k : ℕ) → isServer (settingsOf t) k ≡ false → ackIn l k ≡ false
   unfolding ackIn
   acks-unused zero e = refl
-  acks-unused (suc j) e = ack-none j (ap (λ (b : Bool). b && stores (c .phase)) (sym (server-place t j) ∙ e))
+  acks-unused (suc j) e = ack-none j (ap (λ (b : Bool). b && stores ph) (sym (server-place t j) ∙ e))
 
-  acks-idle : ((e : Entry) (w : WriteCounter) → c .phase ≡ Storing e w → ⊥) → (k : ℕ) → ackIn l k ≡ false
+  acks-idle : ((e : Entry) (w : WriteCounter) → ph ≡ Storing e w → ⊥) → (k : ℕ) → ackIn l k ≡ false
   unfolding ackIn
   acks-idle apart zero = refl
   acks-idle apart (suc j) =
       ack-none j
-      (ap (λ (b : Bool). ltb j (3 * t .f + 1) && b) (no-store (c .phase) apart)
+      (ap (λ (b : Bool). ltb j (3 * t .f + 1) && b) (no-store ph apart)
       ∙ and-false (ltb j (3 * t .f + 1)) false refl)
 
-  module _ (words : (x : ℕ) → x < 91 → getD l x 0 < 2 ^ 64) where
+  module _ (words : (x : ℕ) → x < 95 → getD m x 0 < 2 ^ 64) where
     set-pairs : (j : ℕ) → j < 13 → (p : Pair) → Member p (setIn l (suc j)) → p .0 < 2 ^ 64
     set-pairs j less =
         every-at (λ p. p .0 < 2 ^ 64) (setIn l (suc j))
         (every-place (λ p. p .0 < 2 ^ 64) initial (setIn l (suc j))
         (λ x inside. let few = size-most l j (memory .long) less in
-        rw (pair-at l j (memory .long) less x initial inside) (words (39 + j * 4 + x) (omega arith))))
+        rw (pair-at l j (memory .long) less x initial inside, getD-drop 4 m (39 + j * 4 + x) 0)
+        (words (4 + (39 + j * 4 + x)) (omega arith))))
 
     sets : (k : ℕ) → WellSet (setIn l k)
     unfolding setIn
@@ -213,11 +202,11 @@ module _ (t : Settings) (i : ℕ) (c : Session) (l : List ℕ) (h : isClientSoun
         })
         (λ q. rw q empty-set)
 
-    pub well-client : WellClient (settingsOf t) formats (clientIn c l)
+    pub well-client : WellClient (settingsOf t) formats (view m)
     well-client =
         record {
-          phase = own .1;
-          reads = own .0;
+          phase = well-phase ph (known .head .sound);
+          reads = rw small-reads (known .reads);
           noted = noted;
           sets = sets;
           notedUnused = noted-unused;
@@ -226,26 +215,26 @@ module _ (t : Settings) (i : ℕ) (c : Session) (l : List ℕ) (h : isClientSoun
           acksIdle = acks-idle;
         }
 
-  pub unused-client : ltb i (t .clients) ≡ false → clientIn c l ≡ newClient
+  pub unused-client : ltb i (t .clients) ≡ false → view m ≡ newClient
   unfolding isReading
   unused-client e =
-      let p = at-rest e in
-      let quiet : (k : ℕ) → isServer (settingsOf t) k && isReading (c .phase) ≡ false =
-      λ k. ap (λ (ph : Phase). isServer (settingsOf t) k && isReading ph) (p .0)
+      let p = idle e in
+      let quiet : (k : ℕ) → isServer (settingsOf t) k && isReading ph ≡ false =
+      λ k. ap (λ (x : Phase). isServer (settingsOf t) k && isReading x) p
       ∙ and-false (isServer (settingsOf t) k) false refl in
-      let apart : (x : Entry) (w : WriteCounter) → c .phase ≡ Storing x w → ⊥ =
-      λ x w z. let q : Idle ≡ Storing x w = sym (p .0) ∙ z in clash (cc) in
+      let apart : (x : Entry) (w : WriteCounter) → ph ≡ Storing x w → ⊥ =
+      λ x w z. let q : Idle ≡ Storing x w = sym p ∙ z in clash (cc) in
       let notes : notedIn l ≡ (λ (k : ℕ). none) = fun-ext (λ k. noted-unused k (quiet k)) in
       let pairs : setIn l ≡ (λ (k : ℕ). []) = fun-ext (λ k. sets-unused k (quiet k)) in
       let acks : ackIn l ≡ (λ (k : ℕ). false) = fun-ext (acks-idle apart) in
+      let zero-reads : getD m 0 0 % 2 ^ 32 ≡ 0 = small-reads ∙ at-rest e .0 in
       λ q. record {
-        phase = p .0 q;
-        reads = record { 0 = p .1 q };
+        phase = p q;
+        reads = record { 0 = zero-reads q };
         noted = notes q;
         sets = pairs q;
         acks = acks q;
       }
 
-  pub replies-back : storeReplies (clientIn c l) ≡ l
-  replies-back =
-      store-held (3 * t .f + 1) (isReading (c .phase)) (stores (c .phase)) l memory (c .phase) (c .reads)
+  pub client-back : store (view m) ≡ m
+  client-back = store-view (t .f) m (parts .0)

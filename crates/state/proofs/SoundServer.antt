@@ -1,25 +1,28 @@
--- A sound server's place: it holds a well-formed server, the server at setup where it is not used, and
--- storing what is seen there gives it back.
+-- A sound server's memory: it holds a well-formed server, the server at setup where it is not used, and storing what it holds
+-- gives it back.
 --
 -- A set below 2 ^ n has no member above n (`outside`), and a set with no member above n is below 2 ^ n
 -- (`set-fits`).
 -- Assumes nothing.
 use mathlib.Core.Path.{_≡_, refl, ap, fun-ext, _∙_}
-use mathlib.Core.Bool.{Bool, true, false, not, _&&_}
-use Prim.Native.Nat.{ℕ, zero, suc, _+_, _*_, _%_, _^_, _≤_, _<_}
+use mathlib.Core.Bool.{Bool, true, false, _&&_}
+use mathlib.Core.List.{List}
+use Prim.Native.Nat.{ℕ, zero, suc, _%_, _^_, _≤_, _<_}
 use native.Mathlib.Nat.{lt-of-lt-of-le, zero-mul, add-zero, mod-eq-of-lt}
 use native.Mathlib.Omega.{arith}
 use lib.Dec.{eqb, ltb}
+use lib.ListN.{length, getD}
 use lib.Pow.{pow-pos, pow-mono}
-use borrow.Author.Tests.{eqb-true, eqb-false, ltb-true, ltb-false, lt-ltb, le-ltb, le-leb}
+use borrow.Author.Tests.{eqb-true, eqb-false, eq-eqb, ltb-true, ltb-false, lt-ltb, le-ltb, le-leb}
 use Rattle.basics.proofs.Cases.{by-test, both, both-of, true-or-false}
 use Rattle.register.specs.Server as model
-use Rattle.register.specs.Settings.{isClient, isServer, isHonest}
+use Rattle.register.specs.Settings.{isClient, isHonest}
 use Rattle.register.proofs.WellFormed.{WellServer}
-use Rattle.server.specs.declared.Server.{Server}
-use Rattle.server.specs.State.{contains, setOf, view, store, sound}
+use Rattle.server.specs.State.{contains, setOf}
+use Rattle.server.specs.State as value
+use Rattle.server.specs.Memory.{loaded, numbersOf, view, store, isSound}
 use Rattle.server.proofs.Sets.{set-lt, set-above}
-use Rattle.server.proofs.Views.{store-view}
+use Rattle.server.proofs.Memory.{store-view}
 use Rattle.state.specs.declared.Settings.{Settings}
 use Rattle.state.specs.State.{settingsOf, isOf}
 use Rattle.state.specs.Sound.{isServerSound}
@@ -48,28 +51,12 @@ set-fits p n (suc k) h none-above =
 pub below-six : (n set : ℕ) → n ≤ 6 → set < 2 ^ n → set < 64
 below-six n set h small = lt-of-lt-of-le small (pow-mono {i = n} {j = 6} h)
 
--- a bit of the code
-pub bit-is : (n : ℕ) → n ≤ 6 → 1 * 2 ^ n % 256 ≡ 2 ^ n
-bit-is n h =
-    let top : 2 ^ n ≤ 64 = pow-mono {i = n} {j = 6} h in
-    let e : 1 * 2 ^ n ≡ 2 ^ n = omega arith in
-    rw e (mod-eq-of-lt {n = 2 ^ n} {m = 256} (omega arith))
-
 -- ---- who is there, by places
 
 module _ (t : Settings) where
-  pub server-place : (j : ℕ) → isServer (settingsOf t) (suc j) ≡ ltb j (3 * t .f + 1)
-  unfolding isServer settingsOf
-  server-place j = rw (le-leb 1 (suc j) (omega arith))
-
   pub client-place : (i : ℕ) → isClient (settingsOf t) (suc i) ≡ ltb i (t .clients)
   unfolding isClient settingsOf
   client-place i = rw (le-leb 1 (suc i) (omega arith))
-
-  pub honest-place : (j : ℕ)
-      → isHonest (settingsOf t) (suc j) ≡ ltb j (3 * t .f + 1) && not (contains (t .faulty) (suc j))
-  unfolding isHonest settingsOf
-  honest-place j = rw (server-place j)
 
   -- no one else is in a set below 2 ^ clients
   pub no-client : (set : ℕ) → set < 2 ^ t .clients → (d : ℕ) → isClient (settingsOf t) d ≡ false
@@ -77,51 +64,56 @@ module _ (t : Settings) where
   unfolding isClient settingsOf
   no-client set small d e = outside (t .clients) set small d e
 
--- ---- a server's place
+-- ---- a server's memory m at place j
 
-module _ (t : Settings) (j : ℕ) (v : Server) (h : isServerSound t j v ≡ true) where
+module _ (t : Settings) (six : t .clients ≤ 6) (j : ℕ) (m : List ℕ)
+    (h : isServerSound t j (getD m 0 0) (getD m 1 0) ≡ true) where
+  abbrev p : ℕ
+  p = getD m 0 0
+
+  abbrev r : ℕ
+  r = getD m 1 0
+
   record Held : Type 0 where
-    pair : v .pair .0 < 2 ^ 64
-    readers : v .readers < 2 ^ t .clients
+    pair : p < 2 ^ 64
+    readers : r < 2 ^ t .clients
 
-  unused : isHonest (settingsOf t) (suc j) ≡ false → (v .pair .0 ≡ 0) × (v .readers ≡ 0)
+  unused : isHonest (settingsOf t) (suc j) ≡ false → (p ≡ 0) × (r ≡ 0)
   unfolding isServerSound
-  unused e =
-      let p = both (eqb (v .pair .0) 0) (eqb (v .readers) 0) (rw e at h) in
-      (eqb-true (v .pair .0) 0 (p .0), eqb-true (v .readers) 0 (p .1))
+  unused e = let q = both (eqb p 0) (eqb r 0) (rw e at h) in (eqb-true p 0 (q .0), eqb-true r 0 (q .1))
 
   held : Held
   unfolding isServerSound
   held =
       by-test (isHonest (settingsOf t) (suc j))
-      (λ e. let p = both (ltb (v .pair .0) (2 ^ 64)) (ltb (v .readers) (2 ^ t .clients)) (rw e at h) in
-      record {
-        pair = ltb-true (v .pair .0) (2 ^ 64) (p .0);
-        readers = ltb-true (v .readers) (2 ^ t .clients) (p .1);
-      })
-      (λ e. let p = unused e in
+      (λ e. let q = both (ltb p (2 ^ 64)) (ltb r (2 ^ t .clients)) (rw e at h) in
+      record { pair = ltb-true p (2 ^ 64) (q .0); readers = ltb-true r (2 ^ t .clients) (q .1) })
+      (λ e. let q = unused e in
       let positive : 0 < 2 ^ t .clients = pow-pos (t .clients) in
-      record { pair = omega (arith, p .0); readers = omega (arith, p .1, positive) })
+      record { pair = omega (arith, q .0); readers = omega (arith, q .1, positive) })
 
-  pub well-server : WellServer (settingsOf t) (view v)
-  unfolding view
-  well-server = record { pair = held .pair; readers = no-client t (v .readers) (held .readers) }
+  small : r < 64
+  small = below-six (t .clients) r six (held .readers)
 
-  pub unused-server : isHonest (settingsOf t) (suc j) ≡ false → view v ≡ model.newServer
-  unfolding view
+  low-byte : r % 2 ^ 8 ≡ r
+  low-byte = let few = small in mod-eq-of-lt (omega arith)
+
+  pub well-server : WellServer (settingsOf t) (view m)
+  unfolding view loaded value.view
+  well-server = record { pair = held .pair; readers = no-client t (r % 2 ^ 8) (rw low-byte (held .readers)) }
+
+  pub unused-server : isHonest (settingsOf t) (suc j) ≡ false → view m ≡ model.newServer
+  unfolding view loaded value.view
   unused-server e =
-      let p = unused e in
-      let small : v .readers < 2 ^ 0 = omega (arith, p .1) in
-      let nobody : contains (v .readers) ≡ (λ (d : ℕ). false) =
-      fun-ext (λ d. outside 0 (v .readers) small d (range-none d)) in
-      λ i. record { pair = record { 0 = p .0 i }; readers = nobody i }
+      let q = unused e in
+      let none-left : r % 2 ^ 8 < 2 ^ 0 = rw (low-byte, q .1) (omega arith) in
+      let nobody : contains (r % 2 ^ 8) ≡ (λ (d : ℕ). false) =
+      fun-ext (λ d. outside 0 (r % 2 ^ 8) none-left d (range-none d)) in
+      λ i. record { pair = record { 0 = q .0 i }; readers = nobody i }
 
-  pub server-sound : t .clients ≤ 6 → sound v ≡ true
-  unfolding sound
-  server-sound six = lt-ltb (v .readers) 64 (below-six (t .clients) (v .readers) six (held .readers))
-
-  pub server-back : t .clients ≤ 6 → store (view v) ≡ v
-  server-back six = store-view v (server-sound six)
+  pub server-back : length m ≡ 2 → store (view m) ≡ m
+  unfolding isSound
+  server-back long = store-view m (both-of (eqb (length m) 2) (ltb r 64) (eq-eqb (length m) 2 long) (lt-ltb r 64 small))
 
 -- ---- a stored server
 
@@ -130,8 +122,9 @@ unfolding setOf
 none-set = refl
 
 pub stored-server : (t : Settings) (j : ℕ) (x : model.Server) → t .clients ≤ 6 → WellServer (settingsOf t) x
-    → (isHonest (settingsOf t) (suc j) ≡ false → x ≡ model.newServer) → isServerSound t j (store x) ≡ true
-unfolding isServerSound store
+    → (isHonest (settingsOf t) (suc j) ≡ false → x ≡ model.newServer)
+    → isServerSound t j (getD (store x) 0 0) (getD (store x) 1 0) ≡ true
+unfolding isServerSound store numbersOf value.store
 stored-server t j x six well empty =
     by-test (isHonest (settingsOf t) (suc j))
     (λ e. rw e

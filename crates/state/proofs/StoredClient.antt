@@ -1,27 +1,33 @@
 -- A client is found again in its phase, its read number and its stored replies.
 --
--- Its noted timestamps, the sizes of its sets, its acknowledgements and the pairs of its sets are the four
--- rows of its replies. What a memory shows of a server is read from these rows; of what is no server it shows
--- nothing, and the client holds nothing.
+-- Its noted timestamps, the sizes of its sets, its acknowledgements and the pairs of its sets are the four rows of its replies. What
+-- a memory shows of a server is read from these rows; of what is no server it shows nothing, and the client holds nothing. A
+-- well-formed phase is sound (`sound-phase`), so its numbers make it again.
 -- Assumes nothing.
 use mathlib.Core.Path.{_≡_, refl, sym, ap, fun-ext, _∙_}
 use mathlib.Core.Bool.{Bool, true, false, not}
 use mathlib.Core.List.{List, [], _++_}
 use mathlib.Core.Option.{Option, none, some}
-use Prim.Native.Nat.{ℕ, zero, suc, _+_, _*_, _/_, _%_, _≤_, _<_}
+use Prim.Native.Nat.{ℕ, zero, suc, _+_, _*_, _/_, _%_, _^_, _≤_, _<_}
 use native.Mathlib.Omega.{arith}
 use lib.Dec.{eqb, ltb}
 use lib.ListN.{length, getD, List·getD-append, length-append}
 use lib.Seq.{getD-append-add, ext-getD}
 use mir.Val.{boolByte}
-use borrow.Author.Tests.{ltb-true, ltb-false}
-use Rattle.basics.proofs.Cases.{by-test}
+use borrow.Author.Tests.{ltb-true, ltb-false, lt-ltb}
+use Rattle.basics.proofs.Cases.{by-test, both-of}
+use Rattle.licence.specs.Entry.{isLicence}
 use Rattle.message.specs.Pair.{initial}
+use Rattle.register.specs.declared.Phase.{Phase}
+use Rattle.register.specs.declared.Phase.the-variants.{Idle, Reading, ReadingForWrite, Storing}
 use Rattle.register.specs.Client.{Client}
+use Rattle.register.specs.Formats.{formats}
+use Rattle.register.proofs.WellFormed.{WellPhase}
 use Rattle.replies.specs.Replies.{noteOf, noteWord, pairWord, notedIn, setIn, ackIn, held, row, storeReplies}
 use Rattle.replies.proofs.Places.{noted-at, ack-at, size-below, pair-at}
 use Rattle.replies.proofs.Placing.{pair-word}
 use Rattle.replies.proofs.Stores.{row-length, row-at}
+use Rattle.client.specs.Sound.{isSoundPhase}
 use Rattle.state.specs.State.{isOf}
 use Rattle.state.proofs.Ranges.{over-range}
 
@@ -56,6 +62,14 @@ module _ (a b c d : List ℕ) (la : length a ≡ 13) (lb : length b ≡ 13) (lc 
       ap (λ (n : ℕ). getD (a ++ b ++ c ++ d) (n + i) 0) (sym three) ∙ getD-append-add (a ++ b ++ c) d i 0
 
 -- ---- a client
+
+pub sound-phase : (p : Phase) → WellPhase formats p → isSoundPhase p ≡ true
+unfolding isSoundPhase
+sound-phase Idle h = refl
+sound-phase Reading h = refl
+sound-phase (ReadingForWrite e) h = h
+sound-phase (Storing e c) h =
+    both-of (isLicence (e .0)) (ltb (c .0) (2 ^ 20)) (h .0) (lt-ltb (c .0) (2 ^ 20) (h .1))
 
 -- what it holds is of servers 1 to 13, and no set is longer than its place
 pub record Placed (x : Client) : Type 0 where

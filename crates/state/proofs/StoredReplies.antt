@@ -32,7 +32,7 @@ use Rattle.state.specs.declared.Settings.{Settings}
 use Rattle.register.specs.Formats.{formats}
 use Rattle.state.specs.State.{settingsOf}
 use Rattle.state.proofs.Orders.{ordered-rising, place-every, every-join}
-use Rattle.state.proofs.SoundServer.{server-place}
+use Rattle.state.proofs.Tested.{server-place}
 use Rattle.state.proofs.StoredClient.{stored-length, note-word, size-word, ack-word, word-at}
 use Rattle.state.proofs.StoredClient.{set-found}
 

@@ -1,7 +1,7 @@
 -- Sets of clients and servers are found again in what is stored of them.
 --
--- A set of clients 1 to 6 is its bits (`set-is`), so the stopped clients are, and a server's readers. A
--- stored server then sends what the server sends (`sends-is`).
+-- A set of clients 1 to 6 is its bits (`set-is`), so the stopped clients are, and a server's readers. What a step loads of a stored
+-- server (`loaded-is`) then sends what the server sends (`sends-is`).
 -- Assumes nothing.
 use mathlib.Core.Path.{_≡_, refl, sym, ap, fun-ext, _∙_}
 use mathlib.Core.Bool.{Bool, false}
@@ -20,9 +20,12 @@ use Rattle.register.specs.Steps.{Formats}
 use Rattle.register.specs.World.{World}
 use Rattle.register.proofs.Bounds.{client-small}
 use Rattle.register.proofs.WellFormed.{WellServer, WellFormed}
-use Rattle.server.specs.State.{contains, setOf, view, store}
+use Rattle.server.specs.State.{contains, setOf}
+use Rattle.server.specs.State as value
+use Rattle.server.specs.Memory.{loaded, view, store}
 use Rattle.server.specs.Taking.{sentBy, sendsOf}
 use Rattle.server.proofs.Sets.{set-lt, set-of, set-above}
+use Rattle.server.proofs.Memory.{loaded-numbers}
 use Rattle.state.specs.State.{isOf, storeStopped}
 use Rattle.state.proofs.Ranges.{of-range, over-range}
 
@@ -37,6 +40,11 @@ set-is p none-else = fun-ext each
         (λ h. let over : 6 ≤ i = ltb-false i 6 h in
         set-above (setOf p 6) 6 i (set-lt p 6) over
         ∙ sym (none-else (suc i) (over-range 6 (suc i) (omega arith))))
+
+-- what a step loads of a stored server
+pub loaded-is : (s : Server) → loaded (store s) ≡ value.store s
+unfolding store value.store
+loaded-is s = loaded-numbers (value.store s) (let small = set-lt (s .readers) 6 in omega arith)
 
 module _ (S : Settings) (accepted : Accepted S) where
   -- clients are among 1 to 6
@@ -55,11 +63,11 @@ module _ (S : Settings) (accepted : Accepted S) where
     readers-is = set-is (s .readers) (λ d h. well .readers d (no-client d h))
 
     pub server-is : view (store s) ≡ s
-    unfolding view store
-    server-is = λ i. record { pair = s .pair; readers = readers-is i }
+    unfolding view value.view value.store
+    server-is = ap value.view (loaded-is s) ∙ (λ i. record { pair = s .pair; readers = readers-is i })
 
-    pub sends-is : (d : ℕ) (m : Message) → sentBy d (sendsOf (store s) m) ≡ serverSends s d m
-    unfolding sentBy sendsOf store serverSends
+    pub sends-is : (d : ℕ) (m : Message) → sentBy d (sendsOf (value.store s) m) ≡ serverSends s d m
+    unfolding sentBy sendsOf value.store serverSends
     sends-is d (GetInfo t) = refl
     sends-is d Done = refl
     sends-is d (WriteInfo p) =

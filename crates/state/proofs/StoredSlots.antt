@@ -11,8 +11,6 @@ use lib.Dec.{ltb}
 use lib.ListN.{length}
 use borrow.Author.Tests.{ltb-true, ltb-false}
 use Rattle.basics.specs.Tests.{all}
-use Rattle.message.specs.Layout.{bytesOf}
-use Rattle.message.proofs.RoundTrip.{packed-length}
 use Rattle.register.specs.Settings.{Settings}
 use Rattle.register.specs.Steps.{Formats}
 use Rattle.register.specs.World.{World}
@@ -41,9 +39,9 @@ module _ (S : Settings) (F : Formats) (w : World) (well : WellFormed S F w) wher
       (λ e. suits-up c _ (ltb-true c 78 e) (well .up _ _))
       (λ e. suits-down c _ (ltb-false c 78 e) (well .down _ _))
 
-  pub slots-long : length (storeSlots w) ≡ 13884
+  pub slots-long : length (storeSlots w) ≡ 2652
   unfolding storeSlots
-  slots-long = layout-length bytesOf packed-length (channelOf w) fits
+  slots-long = layout-length (channelOf w) fits
 
   pub slots-sound : sound (storeSlots w) ≡ true
   unfolding storeSlots

@@ -5,7 +5,6 @@
 -- Assumes nothing.
 use mathlib.Core.Path.{_≡_, sym, ap, _∙_}
 use mathlib.Core.Bool.{true, false, _&&_}
-use mathlib.Core.List.{List}
 use Prim.Native.Nat.{ℕ, _-_, _≤_}
 use native.Mathlib.Omega.{arith}
 use Rattle.basics.proofs.Cases.{by-test, by-either, both, one-fails, true-or-false}
@@ -14,17 +13,17 @@ use Rattle.register.specs.Settings.{Accepted, isServer, isClient, isHonest}
 use Rattle.register.specs.World.{World}
 use Rattle.register.proofs.Bounds.{bounds, honest-server, server-range}
 use Rattle.register.proofs.WellFormed.{WellFormed}
-use Rattle.server.specs.State as server
-use Rattle.replies.specs.Replies.{held}
+use Rattle.server.specs.State.{contains}
+use Rattle.client.specs.Memory as client
+use Rattle.client.proofs.Heads.{counter-fits}
+use Rattle.client.proofs.Memory.{view-store}
 use Rattle.state.specs.declared.Settings.{Settings}
-use Rattle.state.specs.State.{settingsOf, upIndex, downIndex, isOf, repliesAt, clientIn, sessionOf}
-use Rattle.state.specs.State.{channelOf}
-use Rattle.state.specs.State.{emptyServer, emptySession, storeSlots, storeAllReplies, storeSystem, view}
+use Rattle.state.specs.State.{settingsOf, stoppedIn, clientAt, upIndex, downIndex, isOf, channelOf}
+use Rattle.state.specs.State.{storeServers, storeClients, storeSlots, view}
 use Rattle.state.proofs.Ranges.{and-false, in-range, of-range}
 use Rattle.state.proofs.Channels.{Inside, up-entry, down-entry, up-inside, down-inside}
-use Rattle.state.proofs.Numbered.{numbered-at}
-use Rattle.state.proofs.Replies.{replies-read}
-use Rattle.state.proofs.StoredClient.{Placed, held-client}
+use Rattle.state.proofs.StoredClient.{Placed, held-client, sound-phase}
+use Rattle.state.proofs.StoredParts.{server-at, client-at, stopped-at}
 use Rattle.state.proofs.StoredServer.{no-client, stopped-is, server-is}
 use Rattle.state.proofs.StoredSlots.{channel-found}
 
@@ -50,37 +49,38 @@ module _ (t : Settings) (accepted : Accepted (settingsOf t)) (w : World)
         acks = λ k h. x .acksUnused k (no-server k h);
       }
 
-  pub client-is : (d : ℕ) → 1 ≤ d → d ≤ 6
-      → clientIn (sessionOf (w .clients d)) (repliesAt (storeAllReplies w) (d - 1)) ≡ w .clients d
-  unfolding storeAllReplies
-  client-is d low high =
-      ap (λ (l : List ℕ). held (w .clients d .phase) (w .clients d .reads) l)
-      (replies-read (w .clients) d low high)
-      ∙ held-client (w .clients d) (placed d)
+  pub client-again : (d : ℕ) → client.view (client.store (w .clients d)) ≡ w .clients d
+  client-again d =
+      let x = well .client d in
+      let small = x .reads in
+      view-store (w .clients d) (counter-fits (w .clients d .phase) (sound-phase (w .clients d .phase) (x .phase)))
+      (omega arith) (held-client (w .clients d) (placed d))
+
+  -- what the memory of client d shows
+  pub client-is : (d : ℕ) → 1 ≤ d → d ≤ 6 → client.view (clientAt (storeClients w) (d - 1)) ≡ w .clients d
+  client-is d low high = ap client.view (client-at w d low high) ∙ client-again d
 
   no-honest : (k : ℕ) → isServer (settingsOf t) k ≡ false → isHonest (settingsOf t) k ≡ false
   no-honest k h =
       by-test (isHonest (settingsOf t) k)
       (λ e. absurd (true-or-false (isServer (settingsOf t) k) (honest-server (settingsOf t) k e) h)) (λ e. e)
 
-  servers-found : (k : ℕ) → view (storeSystem t w) (storeSlots w) (storeAllReplies w) .servers k
+  servers-found : (k : ℕ) → view (storeServers w) (storeClients w) (storeSlots w) .servers k
       ≡ w .servers k
-  unfolding view storeSystem
+  unfolding view
   servers-found k =
       by-test (isOf 13 k)
       (λ e. let r = in-range 13 k e in
-      rw (e, numbered-at 13 k (r .0) (r .1) (λ j. server.store (w .servers j)) emptyServer)
-      (server-is (settingsOf t) accepted (w .servers k) (well .server k)))
+      rw (e, server-at w k (r .0) (r .1)) (server-is (settingsOf t) accepted (w .servers k) (well .server k)))
       (λ e. rw e (sym (well .serverUnused k (no-honest k (no-server k e)))))
 
-  clients-found : (d : ℕ) → view (storeSystem t w) (storeSlots w) (storeAllReplies w) .clients d
+  clients-found : (d : ℕ) → view (storeServers w) (storeClients w) (storeSlots w) .clients d
       ≡ w .clients d
-  unfolding view storeSystem
+  unfolding view
   clients-found d =
       by-test (isOf 6 d)
       (λ e. let r = in-range 6 d e in
-      rw (e, numbered-at 6 d (r .0) (r .1) (λ c. sessionOf (w .clients c)) emptySession)
-      (client-is d (r .0) (r .1)))
+      rw e (client-is d (r .0) (r .1)))
       (λ e. rw e (sym (well .clientUnused d (no-client (settingsOf t) accepted d e))))
 
   -- ---- channels
@@ -93,7 +93,7 @@ module _ (t : Settings) (accepted : Accepted (settingsOf t)) (w : World)
         let s = in-range 13 k (b .1) in
         record { low = c .0; high = c .1; first = s .0; last = s .1 }
 
-    up-found : view (storeSystem t w) (storeSlots w) (storeAllReplies w) .up d k ≡ w .up d k
+    up-found : view (storeServers w) (storeClients w) (storeSlots w) .up d k ≡ w .up d k
     unfolding view channelOf
     up-found =
         by-test (isOf 6 d && isOf 13 k)
@@ -111,7 +111,7 @@ module _ (t : Settings) (accepted : Accepted (settingsOf t)) (w : World)
             (λ a. rw (no-client (settingsOf t) accepted d a))
             (λ a. and-false (isClient (settingsOf t) d) _ (no-honest k (no-server k a)))
 
-    down-found : view (storeSystem t w) (storeSlots w) (storeAllReplies w) .down d k ≡ w .down d k
+    down-found : view (storeServers w) (storeClients w) (storeSlots w) .down d k ≡ w .down d k
     unfolding view channelOf
     down-found =
         by-test (isOf 6 d && isOf 13 k)
@@ -129,13 +129,16 @@ module _ (t : Settings) (accepted : Accepted (settingsOf t)) (w : World)
             (λ a. rw (no-client (settingsOf t) accepted d a))
             (λ a. and-false (isClient (settingsOf t) d) _ (no-server k a))
 
-  pub view-stored : view (storeSystem t w) (storeSlots w) (storeAllReplies w) ≡ w
-  unfolding view storeSystem
+  stopped-found : contains (stoppedIn (storeClients w)) ≡ w .stopped
+  stopped-found = ap contains (stopped-at w) ∙ stopped-is (settingsOf t) accepted formats w well
+
+  pub view-stored : view (storeServers w) (storeClients w) (storeSlots w) ≡ w
+  unfolding view
   view-stored =
       λ i. record {
         servers = λ k. servers-found k i;
         clients = λ d. clients-found d i;
-        stopped = stopped-is (settingsOf t) accepted formats w well i;
+        stopped = stopped-found i;
         up = λ d k. up-found d k i;
         down = λ d k. down-found d k i;
       }

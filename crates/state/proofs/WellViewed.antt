@@ -6,11 +6,9 @@
 use mathlib.Core.Path.{_≡_, refl, sym, ap, _∙_}
 use mathlib.Core.Bool.{Bool, true, false, cond, not, _&&_, _||_}
 use mathlib.Core.List.{List, []}
-use Prim.Native.Nat.{ℕ, suc, _+_, _-_, _*_, _≤_, _<_}
+use Prim.Native.Nat.{ℕ, _+_, _-_, _≤_, _<_}
 use native.Mathlib.Omega.{arith}
 use lib.Dec.{eqb}
-use lib.ListN.{getD, drop}
-use lib.Seq.{getD-take, getD-drop}
 use borrow.Author.Tests.{eqb-true}
 use Rattle.basics.proofs.Cases.{both}
 use Rattle.register.specs.Client.{newClient}
@@ -24,15 +22,15 @@ use Rattle.register.proofs.WellFormed.{WellFormed}
 use Rattle.channel.specs.Memory.{countAt}
 use Rattle.channel.specs.Sound.{messages}
 use Rattle.server.specs.State.{contains}
-use Rattle.server.specs.State as server
+use Rattle.server.specs.Memory as server
+use Rattle.client.specs.Memory as client
 use Rattle.state.specs.declared.Settings.{Settings}
-use Rattle.state.specs.declared.System.{System}
 use Rattle.register.specs.Formats.{formats}
-use Rattle.state.specs.State.{settingsOf, upIndex, downIndex, repliesAt, clientIn, isOf, emptyServer}
-use Rattle.state.specs.State.{emptySession, view}
+use Rattle.state.specs.State.{settingsOf, serverAt, stoppedIn, clientStart, clientAt, upIndex, downIndex, isOf, view}
 use Rattle.state.specs.Sound.{usesUp, usesDown, isLinkSound}
-use Rattle.state.proofs.Ranges.{and-false, in-range}
-use Rattle.state.proofs.SoundFacts.{Facts}
+use Rattle.state.proofs.Ranges.{and-false, in-range, back-one}
+use Rattle.state.proofs.StoredParts.{part-get}
+use Rattle.state.proofs.SoundFacts.{Facts, most-six}
 use Rattle.state.proofs.SoundServer.{client-place, no-client, well-server, unused-server}
 use Rattle.state.proofs.SoundClient.{or-first, well-client, unused-client}
 use Rattle.state.proofs.SoundChannels.{well-up, well-down, no-messages}
@@ -43,62 +41,55 @@ pub pick : {A : Type 0} (P : A → Type 0) (t : Bool) (x y : A) → (t ≡ true 
 pick P true x y f g = f refl
 pick P false x y f g = g refl
 
-pub back-one : (d : ℕ) → 1 ≤ d → suc (d - 1) ≡ d
-back-one d h = omega arith
-
--- the numbers of a client's replies
-pub reply-at : (r : List ℕ) (i x : ℕ) → x < 91 → getD (repliesAt r i) x 0 ≡ getD r (i * 91 + x) 0
-reply-at r i x h = getD-take 91 (drop (i * 91) r) x 0 h ∙ getD-drop (i * 91) r x 0
-
-module _ (s : System) (b r : List ℕ) (f : Facts s b r) where
-  abbrev t : Settings
-  t = s .settings
-
+module _ (t : Settings) (s c b : List ℕ) (f : Facts t s c b) where
   abbrev S : register.Settings
-  S = settingsOf (s .settings)
+  S = settingsOf t
+
+  six : t .clients ≤ 6
+  six = most-six t s c b f
 
   new : WellFormed S formats newWorld
   new = well-new S formats
 
   -- ---- servers
 
-  server-well : (k : ℕ) → WellServer S (view s b r .servers k)
+  server-well : (k : ℕ) → WellServer S (view s c b .servers k)
   unfolding view
   server-well k =
-      pick (WellServer S) (isOf 13 k) (server.view (getD (s .servers) (k - 1) emptyServer)) newServer
+      pick (WellServer S) (isOf 13 k) (server.view (serverAt s (k - 1))) newServer
       (λ e. let q = in-range 13 k e in
-      well-server t (k - 1) (getD (s .servers) (k - 1) emptyServer) (f .server (k - 1) (omega (arith, q))))
+      well-server t six (k - 1) (serverAt s (k - 1)) (f .server (k - 1) (omega (arith, q))))
       (λ e. new .server k)
 
-  server-unused : (k : ℕ) → isHonest S k ≡ false → view s b r .servers k ≡ newServer
+  server-unused : (k : ℕ) → isHonest S k ≡ false → view s c b .servers k ≡ newServer
   unfolding view
   server-unused k h =
-      pick (λ x. x ≡ newServer) (isOf 13 k) (server.view (getD (s .servers) (k - 1) emptyServer)) newServer
+      pick (λ x. x ≡ newServer) (isOf 13 k) (server.view (serverAt s (k - 1))) newServer
       (λ e. let q = in-range 13 k e in
-      unused-server t (k - 1) (getD (s .servers) (k - 1) emptyServer) (f .server (k - 1) (omega (arith, q)))
+      unused-server t six (k - 1) (serverAt s (k - 1)) (f .server (k - 1) (omega (arith, q)))
       (ap (isHonest S) (back-one k (q .0)) ∙ h))
       (λ e. refl)
 
   -- ---- clients
 
-  client-well : (d : ℕ) → WellClient S formats (view s b r .clients d)
+  client-well : (d : ℕ) → WellClient S formats (view s c b .clients d)
   unfolding view
   client-well d =
       pick (WellClient S formats) (isOf 6 d)
-      (clientIn (getD (s .clients) (d - 1) emptySession) (repliesAt r (d - 1))) newClient
+      (client.view (clientAt c (d - 1))) newClient
       (λ e. let q = in-range 6 d e in
-      well-client t (d - 1) (getD (s .clients) (d - 1) emptySession) (repliesAt r (d - 1))
+      well-client t (d - 1) (clientAt c (d - 1))
       (f .client (d - 1) (omega (arith, q)))
-      (λ x less. rw (reply-at r (d - 1) x less) (f .words ((d - 1) * 91 + x) (omega (arith, q)))))
+      (λ x less. rw (part-get c (clientStart (d - 1)) 95 x less) (f .words (clientStart (d - 1) + x) (omega (arith, q)))))
       (λ e. new .client d)
 
-  client-unused : (d : ℕ) → isClient S d ≡ false → view s b r .clients d ≡ newClient
+  client-unused : (d : ℕ) → isClient S d ≡ false → view s c b .clients d ≡ newClient
   unfolding view
   client-unused d h =
       pick (λ x. x ≡ newClient) (isOf 6 d)
-      (clientIn (getD (s .clients) (d - 1) emptySession) (repliesAt r (d - 1))) newClient
+      (client.view (clientAt c (d - 1))) newClient
       (λ e. let q = in-range 6 d e in
-      unused-client t (d - 1) (getD (s .clients) (d - 1) emptySession) (repliesAt r (d - 1))
+      unused-client t (d - 1) (clientAt c (d - 1))
       (f .client (d - 1) (omega (arith, q)))
       (sym (client-place t (d - 1)) ∙ ap (isClient S) (back-one d (q .0)) ∙ h))
       (λ e. refl)
@@ -112,7 +103,7 @@ module _ (s : System) (b r : List ℕ) (f : Facts s b r) where
       let y = in-range 13 k (p .1) in
       (x .0, x .1, y .0, y .1)
 
-  up-well : (d k : ℕ) → WellChannel FromClient (view s b r .up d k)
+  up-well : (d k : ℕ) → WellChannel FromClient (view s c b .up d k)
   unfolding view
   up-well d k =
       pick (WellChannel FromClient) (isOf 6 d && isOf 13 k) (messages b (upIndex (d - 1) (k - 1))) []
@@ -120,7 +111,7 @@ module _ (s : System) (b r : List ℕ) (f : Facts s b r) where
       well-up b (f .channels) (upIndex (d - 1) (k - 1)) (omega (arith, q)) (omega (arith, q)))
       (λ e. new .up d k)
 
-  down-well : (d k : ℕ) → WellChannel FromServer (view s b r .down d k)
+  down-well : (d k : ℕ) → WellChannel FromServer (view s c b .down d k)
   unfolding view
   down-well d k =
       pick (WellChannel FromServer) (isOf 6 d && isOf 13 k) (messages b (downIndex (d - 1) (k - 1))) []
@@ -130,14 +121,14 @@ module _ (s : System) (b r : List ℕ) (f : Facts s b r) where
 
   link : (i j : ℕ) → i < 6 → j < 13
       → (eqb (countAt b (upIndex i j)) 0 || usesUp t i j ≡ true)
-      × (eqb (countAt b (downIndex i j)) 0 || usesDown t (s .stopped) i j ≡ true)
+      × (eqb (countAt b (downIndex i j)) 0 || usesDown t (stoppedIn c) i j ≡ true)
   unfolding isLinkSound
   link i j a e =
       both (eqb (countAt b (upIndex i j)) 0 || usesUp t i j)
-      (eqb (countAt b (downIndex i j)) 0 || usesDown t (s .stopped) i j)
+      (eqb (countAt b (downIndex i j)) 0 || usesDown t (stoppedIn c) i j)
       (f .link i j a e)
 
-  up-unused : (d k : ℕ) → isClient S d && isHonest S k ≡ false → view s b r .up d k ≡ []
+  up-unused : (d k : ℕ) → isClient S d && isHonest S k ≡ false → view s c b .up d k ≡ []
   unfolding view
   up-unused d k h =
       pick (λ x. x ≡ []) (isOf 6 d && isOf 13 k) (messages b (upIndex (d - 1) (k - 1))) []
@@ -150,21 +141,21 @@ module _ (s : System) (b r : List ℕ) (f : Facts s b r) where
       not-used)))
       (λ e. refl)
 
-  down-none : (d k : ℕ) → (isClient S d && isServer S k) && not (contains (s .stopped) d) ≡ false
-      → view s b r .down d k ≡ []
+  down-none : (d k : ℕ) → (isClient S d && isServer S k) && not (contains (stoppedIn c) d) ≡ false
+      → view s c b .down d k ≡ []
   unfolding view
   down-none d k h =
       pick (λ x. x ≡ []) (isOf 6 d && isOf 13 k) (messages b (downIndex (d - 1) (k - 1))) []
       (λ e. let q = inside d k e in
-      let not-used : usesDown t (s .stopped) (d - 1) (k - 1) ≡ false =
+      let not-used : usesDown t (stoppedIn c) (d - 1) (k - 1) ≡ false =
       rw (← (client-place t (d - 1)), back-one d (q .0), back-one k (q .2)) h in
       no-messages b (downIndex (d - 1) (k - 1))
       (eqb-true _ 0
-      (or-first _ (usesDown t (s .stopped) (d - 1) (k - 1))
+      (or-first _ (usesDown t (stoppedIn c) (d - 1) (k - 1))
       (link (d - 1) (k - 1) (omega (arith, q)) (omega (arith, q)) .1) not-used)))
       (λ e. refl)
 
-  pub well-view : WellFormed S formats (view s b r)
+  pub well-view : WellFormed S formats (view s c b)
   unfolding view
   well-view =
       record {
@@ -174,7 +165,7 @@ module _ (s : System) (b r : List ℕ) (f : Facts s b r) where
         down = down-well;
         serverUnused = server-unused;
         clientUnused = client-unused;
-        stoppedUnused = no-client t (s .stopped) (f .stopped);
+        stoppedUnused = no-client t (stoppedIn c) (f .stopped);
         upUnused = up-unused;
         downUnused = λ d k h. down-none d k (rw h);
         downDrops = λ d k h. down-none d k (rw h (and-false (isClient S d && isServer S k) false refl));

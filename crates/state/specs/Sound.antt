@@ -1,8 +1,8 @@
 -- When a state is sound (01, 'Rehearsal': 'A state is sound when ..').
 --
--- In order: the settings; lengths; the stopped clients; a server's place; a client's place; the channels between two; a state.
+-- In order: the settings; lengths; the stopped clients; a server; a client; the channels between two; a state.
 -- Assumes nothing.
-use Prim.Native.Nat.{ℕ, suc, _*_, _^_}
+use Prim.Native.Nat.{ℕ, suc, _*_, _+_, _^_}
 use mathlib.Core.Bool.{Bool, true, false, cond, not, _&&_, _||_}
 use mathlib.Core.List.{List, [], _∷_}
 use mathlib.Core.Option.{Option, none, some}
@@ -10,19 +10,15 @@ use lib.Dec.{eqb, ltb}
 use lib.ListN.{length, getD}
 use Rattle.basics.specs.Tests.{all, allBelow}
 use Rattle.refusal.specs.declared.Refusal.{Refusal}
-use Rattle.register.specs.Client.{isIdle}
 use Rattle.register.specs.Settings.{marks, mostClients, isServer, isHonest, setupRefusal}
 use Rattle.channel.specs.Memory.{channels, span, countAt}
 use Rattle.channel.specs.Sound.{sound}
-use Rattle.server.specs.declared.Server.{Server}
 use Rattle.server.specs.State.{contains}
-use Rattle.replies.specs.Replies.{words}
-use Rattle.client.specs.declared.Client.{Client}
-use Rattle.client.specs.Sound as client
-use Rattle.state.specs.declared.Session.{Session}
+use Rattle.server.specs.Memory as server
+use Rattle.client.specs.Memory as client
+use Rattle.client.specs.Sound.{isSoundMemory}
 use Rattle.state.specs.declared.Settings.{Settings}
-use Rattle.state.specs.declared.System.{System}
-use Rattle.state.specs.State.{settingsOf, upIndex, downIndex, repliesAt, emptyServer, emptySession}
+use Rattle.state.specs.State.{settingsOf, serverStart, stoppedIn, clientAt, clientStart, upIndex, downIndex}
 
 -- ---- the settings
 
@@ -36,48 +32,45 @@ areAllowed t = isNone (setupRefusal (settingsOf t)) && ltb (t .faulty) (2 ^ mark
 
 -- ---- 'lengths and fields are in range'
 
-abbrev pub lengthTests : System → List ℕ → List ℕ → List Bool
-lengthTests s b r =
-    eqb (length (s .servers)) marks
-    ∷ eqb (length (s .clients)) mostClients
-    ∷ eqb (length b) (channels * span)
-    ∷ eqb (length r) (mostClients * words)
+abbrev pub lengthTests : List ℕ → List ℕ → List ℕ → List Bool
+lengthTests s c b =
+    eqb (length s) (marks * server.words)
+    ∷ eqb (length c) (clientStart mostClients)
+    ∷ eqb (length b) (channels + channels * span)
     ∷ []
 
-unfoldable pub areLong : System → List ℕ → List ℕ → Bool
-areLong s b r = all (lengthTests s b r)
+unfoldable pub areLong : List ℕ → List ℕ → List ℕ → Bool
+areLong s c b = all (lengthTests s c b)
 
 -- no client but those that there are has stopped
-abbrev pub isStoppedSound : System → Bool
-isStoppedSound s = ltb (s .stopped) (2 ^ s .settings .clients)
+abbrev pub isStoppedSound : Settings → List ℕ → Bool
+isStoppedSound t c = ltb (stoppedIn c) (2 ^ t .clients)
 
--- ---- the server at place j: an honest one's pair has 64 bits, and only clients read; any other place is unused
+-- ---- the server at place j, its pair p and its readers r: an honest one's pair has 64 bits, and only clients read; any other
+-- place is unused
 
-unfoldable pub isServerSound : Settings → ℕ → Server → Bool
-isServerSound t j v =
-    cond (isHonest (settingsOf t) (suc j)) (ltb (v .pair .0) (2 ^ 64) && ltb (v .readers) (2 ^ t .clients))
-    (eqb (v .pair .0) 0 && eqb (v .readers) 0)
+unfoldable pub isServerSound : Settings → ℕ → ℕ → ℕ → Bool
+isServerSound t j p r =
+    cond (isHonest (settingsOf t) (suc j)) (ltb p (2 ^ 64) && ltb r (2 ^ t .clients)) (eqb p 0 && eqb r 0)
 
-unfoldable pub areServersSound : System → Bool
-areServersSound s = allBelow (λ j. isServerSound (s .settings) j (getD (s .servers) j emptyServer)) marks
+unfoldable pub areServersSound : Settings → List ℕ → Bool
+areServersSound t s =
+    allBelow
+    (λ j. isServerSound t j (getD s (serverStart j + server.pairAt) 0) (getD s (serverStart j + server.readersAt) 0)) marks
 
--- ---- the client at place i, with its replies: sound by the client's own test, and idle at 0 where there is none
+-- ---- the client at place i: sound by the client's own test; where there is none, idle at read number 0
 
-abbrev pub clientEnd : Settings → ℕ → Session → Client
-clientEnd t i c = record { number = suc i; f = t .f; phase = c .phase; reads = c .reads }
+unfoldable pub isClientSound : Settings → ℕ → List ℕ → Bool
+isClientSound t i m =
+    isSoundMemory (t .f) m
+    && (ltb i (t .clients) || (eqb (getD m client.readsAt 0) 0 && eqb (getD m client.phaseAt 0) 0))
 
-unfoldable pub isClientSound : Settings → ℕ → Session → List ℕ → Bool
-isClientSound t i c l =
-    client.isSound (clientEnd t i c) l && (ltb i (t .clients) || (isIdle (c .phase) && eqb (c .reads .0) 0))
-
--- every number of the replies has 64 bits
+-- every number has 64 bits
 unfoldable pub areWords : List ℕ → Bool
-areWords r = allBelow (λ i. ltb (getD r i 0) (2 ^ 64)) (mostClients * words)
+areWords c = allBelow (λ i. ltb (getD c i 0) (2 ^ 64)) (clientStart mostClients)
 
-unfoldable pub areClientsSound : System → List ℕ → Bool
-areClientsSound s r =
-    areWords r
-    && allBelow (λ i. isClientSound (s .settings) i (getD (s .clients) i emptySession) (repliesAt r i)) mostClients
+unfoldable pub areClientsSound : Settings → List ℕ → Bool
+areClientsSound t c = areWords c && allBelow (λ i. isClientSound t i (clientAt c i)) mostClients
 
 -- ---- 'wires that drop are empty', and those that are not used: used are the ones from a client to an honest server, and from a
 -- server to a client that works
@@ -101,15 +94,15 @@ areChannelsSound t z b = allBelow (areLinksSound t z b) mostClients && sound b
 
 -- ---- a state
 
-abbrev pub soundTests : System → List ℕ → List ℕ → List Bool
-soundTests s b r =
-    areAllowed (s .settings)
-    ∷ areLong s b r
-    ∷ isStoppedSound s
-    ∷ areServersSound s
-    ∷ areClientsSound s r
-    ∷ areChannelsSound (s .settings) (s .stopped) b
+abbrev pub soundTests : Settings → List ℕ → List ℕ → List ℕ → List Bool
+soundTests t s c b =
+    areAllowed t
+    ∷ areLong s c b
+    ∷ isStoppedSound t c
+    ∷ areServersSound t s
+    ∷ areClientsSound t c
+    ∷ areChannelsSound t (stoppedIn c) b
     ∷ []
 
-unfoldable pub isSound : System → List ℕ → List ℕ → Bool
-isSound s b r = all (soundTests s b r)
+unfoldable pub isSound : Settings → List ℕ → List ℕ → List ℕ → Bool
+isSound t s c b = all (soundTests t s c b)

@@ -1,41 +1,36 @@
 -- The state in memory, and the world that it stands for (01, 'Rehearsal').
 --
--- Small parts go by value: the settings, the stopped clients as bits, the servers, and each client's phase and read number. The
--- slots of the channels and the clients' replies are lent. `store..` says how each part of a world stands in memory, `view` which
--- world a state stands for.
+-- The settings go by value. All else stands in three lent arrays of numbers: the servers, two numbers each; the stopped clients as
+-- bits, and behind them the clients, 95 numbers each; the slots of the channels. `store..` says how each part of a world stands in
+-- memory, `view` which world a state stands for. All zero is the setup.
 --
--- In order: settings and steps; the places of channels and replies; a world stored, part by part; the world of a state.
+-- In order: settings and steps; where each part stands; a world stored; the world of a state.
 -- Assumes nothing.
-use Prim.Native.Nat.{ℕ, zero, suc, _+_, _-_, _*_, _/_, _%_, _^_}
+use Prim.Native.Nat.{ℕ, suc, _+_, _-_, _*_, _/_, _%_, _^_}
 use mathlib.Core.Bool.{Bool, cond, _&&_}
-use mathlib.Core.List.{List, [], _∷_, _++_}
+use mathlib.Core.List.{List, [], _∷_}
 use lib.Dec.{leb, ltb}
-use lib.ListN.{getD, take, drop}
+use lib.ListN.{getD, set}
 use Rattle.basics.specs.Bytes.{bigEndian}
+use Rattle.basics.specs.Tables.{tabled, partAt, putPart}
 use Rattle.message.specs.declared.Message.{Message}
-use Rattle.message.specs.declared.Message.the-variants.{Done}
-use Rattle.message.specs.declared.Unpacked.{Unpacked}
-use Rattle.message.specs.declared.Unpacked.the-variants.{Good, Bad}
 use Rattle.message.specs.declared.Words.{Words}
-use Rattle.message.specs.Layout.{messageBytes, bytesOf, messageOf, wordsNumber}
+use Rattle.message.specs.Layout.{messageBytes, messageOf, wordsNumber}
 use Rattle.channel.specs.Memory.{oldestOn}
 use Rattle.channel.specs.Layout.{layout}
-use Rattle.channel.specs.Sound.{messages}
+use Rattle.channel.specs.Sound.{messageIn, messages}
 use Rattle.register.specs.declared.Step.{Step}
 use Rattle.register.specs.declared.Step.the-variants as code
-use Rattle.register.specs.Client as client
-use Rattle.register.specs.Server as model
+use Rattle.register.specs.Client.{newClient}
+use Rattle.register.specs.Server.{newServer}
 use Rattle.register.specs.Settings.{marks, mostClients}
 use Rattle.register.specs.Settings as settings
 use Rattle.register.specs.Steps as steps
 use Rattle.register.specs.World.{World}
-use Rattle.server.specs.declared.Server.{Server}
 use Rattle.server.specs.State.{contains, setOf}
-use Rattle.server.specs.State as server
-use Rattle.replies.specs.Replies.{held, storeReplies, words}
-use Rattle.state.specs.declared.Session.{Session}
+use Rattle.server.specs.Memory as server
+use Rattle.client.specs.Memory as client
 use Rattle.state.specs.declared.Settings.{Settings}
-use Rattle.state.specs.declared.System.{System}
 
 -- ---- settings and steps
 
@@ -56,7 +51,34 @@ stepOf (code.D d k) = steps.D d k
 stepOf (code.C d) = steps.C d
 stepOf (code.L k d w) = steps.L k d (bytesIn w)
 
--- ---- places, counted from 0: client d is at place d - 1, server k at place k - 1
+-- ---- where each part stands; places count from 0: client d is at place d - 1, server k at place k - 1
+
+-- the memory of the server at place j
+abbrev pub serverStart : ℕ → ℕ
+serverStart j = j * server.words
+
+abbrev pub serverAt : List ℕ → ℕ → List ℕ
+serverAt s j = partAt (serverStart j) server.words s
+
+abbrev pub putServer : List ℕ → ℕ → List ℕ → List ℕ
+putServer s j m = putPart (serverStart j) server.words s m
+
+-- the stopped clients, as bits
+abbrev pub stoppedIn : List ℕ → ℕ
+stoppedIn c = getD c 0 0
+
+abbrev pub putStopped : List ℕ → ℕ → List ℕ
+putStopped c z = set c 0 z
+
+-- the memory of the client at place i
+abbrev pub clientStart : ℕ → ℕ
+clientStart i = 1 + i * client.words
+
+abbrev pub clientAt : List ℕ → ℕ → List ℕ
+clientAt c i = partAt (clientStart i) client.words c
+
+abbrev pub putClient : List ℕ → ℕ → List ℕ → List ℕ
+putClient c i m = putPart (clientStart i) client.words c m
 
 -- the channel from the client at place i to the server at place j, and the one back
 abbrev pub upIndex : ℕ → ℕ → ℕ
@@ -65,14 +87,21 @@ upIndex i j = i * marks + j
 abbrev pub downIndex : ℕ → ℕ → ℕ
 downIndex i j = mostClients * marks + upIndex i j
 
--- the replies of the client at place i, and all with those replaced
-abbrev pub repliesAt : List ℕ → ℕ → List ℕ
-repliesAt r i = take words (drop (i * words) r)
-
-abbrev pub putReplies : List ℕ → ℕ → List ℕ → List ℕ
-putReplies r i l = take (i * words) r ++ l ++ drop (i * words + words) r
+-- the oldest message of channel c
+abbrev pub messageAt : List ℕ → ℕ → Message
+messageAt b c = messageIn (messageOf (wordsNumber (oldestOn b c)))
 
 -- ---- a world stored
+
+unfoldable pub storeServers : World → List ℕ
+storeServers w = tabled (λ j. server.store (w .servers (suc j))) marks
+
+unfoldable pub storeStopped : World → ℕ
+storeStopped w = setOf (w .stopped) mostClients
+
+unfoldable pub storeClients : World → List ℕ
+unfolding storeStopped
+storeClients w = storeStopped w ∷ tabled (λ i. client.store (w .clients (suc i))) mostClients
 
 -- the messages of channel c
 unfoldable pub channelOf : World → ℕ → List Message
@@ -81,40 +110,8 @@ channelOf w c =
     (w .down (suc ((c - mostClients * marks) / marks)) (suc ((c - mostClients * marks) % marks)))
 
 unfoldable pub storeSlots : World → List ℕ
-storeSlots w = layout bytesOf (channelOf w)
-
--- the replies of clients 1 to n, one behind the other
-unfoldable pub allReplies : (ℕ → client.Client) → ℕ → List ℕ
-allReplies x zero = []
-allReplies x (suc n) = allReplies x n ++ storeReplies (x (suc n))
-
-unfoldable pub storeAllReplies : World → List ℕ
-storeAllReplies w = allReplies (w .clients) mostClients
-
--- a client's phase and read number
-abbrev pub sessionOf : client.Client → Session
-sessionOf x = record { phase = x .phase; reads = x .reads }
-
-abbrev pub clientIn : Session → List ℕ → client.Client
-clientIn c l = held (c .phase) (c .reads) l
-
--- f 1, f 2 and so on, n of them
-module _ {A : Type 0} where
-  unfoldable pub numbered : (ℕ → A) → ℕ → List A
-  numbered f zero = []
-  numbered f (suc n) = numbered f n ++ f (suc n) ∷ []
-
-unfoldable pub storeStopped : World → ℕ
-storeStopped w = setOf (w .stopped) mostClients
-
-unfoldable pub storeSystem : Settings → World → System
-storeSystem t w =
-    record {
-      settings = t;
-      stopped = storeStopped w;
-      servers = numbered (λ k. server.store (w .servers k)) marks;
-      clients = numbered (λ d. sessionOf (w .clients d)) mostClients;
-    }
+unfolding channelOf
+storeSlots w = layout (channelOf w)
 
 -- ---- the world of a state
 
@@ -122,35 +119,13 @@ storeSystem t w =
 abbrev pub isOf : ℕ → ℕ → Bool
 isOf n d = leb 1 d && leb d n
 
--- the message that bytes are; slots in use hold messages in a sound state
-abbrev pub messageIn : Unpacked → Message
-messageIn (Good m) = m
-messageIn Bad = Done
-
--- the messages of channel c
-abbrev pub channelIn : List ℕ → ℕ → List Message
-channelIn b c = messages b c
-
--- the oldest message of channel c
-abbrev pub messageAt : List ℕ → ℕ → Message
-messageAt b c = messageIn (messageOf (wordsNumber (oldestOn b c)))
-
--- a place that is not used: it holds what it held at setup
-abbrev pub emptyServer : Server
-emptyServer = server.store model.newServer
-
-abbrev pub emptySession : Session
-emptySession = sessionOf client.newClient
-
 -- what stands at a place that there is, and otherwise what stands there at setup
-unfoldable pub view : System → List ℕ → List ℕ → World
-view s b r =
+unfoldable pub view : List ℕ → List ℕ → List ℕ → World
+view s c b =
     record {
-      servers = λ k. cond (isOf marks k) (server.view (getD (s .servers) (k - 1) emptyServer)) model.newServer;
-      clients =
-          λ d. cond (isOf mostClients d) (clientIn (getD (s .clients) (d - 1) emptySession) (repliesAt r (d - 1)))
-          client.newClient;
-      stopped = contains (s .stopped);
-      up = λ d k. cond (isOf mostClients d && isOf marks k) (channelIn b (upIndex (d - 1) (k - 1))) [];
-      down = λ d k. cond (isOf mostClients d && isOf marks k) (channelIn b (downIndex (d - 1) (k - 1))) [];
+      servers = λ k. cond (isOf marks k) (server.view (serverAt s (k - 1))) newServer;
+      clients = λ d. cond (isOf mostClients d) (client.view (clientAt c (d - 1))) newClient;
+      stopped = contains (stoppedIn c);
+      up = λ d k. cond (isOf mostClients d && isOf marks k) (messages b (upIndex (d - 1) (k - 1))) [];
+      down = λ d k. cond (isOf mostClients d && isOf marks k) (messages b (downIndex (d - 1) (k - 1))) [];
     }

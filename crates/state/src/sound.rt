@@ -1,34 +1,29 @@
 // Whether a state is sound (01, 'Rehearsal': 'A state is sound when ..'), part by part, up to the first fault.
 ghost use mathlib.Core.Path.{_≡_};
-ghost use mathlib.Core.Bool.{not, _&&_, _||_};
+ghost use mathlib.Core.Bool.{not, _||_};
 ghost use Prim.Native.Nat.{suc, _≤_, _<_, _^_};
 ghost use lib.Dec.{eqb, leb, ltb};
 ghost use lib.ListN.{length};
 ghost use Rattle.basics.specs.Tests.{allBelow};
 ghost use Rattle.channel.specs.Memory.{countAt};
-ghost use Rattle.register.specs.Client.{isIdle};
 ghost use Rattle.register.specs.Settings.{inRange, isHonest};
 ghost use Rattle.register.specs.Thresholds.{size, counted};
 ghost use Rattle.server.specs.State.{contains};
 ghost use Rattle.state.specs.State.{settingsOf, upIndex, downIndex};
-ghost use Rattle.state.specs.Sound.{areAllowed, isServerSound, areServersSound, isClientSound, areClientsSound};
+ghost use Rattle.state.specs.Sound.{areAllowed, areLong, isServerSound, areServersSound, isClientSound, areClientsSound};
 ghost use Rattle.state.specs.Sound.{usesUp, usesDown, isLinkSound, areLinksSound, areChannelsSound, isSound};
-use crate::Session;
+use crate::CLIENTS;
+use crate::Clients;
+use crate::SERVERS;
+use crate::STOPPED;
+use crate::Servers;
 use crate::Settings;
-use crate::System;
+use crate::client_start;
+use crate::down;
 use crate::is_in;
+use crate::server_start;
+use crate::up;
 use channel::Slots;
-use client::Client;
-use register::Phase;
-use server::Server;
-
-// Servers and clients that there are places for.
-const SERVERS: usize = 13;
-
-const CLIENTS: usize = 6;
-
-// Channels from clients to servers.
-const UPWARD: usize = 78;
 
 const MOST_FAULTY: u8 = 4;
 
@@ -37,12 +32,12 @@ const MOST_CLIENTS: u8 = 6;
 // The first number with a mark beyond the 13.
 const OVER_MARKS: u16 = 8192;
 
-// Numbers of a client's replies and of all clients', and bytes of the slots.
-const WORDS: usize = 91;
+// The numbers of all servers, of all clients with the stopped ones, and of the slots.
+const ALL_SERVERS: usize = SERVERS * server::WORDS;
 
-const NUMBERS: usize = 546;
+const ALL_CLIENTS: usize = 1 + CLIENTS * client::WORDS;
 
-const BYTES: usize = 13884;
+const ALL_SLOTS: usize = 2652;
 
 // ---- the settings
 
@@ -54,7 +49,7 @@ fn is_mark_fine(t: Settings, i: usize) -> bool
     if i < register::servers(t.f) as usize {
         return true;
     }
-    !is_in(t.faulty, i)
+    !is_in(t.faulty as u64, i)
 }
 
 // Whether no server beyond n is marked.
@@ -91,7 +86,7 @@ pub fn is_in_range(t: Settings) -> bool
 pub fn count_faulty(t: Settings) -> u32
     ensures { λ r. ⌜ r ≡ counted (contains (t .faulty)) 13 ⌝ }
 {
-    let faulty = t.faulty;
+    let faulty = t.faulty as u64;
     let mut i = 0;
     let mut n: u32 = 0;
     while i < SERVERS {
@@ -115,7 +110,7 @@ pub fn is_allowed(t: Settings) -> bool
 }
 
 // Whether a set has no member above n.
-fn is_within(set: u8, n: u8) -> bool
+fn is_within(set: u64, n: u8) -> bool
     requires { ⌜ n ≤ 6 ⌝ }
     ensures { λ r. ⌜ r ≡ ltb set (2 ^ n) ⌝ }
 {
@@ -132,31 +127,31 @@ fn is_honest(t: Settings, j: usize) -> bool
     if register::servers(t.f) as usize <= j {
         return false;
     }
-    !is_in(t.faulty, j)
+    !is_in(t.faulty as u64, j)
 }
 
-fn is_server_sound(t: Settings, j: usize, v: Server) -> bool
+// Whether the server at place j is sound: its pair, and its readers as bits.
+fn is_server_sound(t: Settings, j: usize, pair: u64, readers: u64) -> bool
     requires { ⌜ (j < 13) × (t .clients ≤ 6) ⌝ }
-    ensures { λ r. ⌜ r ≡ isServerSound t j v ⌝ }
+    ensures { λ r. ⌜ r ≡ isServerSound t j pair readers ⌝ }
 {
     if is_honest(t, j) {
-        return is_within(v.readers, t.clients);
+        return is_within(readers, t.clients);
     }
-    if v.pair.0 != 0 {
+    if pair != 0 {
         return false;
     }
-    v.readers == 0
+    readers == 0
 }
 
-fn are_servers_sound(s: System) -> bool
-    requires { ⌜ s .settings .clients ≤ 6 ⌝ }
-    ensures { λ r. ⌜ r ≡ areServersSound s ⌝ }
+fn are_servers_sound(t: Settings, s: &[u64]) -> bool
+    requires { ⌜ (t .clients ≤ 6) × (length (now s) ≡ 26) ⌝ }
+    ensures { λ r. ⌜ r ≡ areServersSound t (now (s .entry)) ⌝ }
 {
-    let t = s.settings;
     let mut j = 0;
     while j < SERVERS {
-        let v = s.servers[j];
-        if !is_server_sound(t, j, v) {
+        let at = server_start(j);
+        if !is_server_sound(t, j, s[at + server::PAIR_AT], s[at + server::READERS_AT]) {
             return false;
         }
         j += 1;
@@ -166,53 +161,32 @@ fn are_servers_sound(s: System) -> bool
 
 // ---- clients
 
-// Whether a place is as it was at setup: idle at read number 0.
-fn is_at_rest(c: Session) -> bool
-    ensures { λ r. ⌜ r ≡ (isIdle (c .phase) && eqb (c .reads .0) 0) ⌝ }
+// Whether the client at place i is sound; where there is none, it is as at setup.
+fn is_client_sound(t: Settings, i: usize, m: &[u64]) -> bool
+    requires { ⌜ length (now m) ≡ 95 ⌝ }
+    ensures { λ x. ⌜ x ≡ isClientSound t i (now (m .entry)) ⌝ }
 {
-    let phase = c.phase;
-    match phase {
-        Phase::Idle => c.reads.0 == 0,
-        Phase::Reading => false,
-        Phase::ReadingForWrite(_) => false,
-        Phase::Storing(_, _) => false,
-    }
-}
-
-fn is_client_sound(t: Settings, i: usize, c: Session, r: &[u64]) -> bool
-    requires { ⌜ i < 6 ⌝ }
-    ensures { λ x. ⌜ x ≡ isClientSound t i c (now (r .entry)) ⌝ }
-{
-    let phase = c.phase;
-    let reads = c.reads;
-    if !client::is_sound(
-        Client {
-            number: i as u8 + 1,
-            f: t.f,
-            phase: phase,
-            reads: reads,
-        },
-        r,
-    ) {
+    if !client::is_sound(t.f, m) {
         return false;
     }
     if i < t.clients as usize {
         return true;
     }
-    is_at_rest(c)
+    if m[client::READS] != 0 {
+        return false;
+    }
+    m[client::PHASE] == 0
 }
 
-fn are_clients_sound(s: System, r: &[u64]) -> bool
-    requires { ⌜ length (now r) ≡ 546 ⌝ }
-    ensures { λ x. ⌜ x ≡ areClientsSound s (now (r .entry)) ⌝ }
+fn are_clients_sound(t: Settings, c: &[u64]) -> bool
+    requires { ⌜ length (now c) ≡ 571 ⌝ }
+    ensures { λ x. ⌜ x ≡ areClientsSound t (now (c .entry)) ⌝ }
 {
-    let t = s.settings;
     let mut i = 0;
     while i < CLIENTS {
-        let c = s.clients[i];
-        let at = i * WORDS;
-        let end = at + WORDS;
-        if !is_client_sound(t, i, c, &r[at..end]) {
+        let at = client_start(i);
+        let end = at + client::WORDS;
+        if !is_client_sound(t, i, &c[at..end]) {
             return false;
         }
         i += 1;
@@ -233,7 +207,7 @@ fn is_used_up(t: Settings, i: usize, j: usize) -> bool
     is_honest(t, j)
 }
 
-fn is_used_down(t: Settings, stopped: u8, i: usize, j: usize) -> bool
+fn is_used_down(t: Settings, stopped: u64, i: usize, j: usize) -> bool
     requires { ⌜ (i < 6) × (j < 13) ⌝ }
     ensures { λ r. ⌜ r ≡ usesDown t stopped i j ⌝ }
 {
@@ -243,7 +217,7 @@ fn is_used_down(t: Settings, stopped: u8, i: usize, j: usize) -> bool
     if register::servers(t.f) as usize <= j {
         return false;
     }
-    !is_in(stopped as u16, i)
+    !is_in(stopped, i)
 }
 
 // Whether the channel from a client to a server is empty or used, and the one back.
@@ -251,23 +225,23 @@ fn is_up_sound(t: Settings, b: &Slots, i: usize, j: usize) -> bool
     requires { ⌜ (i < 6) × (j < 13) ⌝ }
     ensures { λ r. ⌜ r ≡ (eqb (countAt (now (b .entry)) (upIndex i j)) 0 || usesUp t i j) ⌝ }
 {
-    if channel::count(b, i * SERVERS + j) == 0 {
+    if channel::count(b, up(i, j)) == 0 {
         return true;
     }
     is_used_up(t, i, j)
 }
 
-fn is_down_sound(t: Settings, stopped: u8, b: &Slots, i: usize, j: usize) -> bool
+fn is_down_sound(t: Settings, stopped: u64, b: &Slots, i: usize, j: usize) -> bool
     requires { ⌜ (i < 6) × (j < 13) ⌝ }
     ensures { λ r. ⌜ r ≡ (eqb (countAt (now (b .entry)) (downIndex i j)) 0 || usesDown t stopped i j) ⌝ }
 {
-    if channel::count(b, UPWARD + (i * SERVERS + j)) == 0 {
+    if channel::count(b, down(i, j)) == 0 {
         return true;
     }
     is_used_down(t, stopped, i, j)
 }
 
-fn is_link_sound(t: Settings, stopped: u8, b: &Slots, i: usize, j: usize) -> bool
+fn is_link_sound(t: Settings, stopped: u64, b: &Slots, i: usize, j: usize) -> bool
     requires { ⌜ (i < 6) × (j < 13) ⌝ }
     ensures { λ r. ⌜ r ≡ isLinkSound t stopped (now (b .entry)) i j ⌝ }
 {
@@ -277,7 +251,7 @@ fn is_link_sound(t: Settings, stopped: u8, b: &Slots, i: usize, j: usize) -> boo
     is_down_sound(t, stopped, b, i, j)
 }
 
-fn are_links_sound(t: Settings, stopped: u8, b: &Slots, i: usize) -> bool
+fn are_links_sound(t: Settings, stopped: u64, b: &Slots, i: usize) -> bool
     requires { ⌜ i < 6 ⌝ }
     ensures { λ r. ⌜ r ≡ areLinksSound t stopped (now (b .entry)) i ⌝ }
 {
@@ -291,7 +265,7 @@ fn are_links_sound(t: Settings, stopped: u8, b: &Slots, i: usize) -> bool
     true
 }
 
-fn are_channels_sound(t: Settings, stopped: u8, b: &Slots) -> bool
+fn are_channels_sound(t: Settings, stopped: u64, b: &Slots) -> bool
     ensures { λ r. ⌜ r ≡ areChannelsSound t stopped (now (b .entry)) ⌝ }
 {
     let mut i = 0;
@@ -307,34 +281,37 @@ fn are_channels_sound(t: Settings, stopped: u8, b: &Slots) -> bool
 // ---- a state
 
 // Whether the lent memory has its length.
-fn is_long(b: &[u8], r: &[u64]) -> bool
-    ensures { λ x. ⌜ x ≡ (eqb (length (now (b .entry))) 13884 && eqb (length (now (r .entry))) 546) ⌝ }
+fn is_long(s: &[u64], c: &[u64], b: &[u64]) -> bool
+    ensures { λ x. ⌜ x ≡ areLong (now (s .entry)) (now (c .entry)) (now (b .entry)) ⌝ }
 {
-    if b.len() != BYTES {
+    if s.len() != ALL_SERVERS {
         return false;
     }
-    r.len() == NUMBERS
+    if c.len() != ALL_CLIENTS {
+        return false;
+    }
+    b.len() == ALL_SLOTS
 }
 
-// Whether a state is sound: the small parts, the slots of the channels, and the replies of the clients.
-pub fn is_sound(s: System, b: &Slots, r: &[u64]) -> bool
-    ensures { λ x. ⌜ x ≡ isSound s (now (b .entry)) (now (r .entry)) ⌝ }
+// Whether a state is sound: its settings, servers, clients and slots.
+pub fn is_sound(t: Settings, s: &Servers, c: &Clients, b: &Slots) -> bool
+    ensures { λ x. ⌜ x ≡ isSound t (now (s .entry)) (now (c .entry)) (now (b .entry)) ⌝ }
 {
-    let t = s.settings;
     if !is_allowed(t) {
         return false;
     }
-    if !is_long(b, r) {
+    if !is_long(s, c, b) {
         return false;
     }
-    if !is_within(s.stopped, t.clients) {
+    let stopped = c[STOPPED];
+    if !is_within(stopped, t.clients) {
         return false;
     }
-    if !are_servers_sound(s) {
+    if !are_servers_sound(t, s) {
         return false;
     }
-    if !are_clients_sound(s, r) {
+    if !are_clients_sound(t, c) {
         return false;
     }
-    are_channels_sound(t, s.stopped, b)
+    are_channels_sound(t, stopped, b)
 }

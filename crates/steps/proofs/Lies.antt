@@ -1,6 +1,6 @@
 -- L: the code's step is the model's.
 --
--- Bytes that unpack to a message are its packing, so the channel gets that message; a stopped client's channel drops it.
+-- Words whose bytes unpack to a message are its words, so the channel gets that message; a stopped client's channel drops it.
 -- Assumes nothing.
 use mathlib.Core.Path.{_≡_, refl, sym, ap, subst, _∙_}
 use mathlib.Core.Bool.{Bool, true, false, cond, not, _&&_, _||_}
@@ -10,16 +10,19 @@ use native.Mathlib.Omega.{arith}
 use lib.Dec.{eqb, leb}
 use lib.ListN.{length}
 use borrow.Author.Tests.{eqb-true, leb-true, not-false}
+use Rattle.basics.specs.Bytes.{spelt}
 use Rattle.basics.proofs.Cases.{by-test, true-or-false}
 use Rattle.message.specs.declared.Message.{Message}
 use Rattle.message.specs.declared.Unpacked.{Unpacked}
 use Rattle.message.specs.declared.Unpacked.the-variants.{Good, Bad}
 use Rattle.message.specs.declared.Words.{Words}
-use Rattle.message.specs.Layout.{bytesOf, unpackOf}
-use Rattle.message.proofs.RoundTrip.{pack-unpack}
+use Rattle.message.specs.Layout.{unpackOf, words, wordsOf}
+use Rattle.message.proofs.RoundTrip.{packing-spells, pack-unpack}
 use Rattle.channel.specs.Memory.{countAt, putOn}
+use Rattle.refusal.proofs.Ladders.{done, same}
 use Rattle.register.specs.declared.Answer.the-variants.{Went}
 use Rattle.register.specs.declared.Step.the-variants as code
+use Rattle.register.specs.Formats.{formats}
 use Rattle.register.specs.Settings.{Accepted, isServer, isClient}
 use Rattle.register.specs.Steps.{L, hasRoom, isReply, ladder, liesWith, accepted}
 use Rattle.register.specs.World.{World, lies, apply, answerOf, nextServers, nextClients, nextStopped, nextUp, nextDown}
@@ -27,14 +30,19 @@ use Rattle.register.specs.World.{leavesUp, leavesDown, putsUp, putsDown}
 use Rattle.register.proofs.Dropping.{nothing-put}
 use Rattle.register.proofs.Rooms.{unless}
 use Rattle.register.proofs.WellFormed.{WellFormed}
-use Rattle.server.specs.State.{contains, store}
+use Rattle.server.specs.State.{contains}
 use Rattle.state.specs.declared.Settings.{Settings}
-use Rattle.register.specs.Formats.{formats}
-use Rattle.state.specs.State.{settingsOf, bytesIn, stepOf, downIndex, sessionOf, storeStopped, storeSlots, storeAllReplies}
-use Rattle.steps.specs.Inner.{lied, lieLadder, lieStep, innerOf}
+use Rattle.state.specs.State.{settingsOf, bytesIn, stepOf, downIndex, storeStopped, storeServers, storeClients, storeSlots}
+use Rattle.steps.specs.Inner.{onSlots, lied, lieRungs, lieStep, innerOf}
 use Rattle.state.proofs.Channels.{store-slots, slots-same, changed, down-put}
-use Rattle.steps.proofs.Parts.{on, outcomeOf, innerAt, modelAt, step-law}
+use Rattle.steps.proofs.Modelled.{outcomeOf, innerAt, modelAt, slots-law}
 use Rattle.steps.proofs.Rooms.{up-short, down-short, stopped-same, inside, count-down}
+
+-- the words of a message's bytes are its words
+words-are : (x : Words) (m : Message) → unpackOf (bytesIn x) ≡ Good m → words (spelt 0 (bytesIn x)) ≡ wordsOf m
+unfolding wordsOf
+words-are x m unpacks =
+    ap (λ (s : List ℕ). words (spelt 0 s)) (sym (pack-unpack (bytesIn x) m unpacks .packing)) ∙ ap words (packing-spells m)
 
 by-unpacked : {A : Type 0} (u : Unpacked) → (u ≡ Bad → A) → ((m : Message) → u ≡ Good m → A) → A
 by-unpacked Bad f g = f refl
@@ -65,7 +73,7 @@ module _ (t : Settings) (accepted : Accepted (settingsOf t)) (w : World) (well :
       abbrev at : ℕ
       at = downIndex (d - 1) (k - 1)
 
-      slots-after : cond (contains (storeStopped w) d) (storeSlots w) (putOn (storeSlots w) at (bytesIn x))
+      slots-after : cond (contains (storeStopped w) d) (storeSlots w) (putOn (storeSlots w) at (words (spelt 0 (bytesIn x))))
           ≡ storeSlots (apply (settingsOf t) w (lies k d m))
       unfolding changed hasRoom apply nextUp nextDown leavesUp leavesDown putsUp putsDown
       slots-after =
@@ -82,8 +90,8 @@ module _ (t : Settings) (accepted : Accepted (settingsOf t)) (w : World) (well :
           (λ s. let fits = leb-true (length (w .down d k) + 1) 8 (unless (w .stopped d) _ room s) in
           let less : length (w .down d k) < 8 = omega arith in
           rw s
-          (ap (λ (b : List ℕ). putOn (storeSlots w) at b) (sym (pack-unpack (bytesIn x) m unpacks .packing))
-          ∙ ap (λ (b : List ℕ). putOn b at (bytesOf m)) (store-slots w)
+          (ap (λ (y : Words). putOn (storeSlots w) at y) (words-are x m unpacks)
+          ∙ ap (λ (b : List ℕ). putOn b at (wordsOf m)) (store-slots w)
           ∙ down-put (w .up) (w .down) d k (inside t accepted w well d k client server) (up-short t accepted w well)
           (down-short t accepted w well) m less
           ∙ slots-same (w .up) (w′ .up) (changed (w .down) d k (w .down d k ++ m ∷ [])) (w′ .down) up-same
@@ -91,25 +99,21 @@ module _ (t : Settings) (accepted : Accepted (settingsOf t)) (w : World) (well :
           (λ c. rw (← (eqb-true d e c)) s) (λ b c. rw (eqb-true d e c, eqb-true k j b)))
           ∙ sym (store-slots w′))))
 
-      lies-law : (j c : ℕ) → on w j c (lied t) k d x ≡ outcomeOf (settingsOf t) w (lies k d m) j c
-      unfolding answerOf apply nextStopped nextServers nextClients storeStopped storeAllReplies
-      lies-law j c =
-          λ i. record {
-            answer = Went;
-            stopped = storeStopped w;
-            server = store (w .servers j);
-            client = sessionOf (w .clients c);
-            slots = slots-after i;
-            replies = storeAllReplies w;
-          }
+      lies-law : onSlots (storeServers w) (storeClients w) (lied (storeStopped w) (storeSlots w) k d x)
+          ≡ outcomeOf (settingsOf t) w (lies k d m)
+      unfolding answerOf apply nextStopped nextServers nextClients storeStopped storeServers storeClients
+      lies-law =
+          λ i. record { answer = Went; servers = storeServers w; clients = storeClients w; slots = slots-after i }
 
-    pub lie-law : (j c : ℕ) → innerAt t w j c (code.L k d x) ≡ modelAt t w j c (code.L k d x)
-    unfolding innerOf lieStep stepOf ladder accepted settingsOf isReply
-    lie-law j c =
-        step-law (settingsOf t) formats w j c (L k d (bytesIn x)) (on w j c (lieLadder t) k d x) (on w j c (lied t) k d x)
-        (refl, (refl, λ e. (refl, (refl, λ e. (refl, (refl, λ e. (refl, (ap not room-is, λ e. tt))))))))
+    pub lie-law : innerAt t w (code.L k d x) ≡ modelAt t w (code.L k d x)
+    unfolding innerOf lieStep stepOf ladder accepted settingsOf isReply storeClients
+    lie-law =
+        slots-law (settingsOf t) formats w (L k d (bytesIn x)) (lieRungs t (storeStopped w) (storeSlots w) k d x)
+        (lied (storeStopped w) (storeSlots w) k d x)
+        (same refl (λ e. same refl (λ e. same refl (λ e. same (ap not room-is) (λ e. done)))))
         (λ none en. by-unpacked (unpackOf (bytesIn x))
         (λ e. absurd (true-or-false true refl (rw e at (none .1 .1 .0))))
         (λ m e. subst
-        (λ (u : Unpacked). on w j c (lied t) k d x ≡ outcomeOf (settingsOf t) w (liesWith (settingsOf t) formats k d u) j c)
-        (sym e) (lies-law m e (not-false _ (none .1 .1 .1 .0)) j c)))
+        (λ (u : Unpacked). onSlots (storeServers w) (storeClients w) (lied (storeStopped w) (storeSlots w) k d x)
+        ≡ outcomeOf (settingsOf t) w (liesWith (settingsOf t) formats k d u))
+        (sym e) (lies-law m e (not-false _ (none .1 .1 .1 .0)))))

@@ -1,51 +1,45 @@
--- D: a client's part of the replies; what a client sends at once fits in two slots; and what the code does one after
--- the other is the definition's step.
+-- D: what a client sends at once fits in two slots; and the last rung of a take, and what it gives.
+--
+-- By cases on what a message comes to, a client sends at most DONE and WRITE_INFO (`few-outcome`). A message that it does not take
+-- leaves the client and sends nothing: there is room for nothing, and a sound memory is that of what it shows, so that only the
+-- message goes (`drop-gives`).
 -- Assumes nothing.
 use mathlib.Core.Path.{_≡_, refl, sym, ap, _∙_}
 use mathlib.Core.Bool.{Bool, true, false, _||_}
-use mathlib.Core.List.{List, _++_, append-assoc}
-use Prim.Native.Nat.{ℕ, suc, _+_, _-_, _*_, _≤_}
+use mathlib.Core.List.{List}
+use Prim.Native.Nat.{ℕ, suc, _+_, _-_, _≤_}
 use native.Mathlib.Omega.{arith}
 use lib.Dec.{leb}
-use lib.ListN.{length, take, drop}
-use lib.Seq.{drop-drop}
+use lib.ListN.{length}
 use borrow.Author.Tests.{leb-true, le-leb}
 use Rattle.basics.proofs.Tests.{below, below-of}
+use Rattle.refusal.specs.declared.Refusal.the-variants.{FullChannel}
 use Rattle.message.specs.declared.Message.{Message}
 use Rattle.channel.specs.Memory.{countAt, taken}
+use Rattle.channel.specs.Sound.{CountsFit}
+use Rattle.register.specs.declared.Answer.the-variants.{Went, Refused}
 use Rattle.register.specs.Client as model
 use Rattle.register.specs.Steps.{slots}
 use Rattle.register.specs.Thresholds.{size}
-use Rattle.register.proofs.Outcomes.{Outcome, dropped, waits, shows, spends, sends, acks, ends, outcome}
-use Rattle.server.specs.declared.Server.{Server}
+use Rattle.register.proofs.Outcomes as cases
+use Rattle.register.proofs.Outcomes.{dropped, waits, shows, spends, sends, acks, ends}
 use Rattle.server.specs.State.{contains}
 use Rattle.client.specs.declared.Client.{Client}
-use Rattle.client.specs.declared.Took.{Took}
-use Rattle.client.specs.Sends as client
-use Rattle.client.specs.State.{view}
-use Rattle.state.specs.declared.Session.{Session}
+use Rattle.client.specs.declared.Outcome.{Outcome}
+use Rattle.client.specs.Memory as client
+use Rattle.client.specs.Outcome as outcome
+use Rattle.client.specs.Sends.{messagesOf}
+use Rattle.client.specs.Sound.{isSoundMemory}
+use Rattle.client.specs.Taking.{isTaken}
+use Rattle.client.proofs.Dropping.{not-taken}
+use Rattle.client.proofs.Memory.{store-view}
 use Rattle.state.specs.declared.Settings.{Settings}
-use Rattle.state.specs.State.{settingsOf, upIndex, downIndex, repliesAt, putReplies, messageAt}
-use Rattle.steps.specs.Inner.{After, after, roomUp, sendUp, tookFrom, took}
-use Rattle.steps.specs.Ready.{clientFor, TakenIn}
+use Rattle.state.specs.State.{settingsOf, upIndex, downIndex, clientStart, clientAt, putClient}
+use Rattle.steps.specs.Inner.{roomUp, sendUp, Gave, gave, shown, replyAt, tookFrom, takeOldest}
+use Rattle.steps.proofs.Fitting.{room-silent}
+use Rattle.steps.proofs.Lent.{same-back}
 
--- ---- a client's part of the replies, lent and put back
-
-pub lent-part : (r : List ℕ) (i : ℕ) → take (i * 91 + 91 - i * 91) (drop (i * 91) r) ≡ repliesAt r i
-lent-part r i = let e : i * 91 + 91 - i * 91 ≡ 91 = omega arith in rw e
-
-pub put-part : (r l : List ℕ) (i : ℕ) → take (i * 91) r ++ (l ++ drop (i * 91 + 91 - i * 91) (drop (i * 91) r))
-    ≡ putReplies r i l
-put-part r l i =
-    let e : i * 91 + 91 - i * 91 ≡ 91 = omega arith in
-    ap (λ (k : ℕ). take (i * 91) r ++ (l ++ drop k (drop (i * 91) r))) e
-    ∙ ap (λ (x : List ℕ). take (i * 91) r ++ (l ++ x)) (drop-drop 91 (i * 91) r)
-    ∙ sym (append-assoc (take (i * 91) r) l (drop (i * 91 + 91) r))
-
--- ---- room
-
-few-outcome : (t : Settings) (d : ℕ) (x : model.Client) (k : ℕ) (m : Message) (o : model.Taken) → Outcome
-    (settingsOf t) d x k m o
+few-outcome : (t : Settings) (d : ℕ) (x : model.Client) (k : ℕ) (m : Message) (o : model.Taken) → cases.Outcome (settingsOf t) d x k m o
     → length (o .sends) ≤ 2
 few-outcome t d x k m o (dropped _) = omega arith
 few-outcome t d x k m o (waits _ _ _ _) = omega arith
@@ -58,7 +52,7 @@ few-outcome t d x k m o (ends _ _ _ _ _) = omega arith
 few-sent : (t : Settings) (d : ℕ) (x : model.Client) (k : ℕ) (m : Message)
     → length (model.clientTakes (size (t .f)) (t .f) d x k m .sends) ≤ 2
 unfolding settingsOf
-few-sent t d x k m = few-outcome t d x k m _ (outcome (settingsOf t) d x k m)
+few-sent t d x k m = few-outcome t d x k m _ (cases.outcome (settingsOf t) d x k m)
 
 either-room : (a : Bool) (n more : ℕ) → more ≤ 2 → a || leb (n + 2) slots ≡ true → a || leb (n + more) slots ≡ true
 either-room true n more h e = refl
@@ -72,42 +66,63 @@ room-less t b i more h e =
     (t .f)) e j less))
 
 -- two free slots are enough
-pub room-enough : (t : Settings) (b : List ℕ) (i : ℕ) (x : Client) (l : List ℕ) (k : ℕ) (m : Message) → x .f ≡ t .f
-    → roomUp t b i 2 ≡ true → roomUp t b i (length (client.takenOf x l k m .sends)) ≡ true
-room-enough t b i x l k m e h =
-    room-less t b i (length (client.takenOf x l k m .sends)) (rw e (few-sent t (x .number) (view x l) k m)) h
+pub room-enough : (t : Settings) (b : List ℕ) (i d : ℕ) (x : model.Client) (k : ℕ) (m : Message) → roomUp t b i 2 ≡ true
+    → roomUp t b i (length (model.clientTakes (size (t .f)) (t .f) d x k m .sends)) ≡ true
+room-enough t b i d x k m h = room-less t b i _ (few-sent t d x k m) h
+
+-- ---- a client that is loaded, for the f of the settings, has that f
+
+module _ (x : Client) (f : ℕ) (m : List ℕ) (e : x ≡ client.loaded (x .number) f m) where
+  pub same-f : x .f ≡ f
+  same-f = ap (λ (y : Client). y .f) e
+
+  pub own-loaded : x ≡ client.loaded (x .number) (x .f) m
+  own-loaded = e ∙ ap (λ (n : ℕ). client.loaded (x .number) n m) (sym same-f)
+
+  pub own-sound : isSoundMemory f m ≡ true → isSoundMemory (x .f) m ≡ true
+  own-sound h = ap (λ (n : ℕ). isSoundMemory n m) same-f ∙ h
+
+  pub own-size : (k : ℕ) → k ≤ size f → k ≤ size (x .f)
+  own-size k h = omega (arith, same-f)
 
 -- ---- the step
 
-module _ (t : Settings) (z : ℕ) (v : Server) (c : Session) (b r : List ℕ) (d k from : ℕ) (m : Message)
-    (place : from ≡ downIndex (d - 1) (k - 1)) (first : m ≡ messageAt b from) where
-  -- the oldest message
-  oldest-is : m ≡ messageAt b (downIndex (d - 1) (k - 1))
-  oldest-is = first ∙ ap (λ (n : ℕ). messageAt b n) place
+module _ (t : Settings) (c b : List ℕ) (d k : ℕ) (m : Message) (first : m ≡ replyAt b d k) where
+  -- what comes of a message
+  abbrev after : Message → model.Taken
+  after x = model.clientTakes (size (t .f)) (t .f) d (shown t c b d) k x
 
-  pub room-taken : (x : Client) (l : List ℕ) → x ≡ clientFor t c d → l ≡ repliesAt r (d - 1)
-      → roomUp t b (x .number - 1) (length (client.takenOf x l k m .sends)) ≡ roomUp t b (d - 1) (length
-      (tookFrom t z v c b r d k .sends))
-  room-taken x l e f =
-      ap (λ (y : Client). roomUp t b (y .number - 1) (length (client.takenOf y l k m .sends))) e
-      ∙ ap (λ (y : List ℕ). roomUp t b (d - 1) (length (client.takenOf (clientFor t c d) y k m .sends))) f
-      ∙ ap (λ (y : Message). roomUp t b (d - 1) (length (client.takenOf (clientFor t c d) (repliesAt r
-      (d - 1)) k y .sends))) oldest-is
+  module _ (fits : Bool) (room : fits ≡ roomUp t b (d - 1) (length (after m .sends))) where
+    room-is : roomUp t b (d - 1) (length (tookFrom t c b d k .sends)) ≡ fits
+    room-is = sym (room ∙ ap (λ (x : Message). roomUp t b (d - 1) (length (after x .sends))) first)
 
-  pub taken-gives : (x : Took) (y : Client) (b₁ b₂ r′ : List ℕ) → y ≡ clientFor t c d → TakenIn y k m
-      (d - 1) r x r′ → b₁ ≡ taken b from
-      → b₂ ≡ sendUp t b₁ (d - 1) (client.messagesOf (x .sends))
-      → after (x .answer) z v (record { phase = x .client .phase; reads = x .client .reads }) b₂ r′ ≡ took t z v c b r d k
-  taken-gives x y b₁ b₂ r′ same h e f =
-      let down : ℕ = downIndex (d - 1) (k - 1) in
-      let session : Session = record { phase = x .client .phase; reads = x .client .reads } in
-      let all : client.After → After =
-      λ a. after (a .answer) z v (record { phase = a .client .phase; reads = a .client .reads })
-      (sendUp t (taken b down) (d - 1) (a .sends)) (putReplies r (d - 1) (a .replies)) in
-      let sent-up : b₂ ≡ sendUp t (taken b down) (d - 1) (client.messagesOf (x .sends)) =
-      f ∙ ap (λ (q : List ℕ). sendUp t q (d - 1) (client.messagesOf (x .sends))) (e ∙ ap (taken b) place) in
-      ap (λ (q : List ℕ). after (x .answer) z v session q r′) sent-up
-      ∙ ap (λ (q : List ℕ). after (x .answer) z v session (sendUp t (taken b down) (d - 1) (client.messagesOf
-      (x .sends))) q) (h .put)
-      ∙ ap all (h .gives ∙ ap (λ (a : Client). client.takenOf a (repliesAt r (d - 1)) k m) same)
-      ∙ ap (λ (a : Message). all (client.takenOf (clientFor t c d) (repliesAt r (d - 1)) k a)) oldest-is
+    pub take-refused : fits ≡ false → gave (Refused FullChannel) c b ≡ takeOldest t c b d k
+    take-refused full = rw (room-is ∙ full)
+
+    -- the message taken, off channel `from`, with what client and channels come to
+    pub take-gives : fits ≡ true → (o : Outcome) (l c′ b₁ b₂ : List ℕ) (from : ℕ) → from ≡ downIndex (d - 1) (k - 1)
+        → outcome.after o l ≡ outcome.leaves (after m) → c′ ≡ putClient c (d - 1) l → b₁ ≡ taken b from
+        → b₂ ≡ sendUp t b₁ (d - 1) (messagesOf (o .sends)) → gave (o .answer) c′ b₂ ≡ takeOldest t c b d k
+    take-gives enough o l c′ b₁ b₂ from place gives put off sent =
+        let down : ℕ = downIndex (d - 1) (k - 1) in
+        let all : outcome.After → Gave =
+        λ a. gave (a .answer) (putClient c (d - 1) (a .memory)) (sendUp t (taken b down) (d - 1) (a .sends)) in
+        let sent-up : b₂ ≡ sendUp t (taken b down) (d - 1) (messagesOf (o .sends)) =
+        sent ∙ ap (λ (q : List ℕ). sendUp t q (d - 1) (messagesOf (o .sends))) (off ∙ ap (taken b) place) in
+        rw (room-is ∙ enough)
+        (ap (λ (q : List ℕ). gave (o .answer) q b₂) put ∙ ap (gave (o .answer) _) sent-up
+        ∙ ap all (gives ∙ ap (λ (x : Message). outcome.leaves (after x)) first))
+
+  -- a message that is not taken only goes off its channel
+  pub drop-gives : t .f ≤ 4 → CountsFit b → 1 ≤ d → d ≤ 6 → isSoundMemory (t .f) (clientAt c (d - 1)) ≡ true
+      → isTaken (shown t c b d) k m ≡ false
+      → (b₁ : List ℕ) (from : ℕ) → from ≡ downIndex (d - 1) (k - 1) → b₁ ≡ taken b from
+      → gave Went c b₁ ≡ takeOldest t c b d k
+  unfolding sendUp
+  drop-gives few fit low high sound other b₁ from place off =
+      let goes : tookFrom t c b d k ≡ model.goesOn (shown t c b d) =
+      ap after (sym first) ∙ not-taken (size (t .f)) (t .f) d (shown t c b d) k m other in
+      let own : putClient c (d - 1) (client.store (shown t c b d)) ≡ c =
+      ap (putClient c (d - 1)) (store-view (t .f) (clientAt c (d - 1)) sound) ∙ same-back (clientStart (d - 1)) client.words c in
+      let room : roomUp t b (d - 1) 0 ≡ true = room-silent t b (d - 1) few fit (omega arith) in
+      rw (goes, room) (ap (λ (l : List ℕ). gave Went l b₁) (sym own) ∙ ap (gave Went _) (off ∙ ap (taken b) place))

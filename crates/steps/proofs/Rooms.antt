@@ -41,7 +41,7 @@ unfolding isEmpty
 empty-is [] = refl
 empty-is (m ∷ ms) = eqb·suc-zero (length ms)
 
-below-same : (p q : ℕ → Bool) (n : ℕ) → ((i : ℕ) → i < n → p i ≡ q i) → allBelow p n ≡ allBelow q n
+pub below-same : (p q : ℕ → Bool) (n : ℕ) → ((i : ℕ) → i < n → p i ≡ q i) → allBelow p n ≡ allBelow q n
 unfolding allBelow
 below-same p q zero h = refl
 below-same p q (suc n) h = rw (below-same p q n (λ i less. h i (omega arith)), h n (omega arith))

@@ -1,6 +1,6 @@
 -- Messages put on channels: what each turn of a loop over channels, and each kind of reply, adds.
 --
--- In order: a message in two words; one client's channel; first some messages, then others; one more server of a
+-- In order: a message's words put; one client's channel; first some messages, then others; one more server of a
 -- broadcast; one more reader of a forward; a server's reply by its kind.
 -- Assumes nothing.
 use mathlib.Core.Path.{_≡_, refl, sym, ap, _∙_}
@@ -9,16 +9,14 @@ use mathlib.Core.List.{List, [], _∷_, _++_, append-nil}
 use Prim.Native.Nat.{ℕ, suc, _+_, _-_}
 use native.Mathlib.Numerals.{add-one}
 use native.Mathlib.Omega.{arith}
-use Rattle.basics.specs.Bytes.{bigEndian}
 use Rattle.message.specs.declared.Message.{Message}
 use Rattle.message.specs.declared.Message.the-variants.{Info, Fwd, WriteAck}
 use Rattle.message.specs.declared.Pair.{Pair}
 use Rattle.message.specs.declared.ReadNumber.{ReadNumber}
 use Rattle.message.specs.declared.Words.{Words}
 use Rattle.message.specs.declared.WriteCounter.{WriteCounter}
-use Rattle.message.specs.Layout.{bytesOf, wordsNumber, wordsOf}
+use Rattle.message.specs.Layout.{wordsOf}
 use Rattle.message.specs.Pair.{counter}
-use Rattle.message.proofs.RoundTrip.{words-bytes}
 use Rattle.channel.specs.Memory.{putOn}
 use Rattle.register.specs.Server.{Sent, sent, forwards}
 use Rattle.server.specs.declared.Sends.the-variants as sends
@@ -27,21 +25,18 @@ use Rattle.server.specs.Taking.{sentBy}
 use Rattle.state.specs.State.{upIndex, downIndex}
 use Rattle.steps.specs.Inner.{broadcast, sendOne, sendDown}
 
--- a message put as two words is its bytes put
-pub put-message : (b b′ : List ℕ) (n n′ : ℕ) (w : Words) (m : Message) → n ≡ n′ → w ≡ wordsOf m
-    → b′ ≡ putOn b n (bigEndian 11 (wordsNumber w)) → b′ ≡ putOn b n′ (bytesOf m)
-put-message b b′ n n′ w m e f h =
-    h ∙ ap (λ (k : ℕ). putOn b k (bigEndian 11 (wordsNumber w))) e
-    ∙ ap (λ (v : Words). putOn b n′ (bigEndian 11 (wordsNumber v))) f
-    ∙ ap (putOn b n′) (words-bytes m)
+-- words put on a channel that are a message's, on a channel that is known
+pub put-message : (b b′ : List ℕ) (n n′ : ℕ) (w : Words) (m : Message) → n ≡ n′ → w ≡ wordsOf m → b′ ≡ putOn b n w
+    → b′ ≡ putOn b n′ (wordsOf m)
+put-message b b′ n n′ w m e f h = cc
 
 -- the channel to a client that works, and to one that has stopped
 pub send-working : (stopped : ℕ) (b : List ℕ) (i j : ℕ) (m : Message) → contains stopped (suc i) ≡ false
-    → sendOne stopped b j (sent (suc i) m) ≡ putOn b (downIndex i j) (bytesOf m)
+    → sendOne stopped b j (sent (suc i) m) ≡ putOn b (downIndex i j) (wordsOf m)
 unfolding sendOne
 send-working stopped b i j m e =
     let place : suc i - 1 ≡ i = omega arith in
-    rw e (ap (λ (n : ℕ). putOn b (downIndex n j) (bytesOf m)) place)
+    rw e (ap (λ (n : ℕ). putOn b (downIndex n j) (wordsOf m)) place)
 
 pub send-stopped : (stopped : ℕ) (b : List ℕ) (i j : ℕ) (m : Message) → contains stopped (suc i) ≡ true
     → sendOne stopped b j (sent (suc i) m) ≡ b
@@ -56,10 +51,10 @@ send-both stopped b j (x ∷ xs) ys = send-both stopped (sendOne stopped b j x) 
 
 -- one more server of a broadcast, honest or faulty
 module _ (faulty : ℕ) (b₀ b : List ℕ) (i : ℕ) (m : Message) (j : ℕ) (so-far : b ≡ broadcast faulty b₀ i m j) where
-  pub broadcast-honest : (b′ : List ℕ) → contains faulty (suc j) ≡ false → b′ ≡ putOn b (upIndex i j) (bytesOf m)
+  pub broadcast-honest : (b′ : List ℕ) → contains faulty (suc j) ≡ false → b′ ≡ putOn b (upIndex i j) (wordsOf m)
       → b′ ≡ broadcast faulty b₀ i m (j + 1)
   unfolding broadcast
-  broadcast-honest b′ e h = rw (add-one j, e) (h ∙ ap (λ (x : List ℕ). putOn x (upIndex i j) (bytesOf m)) so-far)
+  broadcast-honest b′ e h = rw (add-one j, e) (h ∙ ap (λ (x : List ℕ). putOn x (upIndex i j) (wordsOf m)) so-far)
 
   pub broadcast-faulty : contains faulty (suc j) ≡ true → b ≡ broadcast faulty b₀ i m (j + 1)
   unfolding broadcast

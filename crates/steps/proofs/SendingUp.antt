@@ -14,7 +14,7 @@ use lib.Seq.{append-snoc}
 use borrow.Author.Tests.{eqb-true, eq-eqb}
 use Rattle.basics.proofs.Cases.{by-test, both}
 use Rattle.message.specs.declared.Message.{Message}
-use Rattle.message.specs.Layout.{bytesOf}
+use Rattle.message.specs.Layout.{wordsOf}
 use Rattle.channel.specs.Memory.{putOn}
 use Rattle.register.specs.Thresholds.{size}
 use Rattle.register.proofs.Dropping.{nothing-put}
@@ -107,12 +107,12 @@ module _ (faulty d : ℕ) (low : 1 ≤ d) (high : d ≤ 6) (n : Table) (hn : Sho
           (λ k h f. let r = in-range j k h in room k (of-range (suc j) k (r .0) (omega arith)) f)
 
       put : contains faulty (suc j) ≡ false
-          → putOn (slotsOf (to j) n) (upIndex (d - 1) j) (bytesOf m) ≡ slotsOf (to (suc j)) n
+          → putOn (slotsOf (to j) n) (upIndex (d - 1) j) (wordsOf m) ≡ slotsOf (to (suc j)) n
       unfolding to sentUp changed
       put f =
           let e : suc j - 1 ≡ j = omega arith in
           let less : length (to j d (suc j)) < 8 = rw same (let r = room (suc j) here f in omega arith) in
-          ap (λ (i : ℕ). putOn (slotsOf (to j) n) (upIndex (d - 1) i) (bytesOf m)) (sym e)
+          ap (λ (i : ℕ). putOn (slotsOf (to j) n) (upIndex (d - 1) i) (wordsOf m)) (sym e)
           ∙ up-put (to j) n d (suc j) (record { low = low; high = high; first = omega arith; last = top }) short-so-far hn m less
           ∙ slots-same (changed (to j) d (suc j) (to j d (suc j) ++ m ∷ [])) (to (suc j)) n n
           (λ e k. rw (range-more j k)

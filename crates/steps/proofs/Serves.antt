@@ -11,12 +11,13 @@ use native.Mathlib.Omega.{arith}
 use lib.Dec.{eqb}
 use lib.ListN.{length}
 use Rattle.basics.proofs.Cases.{by-list, true-or-false}
-use Rattle.basics.proofs.Update.{update-same}
 use Rattle.message.specs.declared.Message.{Message}
 use Rattle.channel.specs.Memory.{taken}
+use Rattle.refusal.proofs.Ladders.{done, same}
 use Rattle.register.specs.declared.Answer.the-variants.{Went}
 use Rattle.register.specs.declared.Step.the-variants as code
-use Rattle.register.specs.Server.{Sent, serverAfter, serverSends, sentTo}
+use Rattle.register.specs.Formats.{formats}
+use Rattle.register.specs.Server.{Server, Sent, serverAfter, serverSends, sentTo}
 use Rattle.register.specs.Settings.{Accepted, isServer, isClient}
 use Rattle.register.specs.Steps as model
 use Rattle.register.specs.Steps.{K, isEmpty, oldest, ladder, servesOldest, accepted}
@@ -28,50 +29,63 @@ use Rattle.register.proofs.Enabled.{Enabled}
 use Rattle.register.proofs.WellFormed.{FromClient, WellFormed}
 use Rattle.register.proofs.WellServer.{well-sends}
 use Rattle.register.proofs.WellChannels.{oldest-kind}
-use Rattle.server.specs.State.{contains, view, store}
+use Rattle.server.specs.State as by-value
+use Rattle.server.specs.State.{contains}
+use Rattle.server.specs.Memory.{loaded, numbersOf}
+use Rattle.server.specs.Memory as memory
+use Rattle.server.specs.Taking.{sentBy, servedOf}
 use Rattle.state.specs.declared.Settings.{Settings}
-use Rattle.register.specs.Formats.{formats}
-use Rattle.state.specs.State.{settingsOf, stepOf, upIndex, sessionOf, storeStopped, storeSlots, storeAllReplies}
-use Rattle.steps.specs.Inner.{roomDown, sendDown, requested, replied, served, serveLadder, serveStep, innerOf}
+use Rattle.state.specs.State.{settingsOf, stepOf, serverAt, putServer, upIndex, storeStopped, storeServers, storeClients, storeSlots}
+use Rattle.steps.specs.Inner.{onServers, roomDown, sendDown, requested, replied, served, serveRungs, serveStep, innerOf}
 use Rattle.state.proofs.Formats.{client-message}
 use Rattle.state.proofs.Channels.{store-slots, slots-same, changed, short-changed, up-take, up-oldest}
+use Rattle.state.proofs.StoredParts.{server-at, server-put}
+use Rattle.state.proofs.StoredServer.{stopped-is, loaded-is, server-is, sends-is}
 use Rattle.steps.proofs.SendingDown.{sentDown, send-down}
-use Rattle.state.proofs.StoredServer.{stopped-is, server-is, sends-is}
-use Rattle.steps.proofs.Parts.{on, outcomeOf, innerAt, modelAt, step-law}
+use Rattle.steps.proofs.Modelled.{outcomeOf, innerAt, modelAt, servers-law}
 use Rattle.steps.proofs.Rooms.{up-short, down-short, inside, count-up, empty-is, room-down-is, down-room}
 
 module _ (t : Settings) (accepted : Accepted (settingsOf t)) (w : World) (well : WellFormed (settingsOf t) formats w) where
   module _ (k d : ℕ) (client : isClient (settingsOf t) d ≡ true) (server : isServer (settingsOf t) k ≡ true) where
+    -- the server is found again in its memory
+    server-loaded : loaded (serverAt (storeServers w) (k - 1)) ≡ by-value.store (w .servers k)
+    server-loaded =
+        let i = inside t accepted w well d k client server in
+        ap loaded (server-at w k (i .first) (i .last)) ∙ loaded-is (w .servers k)
+
     -- ---- the message that waits
 
     module _ (m : Message) (ms : List Message) (waits : w .up d k ≡ m ∷ ms) where
       kind : FromClient m
       kind = oldest-kind FromClient (w .up d k) m ms waits (well .up d k)
 
-      request-is : (c : ℕ) → on w k c (requested t) k d ≡ m
-      request-is c =
+      request-is : requested t (storeStopped w) (storeServers w) (storeSlots w) k d ≡ m
+      request-is =
           rw (store-slots w)
           (up-oldest (w .up) (w .down) d k (inside t accepted w well d k client server) (up-short t accepted w well)
           (down-short t accepted w well) m ms waits (client-message m kind))
 
-      replied-is : (c : ℕ) → on w k c (replied t) k d ≡ serverSends (w .servers k) d m
-      replied-is c = rw (request-is c) (sends-is (settingsOf t) accepted (w .servers k) (well .server k) d m)
+      replied-is : replied t (storeStopped w) (storeServers w) (storeSlots w) k d ≡ serverSends (w .servers k) d m
+      replied-is =
+          (λ i. sentBy d (servedOf (server-loaded i) d (request-is i) .sends))
+          ∙ sends-is (settingsOf t) accepted (w .servers k) (well .server k) d m
 
-    room-is : (c : ℕ) → isEmpty (w .up d k) ≡ false
-        → roomDown t (storeStopped w) (storeSlots w) (k - 1) (on w k c (replied t) k d)
+    room-is : isEmpty (w .up d k) ≡ false
+        → roomDown t (storeStopped w) (storeSlots w) (k - 1) (replied t (storeStopped w) (storeServers w) (storeSlots w) k d)
         ≡ model.roomDown (settingsOf t) formats w k d (oldest (w .up d k))
     unfolding isEmpty oldest
-    room-is c some =
+    room-is some =
         by-list (w .up d k) (λ e. absurd (true-or-false true refl (rw e at some)))
-        (λ m ms e. rw (replied-is m ms e c, e) (room-down-is t accepted w well k server d m))
+        (λ m ms e. rw (replied-is m ms e, e) (room-down-is t accepted w well k server d m))
 
     -- ---- it is taken
 
-    module _ (c : ℕ) (m : Message) (ms : List Message) (en : Enabled (settingsOf t) formats w (serves k d m ms)) where
+    module _ (m : Message) (ms : List Message) (en : Enabled (settingsOf t) formats w (serves k d m ms)) where
       abbrev sends : List Sent
       sends = serverSends (w .servers k) d m
 
-      slots-after : sendDown (storeStopped w) (taken (storeSlots w) (upIndex (d - 1) (k - 1))) (k - 1) (on w k c (replied t) k d)
+      slots-after : sendDown (storeStopped w) (taken (storeSlots w) (upIndex (d - 1) (k - 1))) (k - 1)
+          (replied t (storeStopped w) (storeServers w) (storeSlots w) k d)
           ≡ storeSlots (apply (settingsOf t) w (serves k d m ms))
       unfolding settingsOf sentDown changed apply nextUp nextDown leavesUp leavesDown putsUp putsDown
       slots-after =
@@ -83,7 +97,7 @@ module _ (t : Settings) (accepted : Accepted (settingsOf t)) (w : World) (well :
           let w′ = apply (settingsOf t) w (serves k d m ms) in
           let u = changed (w .up) d k ms in
           let rest : length ms ≤ 8 = let h = hu d k in let g = ap length (en .channel) in omega arith in
-          ap (sendDown z (taken (storeSlots w) (upIndex (d - 1) (k - 1))) (k - 1)) (replied-is m ms (en .channel) c)
+          ap (sendDown z (taken (storeSlots w) (upIndex (d - 1) (k - 1))) (k - 1)) (replied-is m ms (en .channel))
           ∙ ap (λ (b : List ℕ). sendDown z (taken b (upIndex (d - 1) (k - 1))) (k - 1) sends) (store-slots w)
           ∙ ap (λ (b : List ℕ). sendDown z b (k - 1) sends) (up-take (w .up) (w .down) d k i hu hn m ms (en .channel))
           ∙ send-down z k (i .first) (i .last) u (short-changed (w .up) d k ms hu rest) sends (w .down) hn
@@ -96,51 +110,49 @@ module _ (t : Settings) (accepted : Accepted (settingsOf t)) (w : World) (well :
           (stopped-is (settingsOf t) accepted formats w well))
           ∙ sym (store-slots w′)
 
-      serves-law : on w k c (served t) k d ≡ outcomeOf (settingsOf t) w (serves k d m ms) k c
-      unfolding answerOf apply nextStopped nextServers nextClients storeStopped storeAllReplies
-      serves-law =
-          let message = request-is m ms (en .channel) c in
-          let before = server-is (settingsOf t) accepted (w .servers k) (well .server k) in
-          let after-it : store (serverAfter (view (store (w .servers k))) d (on w k c (requested t) k d))
-          ≡ store (apply (settingsOf t) w (serves k d m ms) .servers k) =
-          rw (message, before, update-same (w .servers) k (serverAfter (w .servers k) d m)) in
-          λ i. record {
-            answer = Went;
-            stopped = storeStopped w;
-            server = after-it i;
-            client = sessionOf (w .clients c);
-            slots = slots-after i;
-            replies = storeAllReplies w;
-          }
+      -- what the server is then, in its memory
+      stored-after : numbersOf
+          (servedOf (loaded (serverAt (storeServers w) (k - 1))) d
+          (requested t (storeStopped w) (storeServers w) (storeSlots w) k d) .server)
+          ≡ memory.store (serverAfter (w .servers k) d m)
+      unfolding memory.store memory.view
+      stored-after =
+          let i = inside t accepted w well d k client server in
+          (λ j. numbersOf
+          (servedOf (loaded (server-at w k (i .first) (i .last) j)) d (request-is m ms (en .channel) j) .server))
+          ∙ ap (λ (x : Server). memory.store (serverAfter x d m))
+          (server-is (settingsOf t) accepted (w .servers k) (well .server k))
 
-    pub serve-law : (c : ℕ) → innerAt t w k c (code.K k d) ≡ modelAt t w k c (code.K k d)
-    unfolding innerOf serveStep stepOf ladder accepted settingsOf isEmpty
-    serve-law c =
-        step-law (settingsOf t) formats w k c (K k d) (on w k c (serveLadder t) k d) (on w k c (served t) k d) (
-          refl,
-          (
-            refl,
-            λ e. (
-              refl,
-              (
-                refl,
-                λ e. (
-                  refl,
-                  (
-                    ap (λ (n : ℕ). eqb n 0) (count-up t accepted w well d k client server) ∙ empty-is (w .up d k),
-                    λ some.
-                        (refl, (ap not (room-is c some), λ e. tt)),
-                  ),
-                ),
-              ),
-            ),
-          ),
-        )
+      servers-after : putServer (storeServers w) (k - 1)
+          (numbersOf
+          (servedOf (loaded (serverAt (storeServers w) (k - 1))) d
+          (requested t (storeStopped w) (storeServers w) (storeSlots w) k d) .server))
+          ≡ storeServers (apply (settingsOf t) w (serves k d m ms))
+      unfolding storeServers apply nextServers
+      servers-after =
+          let i = inside t accepted w well d k client server in
+          ap (putServer (storeServers w) (k - 1)) stored-after
+          ∙ server-put (w .servers) k (i .first) (i .last) (serverAfter (w .servers k) d m)
+
+      serves-law : onServers (storeClients w) (served t (storeStopped w) (storeServers w) (storeSlots w) k d)
+          ≡ outcomeOf (settingsOf t) w (serves k d m ms)
+      unfolding answerOf apply nextStopped nextClients storeStopped storeClients
+      serves-law =
+          λ i. record { answer = Went; servers = servers-after i; clients = storeClients w; slots = slots-after i }
+
+    pub serve-law : innerAt t w (code.K k d) ≡ modelAt t w (code.K k d)
+    unfolding innerOf serveStep stepOf ladder accepted settingsOf isEmpty storeClients
+    serve-law =
+        servers-law (settingsOf t) formats w (K k d) (serveRungs t (storeStopped w) (storeServers w) (storeSlots w) k d)
+        (served t (storeStopped w) (storeServers w) (storeSlots w) k d)
+        (same refl (λ e. same refl (λ e. same
+        (ap (λ (n : ℕ). eqb n 0) (count-up t accepted w well d k client server) ∙ empty-is (w .up d k))
+        (λ some. same (ap not (room-is some)) (λ e. done)))))
         (λ none en. by-list (w .up d k)
         (λ e. absurd (true-or-false true refl (rw e at (none .1 .1 .0))))
         (λ m ms e. subst
-        (λ (l : List Message). on w k c (served t) k d
-        ≡ outcomeOf (settingsOf t) w (servesOldest (settingsOf t) formats k d l) k c)
+        (λ (l : List Message). onServers (storeClients w) (served t (storeStopped w) (storeServers w) (storeSlots w) k d)
+        ≡ outcomeOf (settingsOf t) w (servesOldest (settingsOf t) formats k d l))
         (sym e)
-        (serves-law c m ms
+        (serves-law m ms
         (subst (λ (l : List Message). Enabled (settingsOf t) formats w (servesOldest (settingsOf t) formats k d l)) e en))))

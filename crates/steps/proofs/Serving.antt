@@ -1,52 +1,52 @@
--- K: what the code does one after the other is the definition's step.
+-- K: the last rung of a serve, and what it gives: the server that the message makes stored, and the reply sent.
+--
+-- The code takes the message off its channel only where the reply fits (`take_if`), and refuses by the same answer: a refusal
+-- leaves the slots as they were.
 -- Assumes nothing.
-use mathlib.Core.Path.{_≡_, ap, _∙_}
-use mathlib.Core.Bool.{Bool, true, false, cond, not}
+use mathlib.Core.Path.{_≡_, sym, ap, _∙_}
+use mathlib.Core.Bool.{Bool, true, false, cond}
 use mathlib.Core.List.{List}
 use Prim.Native.Nat.{ℕ, suc, _-_, _≤_}
 use native.Mathlib.Omega.{arith}
-use borrow.Author.Tests.{not-true, not-false}
+use Rattle.refusal.specs.declared.Refusal.the-variants.{FullChannel}
 use Rattle.message.specs.declared.Message.{Message}
 use Rattle.channel.specs.Memory.{taken}
-use Rattle.register.specs.declared.Answer.the-variants.{Went}
+use Rattle.register.specs.declared.Answer.the-variants.{Went, Refused}
 use Rattle.server.specs.declared.Served.{Served}
-use Rattle.server.specs.declared.Server.{Server}
+use Rattle.server.specs.Memory as server
 use Rattle.server.specs.Taking.{servedOf, sentBy}
-use Rattle.state.specs.declared.Session.{Session}
 use Rattle.state.specs.declared.Settings.{Settings}
-use Rattle.state.specs.State.{upIndex, messageAt}
-use Rattle.steps.specs.Inner.{after, roomDown, sendDown}
+use Rattle.state.specs.State.{upIndex, messageAt, serverAt, putServer}
+use Rattle.steps.specs.Inner.{roomDown, sendDown, gave, requested, served, serveOldest}
 
--- the slots after `take_if`: as they were if the reply does not fit, without the oldest message of the channel if it does
-module _ (b : List ℕ) (from : ℕ) (fits : Bool) (b₁ : List ℕ) (e : b₁ ≡ cond fits (taken b from) b) where
-  pub refused-keeps : not fits ≡ true → b₁ ≡ b
-  refused-keeps h = e ∙ ap (λ (x : Bool). cond x (taken b from) b) (not-true fits h)
+module _ (t : Settings) (z : ℕ) (s b : List ℕ) (k d : ℕ) where
+  -- what comes of a message
+  abbrev after : Message → Served
+  after m = servedOf (server.loaded (serverAt s (k - 1))) d m
 
-  pub passed-takes : not fits ≡ false → b₁ ≡ taken b from
-  passed-takes h = e ∙ ap (λ (x : Bool). cond x (taken b from) b) (not-false fits h)
+  -- message m, the oldest of channel `from`, is served; the slots b₁ are without it if the reply fits
+  module _ (from : ℕ) (m : Message) (x : Served) (fits : Bool) (b₁ : List ℕ) (place : from ≡ upIndex (d - 1) (k - 1))
+      (first : m ≡ messageAt b from) (result : x ≡ after m) (room : fits ≡ roomDown t z b (k - 1) (sentBy d (x .sends)))
+      (left : b₁ ≡ cond fits (taken b from) b) where
+    serves : x ≡ after (requested t z s b k d)
+    serves = result ∙ ap after (first ∙ ap (messageAt b) place)
 
-module _ (v : Server) (b : List ℕ) (k d : ℕ) (from : ℕ) (m : Message) (s : Served)
-    (place : from ≡ upIndex (d - 1) (k - 1)) (first : m ≡ messageAt b from) (result : s ≡ servedOf v d m) where
-  -- the oldest message is served
-  serves : s ≡ servedOf v d (messageAt b (upIndex (d - 1) (k - 1)))
-  serves = result ∙ ap (servedOf v d) (first ∙ ap (λ (n : ℕ). messageAt b n) place)
+    room-is : roomDown t z b (k - 1) (sentBy d (after (requested t z s b k d) .sends)) ≡ fits
+    room-is = sym (room ∙ ap (λ (y : Served). roomDown t z b (k - 1) (sentBy d (y .sends))) serves)
 
-  pub room-served : (t : Settings) (z : ℕ)
-      → roomDown t z b (k - 1) (sentBy d (s .sends))
-      ≡ roomDown t z b (k - 1) (sentBy d (servedOf v d (messageAt b (upIndex (d - 1) (k - 1))) .sends))
-  room-served t z = ap (λ (y : Served). roomDown t z b (k - 1) (sentBy d (y .sends))) serves
+    pub serve-refused : fits ≡ false → gave (Refused FullChannel) s b₁ ≡ serveOldest t z s b k d
+    serve-refused full = rw (room-is ∙ full) (ap (gave (Refused FullChannel) s) (rw full at left))
 
-  pub served-gives : (z : ℕ) (c : Session) (r b₁ b₂ : List ℕ) → 1 ≤ d → b₁ ≡ taken b from
-      → b₂ ≡ sendDown z b₁ (k - 1) (sentBy (suc (d - 1)) (s .sends))
-      → after Went z (s .server) c b₂ r
-      ≡ after Went z (servedOf v d (messageAt b (upIndex (d - 1) (k - 1))) .server) c
-      (sendDown z (taken b (upIndex (d - 1) (k - 1))) (k - 1)
-      (sentBy d (servedOf v d (messageAt b (upIndex (d - 1) (k - 1))) .sends))) r
-  served-gives z c r b₁ b₂ low e f =
-      let up : ℕ = upIndex (d - 1) (k - 1) in
-      let same : suc (d - 1) ≡ d = omega arith in
-      let sent-down : b₂ ≡ sendDown z (taken b up) (k - 1) (sentBy d (s .sends)) =
-      f ∙ ap (λ (x : List ℕ). sendDown z x (k - 1) (sentBy (suc (d - 1)) (s .sends))) (e ∙ ap (taken b) place)
-      ∙ ap (λ (n : ℕ). sendDown z (taken b up) (k - 1) (sentBy n (s .sends))) same in
-      ap (λ (x : List ℕ). after Went z (s .server) c x r) sent-down
-      ∙ ap (λ (y : Served). after Went z (y .server) c (sendDown z (taken b up) (k - 1) (sentBy d (y .sends))) r) serves
+    pub serve-gives : 1 ≤ d → fits ≡ true → (s′ b₂ : List ℕ) → s′ ≡ putServer s (k - 1) (server.numbersOf (x .server))
+        → b₂ ≡ sendDown z b₁ (k - 1) (sentBy (suc (d - 1)) (x .sends)) → gave Went s′ b₂ ≡ serveOldest t z s b k d
+    serve-gives low enough s′ b₂ e f =
+        let up : ℕ = upIndex (d - 1) (k - 1) in
+        let same : suc (d - 1) ≡ d = omega arith in
+        let sent-down : b₂ ≡ sendDown z (taken b up) (k - 1) (sentBy d (x .sends)) =
+        f ∙ ap (λ (l : List ℕ). sendDown z l (k - 1) (sentBy (suc (d - 1)) (x .sends)))
+        ((rw enough at left) ∙ ap (taken b) place)
+        ∙ ap (λ (n : ℕ). sendDown z (taken b up) (k - 1) (sentBy n (x .sends))) same in
+        rw (room-is ∙ enough)
+        (ap (λ (l : List ℕ). gave Went l b₂) e ∙ ap (gave Went _) sent-down
+        ∙ ap (λ (y : Served). gave Went (putServer s (k - 1) (server.numbersOf (y .server)))
+        (sendDown z (taken b up) (k - 1) (sentBy d (y .sends)))) serves)

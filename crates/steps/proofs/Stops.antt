@@ -10,8 +10,10 @@ use Prim.Native.Nat.{ℕ, _-_}
 use lib.Dec.{eqb}
 use Rattle.basics.specs.Update.{update}
 use Rattle.message.specs.declared.Message.{Message}
+use Rattle.refusal.proofs.Ladders.{done, same}
 use Rattle.register.specs.declared.Answer.the-variants.{Went}
 use Rattle.register.specs.declared.Step.the-variants as code
+use Rattle.register.specs.Formats.{formats}
 use Rattle.register.specs.Settings.{Accepted, isServer, isClient}
 use Rattle.register.specs.Steps.{C, ladder, accepted}
 use Rattle.register.specs.Thresholds.{size}
@@ -20,15 +22,15 @@ use Rattle.register.specs.World.{leavesUp, leavesDown, putsUp, putsDown}
 use Rattle.register.proofs.Bounds.{client-small}
 use Rattle.register.proofs.Dropping.{nothing-put}
 use Rattle.register.proofs.WellFormed.{WellFormed}
-use Rattle.server.specs.State.{contains, setOf, store}
+use Rattle.server.specs.State.{contains, setOf}
 use Rattle.state.specs.declared.Settings.{Settings}
-use Rattle.register.specs.Formats.{formats}
-use Rattle.state.specs.State.{settingsOf, stepOf, isOf, sessionOf, storeStopped, storeSlots, storeAllReplies}
-use Rattle.steps.specs.Inner.{emptied, left, stopLadder, stopStep, innerOf}
+use Rattle.state.specs.State.{settingsOf, stepOf, isOf, putStopped, storeStopped, storeServers, storeClients, storeSlots}
+use Rattle.steps.specs.Inner.{emptied, left, stopRungs, stopStep, innerOf}
 use Rattle.state.proofs.Ranges.{and-false}
 use Rattle.state.proofs.Channels.{store-slots, slots-same}
+use Rattle.state.proofs.StoredParts.{clientsOf}
 use Rattle.steps.proofs.Emptying.{without, empty-all}
-use Rattle.steps.proofs.Parts.{on, innerAt, modelAt, step-law}
+use Rattle.steps.proofs.Modelled.{innerAt, modelAt, clients-law}
 use Rattle.steps.proofs.Rooms.{few-servers, up-short, down-short, stopped-same}
 
 one-more : (a b : Bool) → a || b ≡ cond a true b
@@ -66,16 +68,20 @@ module _ (t : Settings) (accepted : Accepted (settingsOf t)) (w : World) (well :
         ∙ sym (nothing-put (w .stopped e) (cond (eqb d e) [] (w .down e k))))
         ∙ sym (store-slots w′)
 
-    pub stop-law : (k c : ℕ) → innerAt t w k c (code.C d) ≡ modelAt t w k c (code.C d)
-    unfolding innerOf stopStep stepOf ladder accepted answerOf apply nextServers nextClients storeAllReplies
-    stop-law k c =
-        step-law (settingsOf t) formats w k c (C d) (on w k c (stopLadder t) d) (on w k c (left t) d)
-        (refl, (refl, λ e. (refl, (stopped-same t accepted w well d, λ e. tt))))
+    clients-after : putStopped (storeClients w) (setOf (λ e. eqb d e || contains (storeStopped w) e) 6)
+        ≡ storeClients (apply (settingsOf t) w (stops d))
+    unfolding storeClients apply nextClients
+    clients-after = ap (λ (z : ℕ). clientsOf z (w .clients)) stopped-after
+
+    pub stop-law : innerAt t w (code.C d) ≡ modelAt t w (code.C d)
+    unfolding innerOf stopStep stepOf ladder accepted answerOf apply nextServers storeServers storeClients
+    stop-law =
+        clients-law (settingsOf t) formats w (C d) (stopRungs t (storeClients w) (storeSlots w) d)
+        (left t (storeClients w) (storeSlots w) d)
+        (same refl (λ e. same (stopped-same t accepted w well d) (λ e. done)))
         (λ none en. λ i. record {
           answer = Went;
-          stopped = stopped-after i;
-          server = store (w .servers k);
-          client = sessionOf (w .clients c);
+          servers = storeServers w;
+          clients = clients-after i;
           slots = slots-after i;
-          replies = storeAllReplies w;
         })

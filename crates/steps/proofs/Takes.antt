@@ -1,8 +1,7 @@
 -- D: the code's step is the model's.
 --
--- The message in the first slot is the oldest of the channel, and the client is found again in its stored parts, so the code
--- makes of the message what the client makes of it; its replies are stored anew, and its messages go in the room that the ladder
--- has tested.
+-- The message in the first slot is the oldest of the channel, and the client is found again in its memory, so the code makes of the
+-- message what the client makes of it; its memory is stored anew, and its messages go in the room that the ladder has tested.
 -- Assumes nothing.
 use mathlib.Core.Path.{_≡_, refl, sym, ap, subst, _∙_}
 use mathlib.Core.Bool.{true, false, not}
@@ -13,11 +12,12 @@ use native.Mathlib.Omega.{arith}
 use lib.Dec.{eqb}
 use lib.ListN.{length}
 use Rattle.basics.proofs.Cases.{by-list, true-or-false}
-use Rattle.basics.proofs.Update.{update-same}
 use Rattle.message.specs.declared.Message.{Message}
 use Rattle.channel.specs.Memory.{taken}
+use Rattle.refusal.proofs.Ladders.{done, same}
 use Rattle.register.specs.declared.Step.the-variants as code
 use Rattle.register.specs.Client.{Taken, clientTakes}
+use Rattle.register.specs.Formats.{formats}
 use Rattle.register.specs.Settings.{Accepted, isServer, isClient}
 use Rattle.register.specs.Steps as model
 use Rattle.register.specs.Steps.{D, isEmpty, oldest, ladder, takesOldest, accepted}
@@ -29,55 +29,52 @@ use Rattle.register.proofs.Dropping.{nothing-put}
 use Rattle.register.proofs.Enabled.{Enabled}
 use Rattle.register.proofs.WellFormed.{FromServer, WellFormed}
 use Rattle.register.proofs.WellChannels.{oldest-kind}
-use Rattle.server.specs.State.{store}
-use Rattle.replies.specs.Replies.{storeReplies}
+use Rattle.client.specs.Memory.{store}
 use Rattle.state.specs.declared.Settings.{Settings}
-use Rattle.register.specs.Formats.{formats}
-use Rattle.state.specs.State.{settingsOf, stepOf, downIndex, putReplies, messageAt}
-use Rattle.state.specs.State.{sessionOf, storeStopped, storeSlots, storeAllReplies}
-use Rattle.steps.specs.Inner.{after, roomUp, sendUp, tookFrom, took, takeLadder, takeStep, innerOf}
-use Rattle.state.proofs.Viewed.{client-is}
+use Rattle.state.specs.State.{settingsOf, stepOf, downIndex, putClient, storeStopped, storeServers, storeClients, storeSlots}
+use Rattle.steps.specs.Inner.{gave, onClients, roomUp, sendUp, replyAt, tookFrom, took, takeRungs, takeStep, innerOf}
 use Rattle.state.proofs.Formats.{server-message}
 use Rattle.state.proofs.Channels.{store-slots, slots-same, changed, short-changed, down-take, down-oldest}
+use Rattle.state.proofs.StoredParts.{client-put}
 use Rattle.steps.proofs.SendingUp.{sentUp, send-up}
-use Rattle.state.proofs.Replies.{replies-put}
-use Rattle.steps.proofs.Parts.{on, outcomeOf, innerAt, modelAt, step-law}
+use Rattle.steps.proofs.Modelled.{outcomeOf, innerAt, modelAt, clients-law}
 use Rattle.steps.proofs.Rooms.{few-servers, up-short, down-short, stopped-same, inside, count-down, empty-is}
 use Rattle.steps.proofs.Rooms.{room-up-is, room-of}
+use Rattle.steps.proofs.Starts.{shown-is}
 
 module _ (t : Settings) (accepted : Accepted (settingsOf t)) (w : World) (well : WellFormed (settingsOf t) formats w) where
-  -- ---- the client
-
   module _ (d k : ℕ) (client : isClient (settingsOf t) d ≡ true) (server : isServer (settingsOf t) k ≡ true) where
+    -- what the client makes of the oldest message, by its memory
+    abbrev taken-in : Taken
+    taken-in = tookFrom t (storeClients w) (storeSlots w) d k
+
     -- ---- the message that waits
 
     module _ (m : Message) (ms : List Message) (waits : w .down d k ≡ m ∷ ms) where
-      message-is : messageAt (storeSlots w) (downIndex (d - 1) (k - 1)) ≡ m
+      message-is : replyAt (storeSlots w) d k ≡ m
       message-is =
           rw (store-slots w)
           (down-oldest (w .up) (w .down) d k (inside t accepted w well d k client server) (up-short t accepted w well)
           (down-short t accepted w well) m ms waits
           (server-message m (oldest-kind FromServer (w .down d k) m ms waits (well .down d k))))
 
-      took-is : (j : ℕ) → on w j d (tookFrom t) d k ≡ takenBy (settingsOf t) w d k m
+      took-is : taken-in ≡ takenBy (settingsOf t) w d k m
       unfolding settingsOf
-      took-is j =
-          let r = client-small (settingsOf t) accepted d client in
-          λ i. clientTakes (size (t .f)) (t .f) d (client-is t accepted w well d (r .0) (r .1) i) k (message-is i)
+      took-is = λ i. clientTakes (size (t .f)) (t .f) d (shown-is t accepted w well d client i) k (message-is i)
 
-    room-is : (j : ℕ) → isEmpty (w .down d k) ≡ false
-        → roomUp t (storeSlots w) (d - 1) (length (on w j d (tookFrom t) d k .sends))
+    room-is : isEmpty (w .down d k) ≡ false
+        → roomUp t (storeSlots w) (d - 1) (length (taken-in .sends))
         ≡ model.roomUp (settingsOf t) formats w d (length (takenBy (settingsOf t) w d k (oldest (w .down d k)) .sends))
     unfolding isEmpty oldest
-    room-is j some =
+    room-is some =
         by-list (w .down d k) (λ e. absurd (true-or-false true refl (rw e at some)))
         (λ m ms e. rw e
-        (ap (λ (x : Taken). roomUp t (storeSlots w) (d - 1) (length (x .sends))) (took-is m ms e j)
+        (ap (λ (x : Taken). roomUp t (storeSlots w) (d - 1) (length (x .sends))) (took-is m ms e)
         ∙ room-up-is t accepted w well d client (length (takenBy (settingsOf t) w d k m .sends))))
 
     -- ---- it is taken
 
-    module _ (j : ℕ) (m : Message) (ms : List Message) (en : Enabled (settingsOf t) formats w (takes d k m ms)) where
+    module _ (m : Message) (ms : List Message) (en : Enabled (settingsOf t) formats w (takes d k m ms)) where
       abbrev taker : Taken
       taker = takenBy (settingsOf t) w d k m
 
@@ -100,56 +97,40 @@ module _ (t : Settings) (accepted : Accepted (settingsOf t)) (w : World) (well :
           ∙ slots-same _ (w′ .up) n (w′ .down) (λ e j. refl) (λ e j. sym (nothing-put (w .stopped e) (n e j)))
           ∙ sym (store-slots w′)
 
-      replies-after : putReplies (storeAllReplies w) (d - 1) (storeReplies (taker .client))
-          ≡ storeAllReplies (apply (settingsOf t) w (takes d k m ms))
-      unfolding storeAllReplies apply nextClients
-      replies-after =
+      clients-after : putClient (storeClients w) (d - 1) (store (taker .client))
+          ≡ storeClients (apply (settingsOf t) w (takes d k m ms))
+      unfolding storeClients apply nextClients nextStopped
+      clients-after =
           let r = client-small (settingsOf t) accepted d client in
-          replies-put (w .clients) d (r .0) (r .1) (taker .client)
+          client-put _ (w .clients) d (r .0) (r .1) (taker .client)
 
-      takes-law : on w j d (took t) d k ≡ outcomeOf (settingsOf t) w (takes d k m ms) j d
-      unfolding answerOf apply nextStopped nextServers nextClients storeStopped
+      takes-law : onClients (storeServers w) (took t (storeClients w) (storeSlots w) d k)
+          ≡ outcomeOf (settingsOf t) w (takes d k m ms)
+      unfolding answerOf apply nextServers storeServers
       takes-law =
-          let client-after = sym (update-same (w .clients) d (taker .client)) in
-          ap (λ (x : Taken). after (x .answer) (storeStopped w) (store (w .servers j)) (sessionOf (x .client))
-          (sendUp t (taken (storeSlots w) (downIndex (d - 1) (k - 1))) (d - 1) (x .sends))
-          (putReplies (storeAllReplies w) (d - 1) (storeReplies (x .client)))) (took-is m ms (en .channel) j)
+          ap (λ (x : Taken). onClients (storeServers w)
+          (gave (x .answer) (putClient (storeClients w) (d - 1) (store (x .client)))
+          (sendUp t (taken (storeSlots w) (downIndex (d - 1) (k - 1))) (d - 1) (x .sends)))) (took-is m ms (en .channel))
           ∙ (λ i. record {
             answer = taker .answer;
-            stopped = storeStopped w;
-            server = store (w .servers j);
-            client = sessionOf (client-after i);
+            servers = storeServers w;
+            clients = clients-after i;
             slots = slots-after i;
-            replies = replies-after i;
           })
 
-    pub take-law : (j : ℕ) → innerAt t w j d (code.D d k) ≡ modelAt t w j d (code.D d k)
-    unfolding innerOf takeStep stepOf ladder accepted isEmpty
-    take-law j =
-        step-law (settingsOf t) formats w j d (D d k) (on w j d (takeLadder t) d k) (on w j d (took t) d k) (
-          refl,
-          (
-            refl,
-            λ e. (
-              refl,
-              (
-                stopped-same t accepted w well d,
-                λ e. (
-                  refl,
-                  (
-                    ap (λ (n : ℕ). eqb n 0) (count-down t accepted w well d k client server) ∙ empty-is (w .down d k),
-                    λ some.
-                        (refl, (ap not (room-is j some), λ e. tt)),
-                  ),
-                ),
-              ),
-            ),
-          ),
-        )
+    pub take-law : innerAt t w (code.D d k) ≡ modelAt t w (code.D d k)
+    unfolding innerOf takeStep stepOf ladder accepted isEmpty storeClients
+    take-law =
+        clients-law (settingsOf t) formats w (D d k) (takeRungs t (storeClients w) (storeSlots w) d k)
+        (took t (storeClients w) (storeSlots w) d k)
+        (same refl (λ e. same (stopped-same t accepted w well d) (λ e. same
+        (ap (λ (n : ℕ). eqb n 0) (count-down t accepted w well d k client server) ∙ empty-is (w .down d k))
+        (λ some. same (ap not (room-is some)) (λ e. done)))))
         (λ none en. by-list (w .down d k)
         (λ e. absurd (true-or-false true refl (rw e at (none .1 .1 .0))))
         (λ m ms e. subst
-        (λ (l : List Message). on w j d (took t) d k ≡ outcomeOf (settingsOf t) w (takesOldest (settingsOf t) formats d k l) j d)
+        (λ (l : List Message). onClients (storeServers w) (took t (storeClients w) (storeSlots w) d k)
+        ≡ outcomeOf (settingsOf t) w (takesOldest (settingsOf t) formats d k l))
         (sym e)
-        (takes-law j m ms
+        (takes-law m ms
         (subst (λ (l : List Message). Enabled (settingsOf t) formats w (takesOldest (settingsOf t) formats d k l)) e en))))

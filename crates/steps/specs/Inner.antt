@@ -1,25 +1,26 @@
--- What each step does to the parts of a state that it concerns: one server, one client's phase and read number, the
--- slots of the channels, the replies. It is the code's own account, list by list; `proofs/` shows that it is the
--- model's step on the world that the state stands for.
+-- What each step does to the lent memory: the servers s, the clients c, the slots b. It is the code's own account, list by list;
+-- `proofs/` shows that it is the model's step on the world that the state stands for.
 --
--- In order: room on channels; messages put on channels; what a step gives; the six steps; one step.
+-- In order: room on channels; messages put on channels; what a step gives; R and W; K; D; C; L; one step. The order of refusals
+-- is the model's ladder of each step (`register/specs/Ladders`), which is given the tests on memory here.
 -- Assumes nothing.
 use Prim.Native.Nat.{ℕ, zero, suc, _+_, _-_}
-use mathlib.Core.Bool.{Bool, cond, not, _&&_, _||_}
+use mathlib.Core.Bool.{Bool, false, cond, not, _&&_, _||_}
 use mathlib.Core.List.{List, [], _∷_}
 use mathlib.Core.Option.{Option, none, some}
 use lib.Dec.{leb, eqb}
 use lib.ListN.{length}
+use Rattle.basics.specs.Bytes.{spelt}
 use Rattle.basics.specs.Tests.{allBelow}
 use Rattle.refusal.specs.declared.Refusal.{Refusal}
-use Rattle.refusal.specs.declared.Refusal.the-variants as no
-use Rattle.refusal.specs.Ladder.{Rung, _when_, lowest}
+use Rattle.refusal.specs.Ladder.{Rung, lowest}
 use Rattle.licence.specs.Entry.{isLicence}
 use Rattle.message.specs.declared.Entry.{Entry}
 use Rattle.message.specs.declared.Message.{Message}
 use Rattle.message.specs.declared.Message.the-variants.{GetInfo}
+use Rattle.message.specs.declared.ReadNumber.{ReadNumber}
 use Rattle.message.specs.declared.Words.{Words}
-use Rattle.message.specs.Layout.{bytesOf, unpackOf}
+use Rattle.message.specs.Layout.{unpackOf, words, wordsOf}
 use Rattle.channel.specs.Memory.{countAt, putOn, taken, cleared}
 use Rattle.register.specs.declared.Answer.{Answer}
 use Rattle.register.specs.declared.Answer.the-variants.{Went, Refused}
@@ -27,18 +28,20 @@ use Rattle.register.specs.declared.Phase.{Phase}
 use Rattle.register.specs.declared.Phase.the-variants.{Reading, ReadingForWrite}
 use Rattle.register.specs.declared.Step.{Step}
 use Rattle.register.specs.declared.Step.the-variants as step
-use Rattle.register.specs.Client as client
+use Rattle.register.specs.Client as model
+use Rattle.register.specs.Ladders.{readLadder, writeLadder, serveLadder, takeLadder, stopLadder, lieLadder}
 use Rattle.register.specs.Server.{Sent, sentTo}
 use Rattle.register.specs.Settings.{isClient, isServer, mostClients}
 use Rattle.register.specs.Steps.{slots, isReply}
 use Rattle.register.specs.Thresholds.{size}
-use Rattle.server.specs.declared.Server.{Server}
 use Rattle.server.specs.State.{contains, setOf}
+use Rattle.server.specs.Memory as server
 use Rattle.server.specs.Taking.{servedOf, sentBy}
-use Rattle.replies.specs.Replies.{storeReplies}
-use Rattle.state.specs.declared.Session.{Session}
+use Rattle.client.specs.Memory as client
 use Rattle.state.specs.declared.Settings.{Settings}
-use Rattle.state.specs.State.{settingsOf, bytesIn, upIndex, downIndex, repliesAt, putReplies, sessionOf, clientIn, messageAt}
+use Rattle.state.specs.State.{settingsOf, bytesIn, serverAt, putServer, putStopped, clientAt, putClient, upIndex, downIndex}
+use Rattle.state.specs.State.{messageAt}
+use Rattle.state.specs.State as state
 
 -- ---- room
 
@@ -59,7 +62,7 @@ roomDown t stopped b j xs =
 unfoldable pub broadcast : ℕ → List ℕ → ℕ → Message → ℕ → List ℕ
 broadcast faulty b i m zero = b
 broadcast faulty b i m (suc j) =
-    cond (contains faulty (suc j)) (broadcast faulty b i m j) (putOn (broadcast faulty b i m j) (upIndex i j) (bytesOf m))
+    cond (contains faulty (suc j)) (broadcast faulty b i m j) (putOn (broadcast faulty b i m j) (upIndex i j) (wordsOf m))
 
 -- to all honest servers
 abbrev pub toAll : Settings → List ℕ → ℕ → Message → List ℕ
@@ -72,7 +75,7 @@ sendUp t b i (m ∷ ms) = sendUp t (toAll t b i m) i ms
 
 -- a message on the channel from the server at place j to a client, unless that has stopped
 unfoldable pub sendOne : ℕ → List ℕ → ℕ → Sent → List ℕ
-sendOne stopped b j x = cond (contains stopped (x .to)) b (putOn b (downIndex (x .to - 1) j) (bytesOf (x .message)))
+sendOne stopped b j x = cond (contains stopped (x .to)) b (putOn b (downIndex (x .to - 1) j) (wordsOf (x .message)))
 
 unfoldable pub sendDown : ℕ → List ℕ → ℕ → List Sent → List ℕ
 sendDown stopped b j [] = b
@@ -85,132 +88,207 @@ emptied b i (suc j) = cleared (emptied b i j) (downIndex i j)
 
 -- ---- what a step gives
 
+-- its answer, and the three arrays after it
 pub record After : Type 0 where
   pub answer : Answer
-  pub stopped : ℕ
-  pub server : Server
-  pub client : Session
+  pub servers : List ℕ
+  pub clients : List ℕ
   pub slots : List ℕ
-  pub replies : List ℕ
 
-abbrev pub after : Answer → ℕ → Server → Session → List ℕ → List ℕ → After
-after a z v c b r = record { answer = a; stopped = z; server = v; client = c; slots = b; replies = r }
+abbrev pub after : Answer → List ℕ → List ℕ → List ℕ → After
+after a s c b = record { answer = a; servers = s; clients = c; slots = b }
+
+-- a step changes one of the arrays, its own, and the slots: K the servers; R, W, D and C the clients
+pub record Gave : Type 0 where
+  pub answer : Answer
+  pub own : List ℕ
+  pub slots : List ℕ
+
+abbrev pub gave : Answer → List ℕ → List ℕ → Gave
+gave a own b = record { answer = a; own = own; slots = b }
+
+abbrev pub onServers : List ℕ → Gave → After
+onServers c x = after (x .answer) (x .own) c (x .slots)
+
+abbrev pub onClients : List ℕ → Gave → After
+onClients s x = after (x .answer) s (x .own) (x .slots)
 
 -- the refusal, which changes nothing, or what the step gives
-abbrev pub unless : Option Refusal → ℕ → Server → Session → List ℕ → List ℕ → After → After
-unless none z v c b r x = x
-unless (some n) z v c b r x = after (Refused n) z v c b r
+abbrev pub unless : Option Refusal → List ℕ → List ℕ → Gave → Gave
+unless none own b x = x
+unless (some n) own b x = gave (Refused n) own b
 
--- ---- the six steps, on the settings t, the stopped clients z, a server v, a client c, slots b and replies r
-module _ (t : Settings) (z : ℕ) (v : Server) (c : Session) (b r : List ℕ) where
-  -- a client's noted timestamps, sets and acknowledgements with its phase and read number
-  abbrev pub clientAt : ℕ → client.Client
-  clientAt i = clientIn c (repliesAt r i)
+-- ---- R and W: client d starts in a phase
 
-  -- R and W: a start
-  abbrev pub begun : ℕ → Phase → After
+module _ (t : Settings) (c b : List ℕ) where
+  -- what the memory of client d shows
+  abbrev pub shown : ℕ → model.Client
+  shown d = client.view (clientAt c (d - 1))
+
+  abbrev pub nextOf : ℕ → ReadNumber
+  nextOf d = record { 0 = shown d .reads .0 + 1 }
+
+  -- the next read number and the phase are stored, and GET_INFO goes on every channel
+  abbrev pub begun : ℕ → Phase → Gave
   begun d ph =
-      after Went z v (record { phase = ph; reads = record { 0 = c .reads .0 + 1 } })
-      (sendUp t b (d - 1) (GetInfo (record { 0 = c .reads .0 + 1 }) ∷ [])) r
+      gave Went
+      (putClient c (d - 1)
+      (client.stored (clientAt c (d - 1)) (record { number = d; f = t .f; phase = ph; reads = nextOf d })))
+      (sendUp t b (d - 1) (GetInfo (nextOf d) ∷ []))
 
-  abbrev pub readLadder : ℕ → List Rung
-  readLadder d =
-      no.NoSuchProcess when not (isClient (settingsOf t) d)
-      ∷ no.Stopped when contains z d
-      ∷ no.Busy when not (client.isIdle (c .phase))
-      ∷ no.Exhausted when leb client.highest (c .reads .0)
-      ∷ no.FullChannel when not (roomUp t b (d - 1) 2)
-      ∷ []
+  -- the tests of a start: no such client, stopped, busy, read numbers used up, no room for more messages
+  abbrev pub isAbsent : ℕ → Bool
+  isAbsent d = not (isClient (settingsOf t) d)
 
-  unfoldable pub readStep : ℕ → After
-  readStep d = unless (lowest (readLadder d)) z v c b r (begun d Reading)
+  abbrev pub isStopped : ℕ → Bool
+  isStopped d = contains (state.stoppedIn c) d
 
-  abbrev pub writeLadder : ℕ → Entry → List Rung
-  writeLadder d e =
-      no.NoSuchProcess when not (isClient (settingsOf t) d)
-      ∷ no.Stopped when contains z d
-      ∷ no.Busy when not (client.isIdle (c .phase))
-      ∷ no.NoEntry when not (isLicence (e .0))
-      ∷ no.Exhausted when leb client.highest (c .reads .0)
-      ∷ no.FullChannel when not (roomUp t b (d - 1) 3)
-      ∷ []
+  abbrev pub isBusy : ℕ → Bool
+  isBusy d = not (model.isIdle (shown d .phase))
 
-  unfoldable pub writeStep : ℕ → Entry → After
-  writeStep d e = unless (lowest (writeLadder d e)) z v c b r (begun d (ReadingForWrite e))
+  abbrev pub isExhausted : ℕ → Bool
+  isExhausted d = leb model.highest (shown d .reads .0)
 
-  -- K: the server takes the oldest message of client d
+  abbrev pub isFull : ℕ → ℕ → Bool
+  isFull d more = not (roomUp t b (d - 1) more)
+
+  -- a read's start counts 2 slots, a write's 3
+  abbrev pub readRungs : ℕ → List Rung
+  readRungs d = readLadder (isAbsent d) (isStopped d) (isBusy d) (isExhausted d) (isFull d 2)
+
+  unfoldable pub readStep : ℕ → Gave
+  readStep d = unless (lowest (readRungs d)) c b (begun d Reading)
+
+  abbrev pub writeRungs : ℕ → Entry → List Rung
+  writeRungs d e =
+      writeLadder (isAbsent d) (isStopped d) (isBusy d) (not (isLicence (e .0))) (isExhausted d) (isFull d 3)
+
+  unfoldable pub writeStep : ℕ → Entry → Gave
+  writeStep d e = unless (lowest (writeRungs d e)) c b (begun d (ReadingForWrite e))
+
+  -- both, for any phase, entry and number of slots; and what is left to refuse once 4 to 8 are not
+  abbrev pub startStep : ℕ → Phase → Bool → ℕ → Gave
+  startStep d ph noEntry more =
+      unless (lowest (writeLadder (isAbsent d) (isStopped d) (isBusy d) noEntry (isExhausted d) (isFull d more))) c b
+      (begun d ph)
+
+  abbrev pub beginStep : ℕ → Phase → ℕ → Gave
+  beginStep d ph more =
+      unless (lowest (readLadder false false false (isExhausted d) (isFull d more))) c b (begun d ph)
+
+-- ---- K: server k takes the oldest message of client d
+
+module _ (t : Settings) (z : ℕ) (s b : List ℕ) where
   abbrev pub requested : ℕ → ℕ → Message
   requested k d = messageAt b (upIndex (d - 1) (k - 1))
 
   abbrev pub replied : ℕ → ℕ → List Sent
-  replied k d = sentBy d (servedOf v d (requested k d) .sends)
+  replied k d = sentBy d (servedOf (server.loaded (serverAt s (k - 1))) d (requested k d) .sends)
 
-  abbrev pub served : ℕ → ℕ → After
+  abbrev pub served : ℕ → ℕ → Gave
   served k d =
-      after Went z (servedOf v d (requested k d) .server) c
-      (sendDown z (taken b (upIndex (d - 1) (k - 1))) (k - 1) (replied k d)) r
+      gave Went
+      (putServer s (k - 1)
+      (server.numbersOf (servedOf (server.loaded (serverAt s (k - 1))) d (requested k d) .server)))
+      (sendDown z (taken b (upIndex (d - 1) (k - 1))) (k - 1) (replied k d))
 
-  abbrev pub serveLadder : ℕ → ℕ → List Rung
-  serveLadder k d =
-      no.NoSuchProcess when not (isClient (settingsOf t) d && isServer (settingsOf t) k)
-      ∷ no.WrongRole when contains (t .faulty) k
-      ∷ no.EmptyChannel when eqb (countAt b (upIndex (d - 1) (k - 1))) 0
-      ∷ no.FullChannel when not (roomDown t z b (k - 1) (replied k d))
-      ∷ []
+  -- once 4, 5 and 10 are not refused
+  abbrev pub serveOldest : ℕ → ℕ → Gave
+  serveOldest k d =
+      unless (lowest (serveLadder false false false (not (roomDown t z b (k - 1) (replied k d))))) s b (served k d)
 
-  unfoldable pub serveStep : ℕ → ℕ → After
-  serveStep k d = unless (lowest (serveLadder k d)) z v c b r (served k d)
+  abbrev pub serveRungs : ℕ → ℕ → List Rung
+  serveRungs k d =
+      serveLadder (not (isClient (settingsOf t) d && isServer (settingsOf t) k)) (contains (t .faulty) k)
+      (eqb (countAt b (upIndex (d - 1) (k - 1))) 0) (not (roomDown t z b (k - 1) (replied k d)))
 
-  -- D: the client takes the oldest message of server k
-  abbrev pub tookFrom : ℕ → ℕ → client.Taken
-  tookFrom d k = client.clientTakes (size (t .f)) (t .f) d (clientAt (d - 1)) k (messageAt b (downIndex (d - 1) (k - 1)))
+  unfoldable pub serveStep : ℕ → ℕ → Gave
+  serveStep k d = unless (lowest (serveRungs k d)) s b (served k d)
 
-  abbrev pub took : ℕ → ℕ → After
+-- ---- D: client d takes the oldest message of server k
+
+-- the message
+abbrev pub replyAt : List ℕ → ℕ → ℕ → Message
+replyAt b d k = messageAt b (downIndex (d - 1) (k - 1))
+
+module _ (t : Settings) (c b : List ℕ) where
+  abbrev pub tookFrom : ℕ → ℕ → model.Taken
+  tookFrom d k = model.clientTakes (size (t .f)) (t .f) d (shown t c b d) k (replyAt b d k)
+
+  abbrev pub took : ℕ → ℕ → Gave
   took d k =
-      after (tookFrom d k .answer) z v (sessionOf (tookFrom d k .client))
+      gave (tookFrom d k .answer) (putClient c (d - 1) (client.store (tookFrom d k .client)))
       (sendUp t (taken b (downIndex (d - 1) (k - 1))) (d - 1) (tookFrom d k .sends))
-      (putReplies r (d - 1) (storeReplies (tookFrom d k .client)))
 
-  abbrev pub takeLadder : ℕ → ℕ → List Rung
-  takeLadder d k =
-      no.NoSuchProcess when not (isClient (settingsOf t) d && isServer (settingsOf t) k)
-      ∷ no.Stopped when contains z d
-      ∷ no.EmptyChannel when eqb (countAt b (downIndex (d - 1) (k - 1))) 0
-      ∷ no.FullChannel when not (roomUp t b (d - 1) (length (tookFrom d k .sends)))
-      ∷ []
+  -- once 4, 6 and 10 are not refused
+  abbrev pub takeOldest : ℕ → ℕ → Gave
+  takeOldest d k =
+      unless (lowest (takeLadder false false false (isFull t c b d (length (tookFrom d k .sends))))) c b (took d k)
 
-  unfoldable pub takeStep : ℕ → ℕ → After
-  takeStep d k = unless (lowest (takeLadder d k)) z v c b r (took d k)
+  abbrev pub takeRungs : ℕ → ℕ → List Rung
+  takeRungs d k =
+      takeLadder (not (isClient (settingsOf t) d && isServer (settingsOf t) k)) (isStopped t c b d)
+      (eqb (countAt b (downIndex (d - 1) (k - 1))) 0) (isFull t c b d (length (tookFrom d k .sends)))
 
-  -- C: the client stops, and the channels to it are emptied
-  abbrev pub left : ℕ → After
-  left d = after Went (setOf (λ e. eqb d e || contains z e) mostClients) v c (emptied b (d - 1) (size (t .f))) r
+  unfoldable pub takeStep : ℕ → ℕ → Gave
+  takeStep d k = unless (lowest (takeRungs d k)) c b (took d k)
 
-  abbrev pub stopLadder : ℕ → List Rung
-  stopLadder d = no.NoSuchProcess when not (isClient (settingsOf t) d) ∷ no.Stopped when contains z d ∷ []
+  -- ---- C: client d stops, and the channels to it are emptied
 
-  unfoldable pub stopStep : ℕ → After
-  stopStep d = unless (lowest (stopLadder d)) z v c b r (left d)
+  abbrev pub left : ℕ → Gave
+  left d =
+      gave Went (putStopped c (setOf (λ e. eqb d e || contains (state.stoppedIn c) e) mostClients))
+      (emptied b (d - 1) (size (t .f)))
 
-  -- L: faulty server k puts a message on its channel to client d
-  abbrev pub lied : ℕ → ℕ → Words → After
-  lied k d w = after Went z v c (cond (contains z d) b (putOn b (downIndex (d - 1) (k - 1)) (bytesIn w))) r
+  abbrev pub stopRungs : ℕ → List Rung
+  stopRungs d = stopLadder (isAbsent t c b d) (isStopped t c b d)
 
-  abbrev pub lieLadder : ℕ → ℕ → Words → List Rung
-  lieLadder k d w =
-      no.NoSuchProcess when not (isClient (settingsOf t) d && isServer (settingsOf t) k)
-      ∷ no.WrongRole when not (contains (t .faulty) k)
-      ∷ no.Malformed when not (isReply (unpackOf (bytesIn w)))
-      ∷ no.FullChannel when not (contains z d || leb (countAt b (downIndex (d - 1) (k - 1)) + 1) slots)
-      ∷ []
+  unfoldable pub stopStep : ℕ → Gave
+  stopStep d = unless (lowest (stopRungs d)) c b (left d)
 
-  unfoldable pub lieStep : ℕ → ℕ → Words → After
-  lieStep k d w = unless (lowest (lieLadder k d w)) z v c b r (lied k d w)
+-- ---- L: faulty server k puts a message on its channel to client d
 
-  unfoldable pub innerOf : Step → After
-  innerOf (step.R d) = readStep d
-  innerOf (step.W d e) = writeStep d e
-  innerOf (step.K k d) = serveStep k d
-  innerOf (step.D d k) = takeStep d k
-  innerOf (step.C d) = stopStep d
-  innerOf (step.L k d w) = lieStep k d w
+-- its answer, and the slots after it
+pub record Told : Type 0 where
+  pub answer : Answer
+  pub slots : List ℕ
+
+abbrev pub told : Answer → List ℕ → Told
+told a b = record { answer = a; slots = b }
+
+abbrev pub unlessTold : Option Refusal → List ℕ → Told → Told
+unlessTold none b x = x
+unlessTold (some n) b x = told (Refused n) b
+
+module _ (z : ℕ) (b : List ℕ) where
+  -- the words of its bytes are put; to a stopped client they are dropped
+  abbrev pub lied : ℕ → ℕ → Words → Told
+  lied k d w = told Went (cond (contains z d) b (putOn b (downIndex (d - 1) (k - 1)) (words (spelt 0 (bytesIn w)))))
+
+  abbrev pub noRoomFor : ℕ → ℕ → Bool
+  noRoomFor k d = not (contains z d || leb (countAt b (downIndex (d - 1) (k - 1)) + 1) slots)
+
+  -- once 4, 5 and 9 are not refused
+  abbrev pub lieWith : ℕ → ℕ → Words → Told
+  lieWith k d w = unlessTold (lowest (lieLadder false false false (noRoomFor k d))) b (lied k d w)
+
+abbrev pub lieRungs : Settings → ℕ → List ℕ → ℕ → ℕ → Words → List Rung
+lieRungs t z b k d w =
+    lieLadder (not (isClient (settingsOf t) d && isServer (settingsOf t) k)) (not (contains (t .faulty) k))
+    (not (isReply (unpackOf (bytesIn w)))) (noRoomFor z b k d)
+
+unfoldable pub lieStep : Settings → ℕ → List ℕ → ℕ → ℕ → Words → Told
+lieStep t z b k d w = unlessTold (lowest (lieRungs t z b k d w)) b (lied z b k d w)
+
+abbrev pub onSlots : List ℕ → List ℕ → Told → After
+onSlots s c x = after (x .answer) s c (x .slots)
+
+-- ---- one step
+
+unfoldable pub innerOf : Settings → List ℕ → List ℕ → List ℕ → Step → After
+innerOf t s c b (step.R d) = onClients s (readStep t c b d)
+innerOf t s c b (step.W d e) = onClients s (writeStep t c b d e)
+innerOf t s c b (step.K k d) = onServers c (serveStep t (state.stoppedIn c) s b k d)
+innerOf t s c b (step.D d k) = onClients s (takeStep t c b d k)
+innerOf t s c b (step.C d) = onClients s (stopStep t c b d)
+innerOf t s c b (step.L k d w) = onSlots s c (lieStep t (state.stoppedIn c) b k d w)

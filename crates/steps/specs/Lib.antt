@@ -1,4 +1,2 @@
 pub mod Inner
-pub mod Checks
-pub mod Kinds
 pub mod Ready

@@ -13,66 +13,42 @@ ghost use Rattle.server.specs.State.{contains};
 ghost use Rattle.server.specs.Taking.{sentBy};
 ghost use Rattle.state.specs.State.{upIndex, downIndex, messageAt};
 ghost use Rattle.steps.specs.Inner as inner;
+ghost use Rattle.steps.specs.Ready.{SpareEmpty};
 use channel::Slots;
 use message::Message;
 use message::Pair;
 use message::Unpacked;
 use server::Sends;
+use state::SERVERS;
 use state::Settings;
+use state::down;
 use state::is_in;
+use state::up;
 
 // The slots of a channel.
-const SLOTS: u32 = 8;
-
-// The channel from a client to a server, and the one back.
-pub fn up(i: usize, j: usize) -> usize
-    requires { ⌜ (i < 6) × (j < 13) ⌝ }
-    ensures { λ r. ⌜ r ≡ upIndex i j ⌝ }
-{
-    i * 13 + j
-}
-
-pub fn down(i: usize, j: usize) -> usize
-    requires { ⌜ (i < 6) × (j < 13) ⌝ }
-    ensures { λ r. ⌜ r ≡ downIndex i j ⌝ }
-{
-    78 + (i * 13 + j)
-}
+const SLOTS: u64 = 8;
 
 // Whether a channel has room for more messages.
-pub fn has_room(b: &Slots, c: usize, more: u32) -> bool
+pub fn has_room(b: &Slots, c: usize, more: u64) -> bool
     requires { ⌜ (c < 156) × (more ≤ 8) ⌝ }
     ensures { λ r. ⌜ r ≡ leb (countAt (now (b .entry)) c + more) 8 ⌝ }
 {
-    channel::count(b, c) as u32 + more <= SLOTS
+    channel::count(b, c) <= SLOTS - more
 }
 
-// Whether the channel from a client to a server drops, or has room.
-fn has_room_to(faulty: u16, b: &Slots, i: usize, j: usize, more: u32) -> bool
-    requires { ⌜ (i < 6) × (j < 13) × (more ≤ 8) ⌝ }
-    ensures { λ r. ⌜ r ≡ (contains faulty (suc j) || leb (countAt (now (b .entry)) (upIndex i j) + more) 8) ⌝ }
-{
-    if is_in(faulty, j) {
-        return true;
-    }
-    has_room(b, up(i, j), more)
-}
-
-// Whether every channel from a client to an honest server has room for more messages.
-pub fn has_room_up(t: Settings, b: &Slots, i: usize, more: u32) -> bool
-    requires { ⌜ (i < 6) × (t .f ≤ 4) × (more ≤ 8) ⌝ }
+// Whether every channel from a client to an honest server has room for more messages. All 13 counts are looked at, and no test
+// branches: a channel that drops or is not used is empty, and which of the others are full cannot be foreseen.
+pub fn has_room_up(t: Settings, b: &Slots, i: usize, more: u64) -> bool
+    requires { ⌜ (i < 6) × (t .f ≤ 4) × (more ≤ 8) × SpareEmpty t (now b) ⌝ }
     ensures { λ r. ⌜ r ≡ inner.roomUp t (now (b .entry)) i more ⌝ }
 {
-    let faulty = t.faulty;
-    let n = register::servers(t.f) as usize;
+    let mut fits = true;
     let mut j = 0;
-    while j < n {
-        if !has_room_to(faulty, b, i, j, more) {
-            return false;
-        }
+    while j < SERVERS {
+        fits = fits & has_room(b, up(i, j), more);
         j += 1;
     }
-    true
+    fits
 }
 
 // A message on the channels from a client to all honest servers.
@@ -81,7 +57,7 @@ pub fn broadcast(t: Settings, b: &mut Slots, i: usize, m: Message)
     ensures { λ r. ⌜ now (b .exit) ≡ inner.toAll t (now (b .entry)) i m ⌝ }
 {
     let w = message::words_of(m);
-    let faulty = t.faulty;
+    let faulty = t.faulty as u64;
     let n = register::servers(t.f) as usize;
     let mut j = 0;
     while j < n {
@@ -93,7 +69,7 @@ pub fn broadcast(t: Settings, b: &mut Slots, i: usize, m: Message)
 }
 
 // How many messages a client sends to each server.
-pub fn count_sent(s: client::Sends) -> u32
+pub fn count_sent(s: client::Sends) -> u64
     ensures { λ r. ⌜ (r ≡ length (messagesOf s)) × (r ≤ 2) ⌝ }
 {
     match s {
@@ -142,49 +118,45 @@ pub fn take_if(b: &mut Slots, c: usize, fits: bool)
 }
 
 // How many messages go to the client at place i when a server replies to client d.
-fn count_to(s: Sends, d: u8, i: usize) -> u32
+fn count_to(s: Sends, d: u8, i: usize) -> u64
     requires { ⌜ i < 6 ⌝ }
     ensures { λ r. ⌜ (r ≡ length (sentTo (suc i) (sentBy d s))) × (r ≤ 2) ⌝ }
 {
-    let own = (d as usize == i + 1) as u32;
+    let own = (d as usize == i + 1) as u64;
     match s {
         Sends::Nothing => 0,
         Sends::Info(_t, _p) => own,
-        Sends::Forward(set, _p) => is_in(set as u16, i) as u32 + own,
+        Sends::Forward(set, _p) => is_in(set as u64, i) as u64 + own,
     }
 }
 
 // Whether the channel from a server to a client drops, or has room for the server's reply to client d.
-fn has_room_from(stopped: u8, b: &Slots, i: usize, j: usize, d: u8, s: Sends) -> bool
+fn has_room_from(stopped: u64, b: &Slots, i: usize, j: usize, d: u8, s: Sends) -> bool
     requires { ⌜ (i < 6) × (j < 13) ⌝ }
     ensures { λ r. ⌜ r ≡ (contains stopped (suc i)
         || leb (countAt (now (b .entry)) (downIndex i j) + length (sentTo (suc i) (sentBy d s))) 8) ⌝ }
 {
-    if is_in(stopped as u16, i) {
-        return true;
-    }
-    has_room(b, down(i, j), count_to(s, d, i))
+    is_in(stopped, i) | has_room(b, down(i, j), count_to(s, d, i))
 }
 
 // Whether every channel from a server to a working client has room for the server's reply to client d.
-fn all_have_room(t: Settings, stopped: u8, b: &Slots, j: usize, d: u8, s: Sends) -> bool
+fn all_have_room(t: Settings, stopped: u64, b: &Slots, j: usize, d: u8, s: Sends) -> bool
     requires { ⌜ (j < 13) × (t .clients ≤ 6) ⌝ }
     ensures { λ r. ⌜ r ≡ inner.roomDown t stopped (now (b .entry)) j (sentBy d s) ⌝ }
 {
     let n = t.clients as usize;
+    let mut fits = true;
     let mut i = 0;
     while i < n {
-        if !has_room_from(stopped, b, i, j, d, s) {
-            return false;
-        }
+        fits = fits & has_room_from(stopped, b, i, j, d, s);
         i += 1;
     }
-    true
+    fits
 }
 
 // The same, where no channel holds more than its slots: there is room where nothing is sent, and for an INFO if there is on its own
 // channel.
-pub fn has_room_down(t: Settings, stopped: u8, b: &Slots, j: usize, d: u8, s: Sends) -> bool
+pub fn has_room_down(t: Settings, stopped: u64, b: &Slots, j: usize, d: u8, s: Sends) -> bool
     requires { ⌜ (j < 13) × (t .clients ≤ 6) × (1 ≤ d) × (d ≤ 6) × CountsFit (now b) ⌝ }
     ensures { λ r. ⌜ r ≡ inner.roomDown t stopped (now (b .entry)) j (sentBy d s) ⌝ }
 {
@@ -201,23 +173,23 @@ pub fn has_room_down(t: Settings, stopped: u8, b: &Slots, j: usize, d: u8, s: Se
 }
 
 // A message on the channel from a server to a client, unless the client has stopped.
-fn send_one(stopped: u8, b: &mut Slots, i: usize, j: usize, m: Message)
+fn send_one(stopped: u64, b: &mut Slots, i: usize, j: usize, m: Message)
     requires { ⌜ (i < 6) × (j < 13) ⌝ }
     ensures { λ r. ⌜ now (b .exit) ≡ inner.sendOne stopped (now (b .entry)) j (sent (suc i) m) ⌝ }
 {
-    if !is_in(stopped as u16, i) {
+    if !is_in(stopped, i) {
         channel::put(b, down(i, j), message::words_of(m));
     }
 }
 
 // FWD of a pair on the channels from a server to the working clients of a set, lowest first.
-fn forward(stopped: u8, b: &mut Slots, j: usize, set: u8, p: Pair)
+fn forward(stopped: u64, b: &mut Slots, j: usize, set: u8, p: Pair)
     requires { ⌜ j < 13 ⌝ }
     ensures { λ r. ⌜ now (b .exit) ≡ inner.sendDown stopped (now (b .entry)) j (forwards (contains set) p 6) ⌝ }
 {
     let mut i = 0;
     while i < 6 {
-        if is_in(set as u16, i) {
+        if is_in(set as u64, i) {
             send_one(stopped, b, i, j, Message::Fwd(p));
         }
         i += 1;
@@ -225,7 +197,7 @@ fn forward(stopped: u8, b: &mut Slots, j: usize, set: u8, p: Pair)
 }
 
 // A server's reply to the client at place i.
-pub fn reply(stopped: u8, b: &mut Slots, i: usize, j: usize, s: Sends)
+pub fn reply(stopped: u64, b: &mut Slots, i: usize, j: usize, s: Sends)
     requires { ⌜ (i < 6) × (j < 13) ⌝ }
     ensures { λ r. ⌜ now (b .exit) ≡ inner.sendDown stopped (now (b .entry)) j (sentBy (suc i) s) ⌝ }
 {

@@ -1,9 +1,9 @@
--- Steps one after the other, from an accepted setup: the answers and states that they give are those of the
--- history, and a state stays sound.
+-- Steps one after the other, from an accepted setup: the answers and states that they give are those of the history, and a state
+-- stays sound.
 --
--- A stored world is sound and its view is the world (`state`), so a step of it is the model's, stored
--- (`stored-stepped`). The next world is well formed again (`register`), and so on along the list
--- (`along-is`). So demand 3 speaks of the answers that the steps gave (`demand-three`).
+-- A stored world is sound and its view is the world (`state`), so a step of it is the model's, stored (`stored-stepped`). The next
+-- world is well formed again (`register`), and so on along the list (`along-is`). So demand 3 speaks of the answers that the steps
+-- gave (`demand-three`).
 -- Assumes nothing.
 use mathlib.Core.Path.{_≡_, refl, sym, ap, _∙_}
 use mathlib.Core.Bool.{true}
@@ -21,22 +21,21 @@ use Rattle.register.proofs.Formats.{lawful, holds-always}
 use Rattle.register.proofs.Reachable.{well-step, well-formed}
 use Rattle.register.proofs.WellFormed.{WellFormed}
 use Rattle.state.specs.declared.Settings.{Settings}
-use Rattle.state.specs.declared.System.{System}
 use Rattle.state.specs.Sound.{isSound}
-use Rattle.state.specs.State.{settingsOf, stepOf, storeSystem, storeSlots, storeAllReplies, view}
+use Rattle.state.specs.State.{settingsOf, stepOf, storeServers, storeClients, storeSlots, view}
 use Rattle.state.proofs.SoundFacts.{Allowed, facts}
 use Rattle.state.proofs.StoredSound.{stored-state}
 use Rattle.state.proofs.Viewed.{view-stored}
 use Rattle.state.proofs.WellViewed.{well-view}
-use Rattle.system.specs.Step.{Result, result, storedBy, eventIn, stepped}
+use Rattle.steps.specs.Inner.{After, after}
+use Rattle.system.specs.Step.{storedBy, eventIn, stepped}
+use Rattle.system.specs.Stored.{Stored}
 
 -- ---- one step of a stored world
 
-module _ (t : Settings) (allowed : Allowed t) (w : World) (well : WellFormed (settingsOf t) formats w)
-    (x : Step) where
-  pub stored-stepped : stepped (storeSystem t w) (storeSlots w) (storeAllReplies w) x
-      ≡ storedBy t w (eventIn t w x)
-  unfolding stepped storeSystem
+module _ (t : Settings) (allowed : Allowed t) (w : World) (well : WellFormed (settingsOf t) formats w) (x : Step) where
+  pub stored-stepped : stepped t (storeServers w) (storeClients w) (storeSlots w) x ≡ storedBy t w (eventIn t w x)
+  unfolding stepped
   stored-stepped =
       rw (stored-state t allowed w well)
       (ap (λ (v : World). storedBy t v (eventIn t v x)) (view-stored t (allowed .accepted) w well))
@@ -44,26 +43,25 @@ module _ (t : Settings) (allowed : Allowed t) (w : World) (well : WellFormed (se
   abbrev pub next : World
   next = apply (settingsOf t) w (eventIn t w x)
 
-  pub next-sound : isSound (storeSystem t next) (storeSlots next) (storeAllReplies next) ≡ true
+  pub next-sound : isSound t (storeServers next) (storeClients next) (storeSlots next) ≡ true
   next-sound =
       stored-state t allowed next
       (well-step (settingsOf t) formats (allowed .accepted) lawful w well (stepOf x))
 
 -- a sound state stays sound
-pub kept : (s : System) (b r : List ℕ) (x : Step) → isSound s b r ≡ true
-    → isSound (stepped s b r x .system) (stepped s b r x .slots) (stepped s b r x .replies) ≡ true
+pub kept : (t : Settings) (s c b : List ℕ) (x : Step) → isSound t s c b ≡ true
+    → isSound t (stepped t s c b x .servers) (stepped t s c b x .clients) (stepped t s c b x .slots) ≡ true
 unfolding stepped
-kept s b r x sound =
-    let f = facts s b r sound in
-    rw sound (next-sound (s .settings) (f .allowed) (view s b r) (well-view s b r f) x)
+kept t s c b x sound =
+    let f = facts t s c b sound in rw sound (next-sound t (f .allowed) (view s c b) (well-view t s c b f) x)
 
 -- ---- a list of steps
 
 -- what step i - 1 gave; before the first, the setup
-unfoldable pub along : Settings → List Step → ℕ → Result
-along t xs zero = result Went (storeSystem t newWorld) (storeSlots newWorld) (storeAllReplies newWorld)
+unfoldable pub along : Settings → List Step → ℕ → After
+along t xs zero = after Went (storeServers newWorld) (storeClients newWorld) (storeSlots newWorld)
 along t xs (suc i) =
-    stepped (along t xs i .system) (along t xs i .slots) (along t xs i .replies) (getD xs i (code.R 0))
+    stepped t (along t xs i .servers) (along t xs i .clients) (along t xs i .slots) (getD xs i (code.R 0))
 
 same-step : (xs : List Step) (i : ℕ) → getD (map stepOf xs) i (model.R 0) ≡ stepOf (getD xs i (code.R 0))
 unfolding stepOf
@@ -80,35 +78,33 @@ module _ (t : Settings) (allowed : Allowed t) (xs : List Step) where
   well : (i : ℕ) → WellFormed (settingsOf t) formats (before i)
   well = well-formed (settingsOf t) formats (allowed .accepted) lawful (map stepOf xs)
 
-  -- the state before step i is that of the world
-  record Stands (i : ℕ) : Type 0 where
-    system : along t xs i .system ≡ storeSystem t (before i)
-    slots : along t xs i .slots ≡ storeSlots (before i)
-    replies : along t xs i .replies ≡ storeAllReplies (before i)
+  -- the memory before step i is that of the world
+  abbrev Stands : ℕ → Type 0
+  Stands i = Stored (before i) (along t xs i .servers) (along t xs i .clients) (along t xs i .slots)
 
   -- what the history says of step i
-  abbrev pub says : ℕ → Result
+  abbrev pub says : ℕ → After
   says i =
-      result (answerAt (settingsOf t) formats (map stepOf xs) i) (storeSystem t (before (suc i)))
-      (storeSlots (before (suc i))) (storeAllReplies (before (suc i)))
+      after (answerAt (settingsOf t) formats (map stepOf xs) i) (storeServers (before (suc i)))
+      (storeClients (before (suc i))) (storeSlots (before (suc i)))
 
   gives : (i : ℕ) → Stands i → along t xs (suc i) ≡ says i
   unfolding along worldAt
   gives i p =
-      (λ q. stepped (p .system q) (p .slots q) (p .replies q) (getD xs i (code.R 0)))
+      (λ q. stepped t (p .servers q) (p .clients q) (p .slots q) (getD xs i (code.R 0)))
       ∙ stored-stepped t allowed (before i) (well i) (getD xs i (code.R 0))
       ∙ ap (λ (y : model.Step). storedBy t (before i) (model.eventOf (settingsOf t) formats (before i) y))
       (sym (same-step xs i))
 
   stands : (i : ℕ) → Stands i
   unfolding along worldAt
-  stands zero = record { system = refl; slots = refl; replies = refl }
+  stands zero = record { servers = refl; clients = refl; slots = refl }
   stands (suc i) =
       let e = gives i (stands i) in
       record {
-        system = ap (λ (z : Result). z .system) e;
-        slots = ap (λ (z : Result). z .slots) e;
-        replies = ap (λ (z : Result). z .replies) e;
+        servers = ap (λ (z : After). z .servers) e;
+        clients = ap (λ (z : After). z .clients) e;
+        slots = ap (λ (z : After). z .slots) e;
       }
 
   -- step i answers what the history says, and leaves the stored form of the next world

@@ -1,9 +1,8 @@
-pub mod EndLaws
 pub mod Turn
-pub mod RunLaws
+pub mod StepLaws
 pub mod ReadyLaws
 pub mod SetupLaws
-pub mod StepLaws
+pub mod RunLaws
 pub mod Histories
-pub mod Bytes
 pub mod Refusals
+pub mod Bytes

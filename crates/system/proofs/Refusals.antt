@@ -22,12 +22,13 @@ use Rattle.register.specs.World.{leavesDown}
 use Rattle.register.specs.World.{putsUp, putsDown}
 use Rattle.register.proofs.Dropping.{nothing-put}
 use Rattle.register.proofs.Outcomes.{Outcome, dropped, waits, shows, spends, sends, acks, ends, outcome}
-use Rattle.state.specs.declared.System.{System}
+use Rattle.state.specs.declared.Settings as code
 use Rattle.state.specs.Sound.{isSound}
-use Rattle.state.specs.State.{settingsOf, storeSystem, storeSlots, storeAllReplies, view}
+use Rattle.state.specs.State.{settingsOf, storeServers, storeClients, storeSlots, view}
 use Rattle.state.proofs.SoundFacts.{facts}
-use Rattle.state.proofs.Restored.{system-back, slots-back, replies-all-back}
-use Rattle.system.specs.Step.{Result, result, storedBy, eventIn, stepped}
+use Rattle.state.proofs.Restored.{servers-back, clients-back, slots-back}
+use Rattle.steps.specs.Inner.{After, after}
+use Rattle.system.specs.Step.{storedBy, eventIn, stepped}
 
 module _ (S : Settings) (w : World) where
   -- a client that takes a message does not refuse
@@ -62,23 +63,21 @@ module _ (S : Settings) (w : World) where
         down = λ e j. nothing-put (w .stopped e) (w .down e j) i;
       }
 
-module _ (s : System) (b r : List ℕ) (x : Step) (n : Refusal) where
-  sound-keeps : isSound s b r ≡ true
-      → storedBy (s .settings) (view s b r) (eventIn (s .settings) (view s b r) x) .answer ≡ Refused n
-      → storedBy (s .settings) (view s b r) (eventIn (s .settings) (view s b r) x) ≡ result (Refused n) s b r
+module _ (t : code.Settings) (s c b : List ℕ) (x : Step) (n : Refusal) where
+  sound-keeps : isSound t s c b ≡ true
+      → storedBy t (view s c b) (eventIn t (view s c b) x) .answer ≡ Refused n
+      → storedBy t (view s c b) (eventIn t (view s c b) x) ≡ after (Refused n) s c b
   unfolding answerOf
   sound-keeps sound h =
-      let t = s .settings in
-      let w = view s b r in
-      let f = facts s b r sound in
-      let at : World → Result =
-      λ v. result (Refused n) (storeSystem t v) (storeSlots v) (storeAllReplies v) in
+      let w = view s c b in
+      let f = facts t s c b sound in
+      let at : World → After = λ v. after (Refused n) (storeServers v) (storeClients v) (storeSlots v) in
       ap (storedBy t w) (refused-event (settingsOf t) w (eventIn t w x) n h)
       ∙ ap at (nothing (settingsOf t) w n)
-      ∙ (λ q. result (Refused n) (system-back s b r f q) (slots-back s b r f q) (replies-all-back s b r f q))
+      ∙ (λ q. after (Refused n) (servers-back t s c b f q) (clients-back t s c b f q) (slots-back t s c b f q))
 
-  pub refused-keeps : stepped s b r x .answer ≡ Refused n → stepped s b r x ≡ result (Refused n) s b r
+  pub refused-keeps : stepped t s c b x .answer ≡ Refused n → stepped t s c b x ≡ after (Refused n) s c b
   unfolding stepped
   refused-keeps =
-      by-test (isSound s b r) (λ e. rw e (sound-keeps e))
-      (λ e. rw e (λ h. ap (λ (a : Answer). result a s b r) h))
+      by-test (isSound t s c b) (λ e. rw e (sound-keeps e))
+      (λ e. rw e (λ h. ap (λ (a : Answer). after a s c b) h))

@@ -3,12 +3,12 @@
 -- Why: step i of the numbers in memory is step i of the history's list (`step-at`), so what a turn leaves is the
 -- history's next world, and what it answers is the history's answer.
 -- Assumes nothing.
-use mathlib.Core.Path.{_≡_, refl, sym, ap, subst, _∙_}
+use mathlib.Core.Path.{_≡_, refl, sym, ap, _∙_}
 use mathlib.Core.List.{List}
-use Prim.Native.Nat.{ℕ, suc, _+_, _-_, _<_}
+use Prim.Native.Nat.{ℕ, suc, _+_, _<_}
 use native.Mathlib.Numerals.{add-one}
-use native.Mathlib.Omega.{arith}
 use lib.ListN.{getD}
+use Rattle.basics.proofs.Listed.{listed-get}
 use Rattle.register.specs.Formats.{formats}
 use Rattle.register.specs.History.{worldAt, answerAt}
 use Rattle.register.specs.Settings as register
@@ -20,12 +20,10 @@ use Rattle.register.proofs.Formats.{lawful}
 use Rattle.register.proofs.Reachable.{well-formed}
 use Rattle.register.proofs.WellFormed.{WellFormed}
 use Rattle.state.specs.declared.Settings.{Settings}
-use Rattle.state.specs.declared.System.{System}
+use Rattle.state.specs.State.{settingsOf, stepOf, storeServers, storeClients, storeSlots}
 use Rattle.steps.specs.Inner.{After}
 use Rattle.system.specs.Run.{stepIn, stepsIn, putAnswer, answered, Run}
-use Rattle.state.specs.State.{settingsOf, stepOf, numbered, storeSystem, storeSlots, storeAllReplies}
 use Rattle.system.specs.Stored.{Stored}
-use Rattle.state.proofs.Numbered.{numbered-at}
 use Rattle.system.proofs.Turn.{Turned}
 
 -- ---- the worlds of a run are well formed
@@ -39,11 +37,7 @@ module _ (S : register.Settings) (accepted : Accepted S) where
 module _ (t : Settings) (xs : List ℕ) (n : ℕ) where
   step-at : (i : ℕ) → i < n → getD (stepsIn xs n) i (model.R 0) ≡ stepOf (stepIn xs i)
   unfolding stepsIn
-  step-at i less =
-      let p : suc i - 1 ≡ i = omega arith in
-      subst (λ (j : ℕ). getD (numbered (λ k. stepOf (stepIn xs (k - 1))) n) j (model.R 0)
-      ≡ stepOf (stepIn xs j)) p
-      (numbered-at n (suc i) (omega arith) less (λ k. stepOf (stepIn xs (k - 1))) (model.R 0))
+  step-at i less = listed-get (λ j. stepOf (stepIn xs j)) n i (model.R 0) less
 
   abbrev S : register.Settings
   S = settingsOf t
@@ -63,43 +57,28 @@ module _ (t : Settings) (xs : List ℕ) (n : ℕ) where
 
   module _ (out : List ℕ) where
     -- before the first step nothing is written
-    pub run-none : (s : System) (b r : List ℕ) → Stored t newWorld s b r → Run t xs out n 0 s b r out
+    pub run-none : (s c b : List ℕ) → Stored newWorld s c b → Run t xs out n 0 s c b out
     unfolding answered worldAt
-    run-none s b r st = record { stored = st; answers = refl }
+    run-none s c b st = record { stored = st; answers = refl }
 
-    pub run-more : (i : ℕ) → i < n → (s : System) (o : After) (old new : List ℕ)
+    pub run-more : (i : ℕ) → i < n → (o : After) (old new : List ℕ)
         → old ≡ answered (answerAt S formats (stepsIn xs n)) out i
         → new ≡ putAnswer old i (o .answer)
-        → Turned t (at i) (stepIn xs i) s o
-        → Run t xs out n (i + 1) s (o .slots) (o .replies) new
+        → Turned t (at i) (stepIn xs i) o
+        → Run t xs out n (i + 1) (o .servers) (o .clients) (o .slots) new
     unfolding answered
-    run-more i less s o old new e g h =
+    run-more i less o old new e g h =
         let w = sym (next-world i less) in
         rw (add-one i)
         (record {
           stored =
               record {
-                system = h .stored .system ∙ ap (λ (z : World). storeSystem t z) w;
+                servers = h .stored .servers ∙ ap storeServers w;
+                clients = h .stored .clients ∙ ap storeClients w;
                 slots = h .stored .slots ∙ ap storeSlots w;
-                replies = h .stored .replies ∙ ap storeAllReplies w;
               };
           answers =
               g ∙ ap (λ (z : List ℕ). putAnswer z i (o .answer)) e
               ∙ ap (putAnswer (answered (answerAt S formats (stepsIn xs n)) out i) i)
               (h .answer ∙ sym (next-answer i less));
         })
-
--- ---- a state has the settings of its world
-
-pub own-settings : (t : Settings) (w : World) (s : System) (b r : List ℕ) → Stored t w s b r → s .settings ≡ t
-unfolding storeSystem
-own-settings t w s b r st = ap (λ (z : System). z .settings) (st .system)
-
-pub stored-own : (t : Settings) (w : World) (s : System) (b r : List ℕ) → Stored t w s b r
-    → Stored (s .settings) w s b r
-stored-own t w s b r st = subst (λ (u : Settings). Stored u w s b r) (sym (own-settings t w s b r st)) st
-
-pub run-own : (t u : Settings) (xs out : List ℕ) (n m : ℕ) (s : System) (b r o : List ℕ) → u ≡ t → n ≡ m
-    → Run u xs out n n s b r o → Run t xs out m m s b r o
-run-own t u xs out n m s b r o p q h =
-    subst (λ (k : ℕ). Run t xs out k k s b r o) q (subst (λ (v : Settings). Run v xs out n n s b r o) p h)

@@ -1,53 +1,38 @@
--- A step on the two parts that it names, put back, is the step of the whole state.
+-- The code's account of a step of a sound state is the step of the state.
 --
--- A sound state is the stored form of the world that it stands for (`state`), and that world is well formed;
--- so the turn of a run (`Turn`) says what the parts become.
+-- A sound state is the stored form of the world that it stands for (`state`), and that world is well formed; so one turn (`Turn`)
+-- is the model's step, stored.
 -- Assumes nothing.
-use mathlib.Core.Path.{_≡_, refl, sym}
+use mathlib.Core.Path.{_≡_, sym}
 use mathlib.Core.Bool.{true}
 use mathlib.Core.List.{List}
 use Prim.Native.Nat.{ℕ}
-use lib.ListN.{getD}
 use Rattle.register.specs.declared.Step.{Step}
-use Rattle.server.specs.declared.Server.{Server}
-use Rattle.state.specs.declared.Session.{Session}
-use Rattle.state.specs.declared.System.{System}
+use Rattle.state.specs.declared.Settings.{Settings}
 use Rattle.state.specs.Sound.{isSound}
 use Rattle.state.specs.State.{view}
 use Rattle.state.proofs.SoundFacts.{Facts, facts}
 use Rattle.state.proofs.WellViewed.{well-view}
-use Rattle.state.proofs.Restored.{system-back, slots-back, replies-all-back}
+use Rattle.state.proofs.Restored.{servers-back, clients-back, slots-back}
 use Rattle.steps.specs.Inner.{After, innerOf}
-use Rattle.steps.proofs.StoredStep.{replaced}
-use Rattle.system.specs.Ends.{serverPlace, clientPlace}
-use Rattle.system.specs.Step.{Result, result, stepped}
+use Rattle.system.specs.Step.{stepped}
 use Rattle.system.specs.Stored.{Stored}
-use Rattle.system.proofs.Turn.{turned}
+use Rattle.system.proofs.Turn.{is-stored}
 
--- what a step gives on the parts at places j and i, put back
-abbrev pub putBack : System → ℕ → ℕ → After → Result
-putBack s j i o = result (o .answer) (replaced s j i o) (o .slots) (o .replies)
-
-module _ (s : System) (b r : List ℕ) (sound : isSound s b r ≡ true) where
-  f : Facts s b r
-  f = facts s b r sound
+module _ (t : Settings) (s c b : List ℕ) (sound : isSound t s c b ≡ true) where
+  f : Facts t s c b
+  f = facts t s c b sound
 
   -- a sound state is stored
-  pub sound-stored : Stored (s .settings) (view s b r) s b r
+  pub sound-stored : Stored (view s c b) s c b
   sound-stored =
       record {
-        system = sym (system-back s b r f);
-        slots = sym (slots-back s b r f);
-        replies = sym (replies-all-back s b r f);
+        servers = sym (servers-back t s c b f);
+        clients = sym (clients-back t s c b f);
+        slots = sym (slots-back t s c b f);
       }
 
-  pub step-law : (x : Step) (j i : ℕ) → j ≡ serverPlace x → i ≡ clientPlace x
-      → (v : Server) (c : Session) (o : After)
-      → o ≡ innerOf (s .settings) (s .stopped) (getD (s .servers) j v) (getD (s .clients) i c) b r x
-      → putBack s j i o ≡ stepped s b r x
+  pub step-law : (x : Step) (o : After) → o ≡ innerOf t s c b x → o ≡ stepped t s c b x
   unfolding stepped
-  step-law x j i ej ei v c o given =
-      let z =
-      turned (s .settings) (f .allowed .accepted) (view s b r) (well-view s b r f) x s b r sound-stored x j i
-      refl ej ei v c o given in
-      rw sound (λ q. result (z .answer q) (z .stored .system q) (z .stored .slots q) (z .stored .replies q))
+  step-law x o given =
+      rw sound (is-stored t (f .allowed .accepted) (view s c b) (well-view t s c b f) s c b sound-stored x o given)

@@ -1,4 +1,3 @@
-pub mod Ends
 pub mod Stored
 pub mod Setup
 pub mod Run

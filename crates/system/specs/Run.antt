@@ -9,6 +9,7 @@ use mathlib.Core.Bool.{cond}
 use mathlib.Core.List.{List}
 use lib.Dec.{eqb, ltb}
 use lib.ListN.{length, getD, set}
+use Rattle.basics.specs.Tables.{listed}
 use Rattle.refusal.specs.Numbers.{numberOf}
 use Rattle.register.specs.declared.Answer.{Answer}
 use Rattle.register.specs.declared.Answer.the-variants.{Went, Read, Wrote, Spent, Refused}
@@ -17,12 +18,10 @@ use Rattle.register.specs.declared.Step.the-variants.{R, W, K, D, C, L}
 use Rattle.register.specs.Formats.{formats, DemandThree}
 use Rattle.register.specs.History.{worldAt, answerAt}
 use Rattle.register.specs.Steps as steps
-use Rattle.register.specs.World.{newWorld}
 use Rattle.system.specs.declared.setup.Setup.{Setup}
 use Rattle.system.specs.declared.setup.Setup.the-variants as setup
 use Rattle.state.specs.declared.Settings.{Settings}
-use Rattle.state.specs.declared.System.{System}
-use Rattle.state.specs.State.{settingsOf, stepOf, numbered, storeSystem}
+use Rattle.state.specs.State.{settingsOf, stepOf}
 use Rattle.system.specs.Stored.{Stored}
 
 -- ---- a step in five numbers: its kind, 0 to 5 for R, W, K, D, C, L, and its arguments; a message is its two words
@@ -78,20 +77,16 @@ howMany xs out = min (length xs / 5) (length out / 2)
 
 -- the first n steps of the list
 unfoldable pub stepsIn : List ℕ → ℕ → List steps.Step
-stepsIn xs n = numbered (λ i. stepOf (stepIn xs (i - 1))) n
+stepsIn xs n = listed (λ i. stepOf (stepIn xs i)) n
 
--- after i of n steps the state is that of the history's world, and the answers are the history's
-pub record Run (t : Settings) (xs out : List ℕ) (n i : ℕ) (s : System) (b r written : List ℕ) : Type 0 where
-  pub stored : Stored t (worldAt (settingsOf t) formats (stepsIn xs n) i) s b r
+-- after i of n steps the memory is that of the history's world, and the answers are the history's
+pub record Run (t : Settings) (xs out : List ℕ) (n i : ℕ) (s c b written : List ℕ) : Type 0 where
+  pub stored : Stored (worldAt (settingsOf t) formats (stepsIn xs n) i) s c b
   pub answers : written ≡ answered (answerAt (settingsOf t) formats (stepsIn xs n)) out i
 
--- what stands for a system where there is none
-abbrev pub noSystem : System
-noSystem = storeSystem (record { f = 0; clients = 0; faulty = 0 }) newWorld
-
 -- an accepted setup: the whole run, and demand 3; a refused one leaves lent memory as it was
-abbrev pub Outcome : Setup → (xs out b r : List ℕ) → System → (b′ r′ out′ : List ℕ) → Type 0
-Outcome (setup.Set t) xs out b r s b′ r′ out′ =
-    Run t xs out (howMany xs out) (howMany xs out) s b′ r′ out′
+abbrev pub Outcome : Setup → (xs out s c b s′ c′ b′ out′ : List ℕ) → Type 0
+Outcome (setup.Set t) xs out s c b s′ c′ b′ out′ =
+    Run t xs out (howMany xs out) (howMany xs out) s′ c′ b′ out′
     × DemandThree (settingsOf t) (stepsIn xs (howMany xs out))
-Outcome (setup.Refused n) xs out b r s b′ r′ out′ = (s ≡ noSystem) × (b′ ≡ b) × (r′ ≡ r) × (out′ ≡ out)
+Outcome (setup.Refused n) xs out s c b s′ c′ b′ out′ = (s′ ≡ s) × (c′ ≡ c) × (b′ ≡ b) × (out′ ≡ out)

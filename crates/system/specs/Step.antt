@@ -12,41 +12,29 @@ use Rattle.basics.specs.Bytes.{spelt}
 use Rattle.refusal.specs.declared.Refusal.the-variants.{Unsound}
 use Rattle.message.specs.declared.Words.{Words}
 use Rattle.message.specs.Layout.{messageBytes, words}
-use Rattle.register.specs.declared.Answer.{Answer}
 use Rattle.register.specs.declared.Answer.the-variants.{Refused}
 use Rattle.register.specs.declared.Step.{Step}
 use Rattle.register.specs.Formats.{formats}
 use Rattle.register.specs.Steps.{eventOf}
 use Rattle.register.specs.World.{World, Event, apply, answerOf}
 use Rattle.state.specs.declared.Settings.{Settings}
-use Rattle.state.specs.declared.System.{System}
 use Rattle.state.specs.Sound.{isSound}
-use Rattle.state.specs.State.{settingsOf, stepOf, storeSystem, storeSlots, storeAllReplies, view}
+use Rattle.state.specs.State.{settingsOf, stepOf, storeServers, storeClients, storeSlots, view}
+use Rattle.steps.specs.Inner.{After, after}
 
--- the answer, the state, and what the lent slots and replies hold
-pub record Result : Type 0 where
-  pub answer : Answer
-  pub system : System
-  pub slots : List ℕ
-  pub replies : List ℕ
-
-abbrev pub result : Answer → System → List ℕ → List ℕ → Result
-result a s b r = record { answer = a; system = s; slots = b; replies = r }
-
--- an event's answer, and the world after it stored
-abbrev pub storedBy : Settings → World → Event → Result
+-- an answer, and a world stored
+abbrev pub storedBy : Settings → World → Event → After
 storedBy t w e =
-    result (answerOf (settingsOf t) w e) (storeSystem t (apply (settingsOf t) w e)) (storeSlots (apply (settingsOf t) w e))
-    (storeAllReplies (apply (settingsOf t) w e))
+    after (answerOf (settingsOf t) w e) (storeServers (apply (settingsOf t) w e)) (storeClients (apply (settingsOf t) w e))
+    (storeSlots (apply (settingsOf t) w e))
 
 -- the event of a step in a world
 abbrev pub eventIn : Settings → World → Step → Event
 eventIn t w x = eventOf (settingsOf t) formats w (stepOf x)
 
-unfoldable pub stepped : System → List ℕ → List ℕ → Step → Result
-stepped s b r x =
-    cond (isSound s b r) (storedBy (s .settings) (view s b r) (eventIn (s .settings) (view s b r) x))
-    (result (Refused Unsound) s b r)
+unfoldable pub stepped : Settings → List ℕ → List ℕ → List ℕ → Step → After
+stepped t s c b x =
+    cond (isSound t s c b) (storedBy t (view s c b) (eventIn t (view s c b) x)) (after (Refused Unsound) s c b)
 
 -- ---- a message of L
 

@@ -1,5 +1,4 @@
 // The whole system (01, 'Rehearsal'): the setup, one step of a state, and a whole run.
-pub mod ends;
 pub mod run;
 pub mod setup;
 pub mod step;

@@ -8,10 +8,7 @@ ghost use Rattle.system.specs.Setup.{setupOf};
 ghost use Rattle.state.specs.Sound.{areAllowed};
 ghost use Rattle.system.specs.Stored.{Stored};
 ghost use Rattle.system.specs.Run.{narrowed, stepBy, stepIn, codeOf, shownBy, putAnswer, Run, Outcome};
-use crate::ends::client_place;
-use crate::ends::server_place;
 use crate::setup::Setup;
-use crate::setup::new_system;
 use crate::setup::set_up;
 use crate::setup::settings_of;
 use basics::least;
@@ -20,10 +17,10 @@ use message::Entry;
 use message::Words;
 use register::Answer;
 use register::Step;
-use state::Replies;
+use state::Clients;
+use state::Servers;
 use state::Settings;
-use state::System;
-use steps::inner::inner;
+use steps::step::take_step;
 
 // The numbers of a step, and of an answer.
 const STEP: usize = 5;
@@ -35,12 +32,6 @@ const HIGHEST: u32 = 4294967295;
 
 // What a refusal's number is added to.
 const REFUSED: u64 = 16;
-
-// The setup, and the system after the last step.
-pub struct Ran {
-    pub setup: Setup,
-    pub system: System,
-}
 
 // A number of 32 bits; a larger one becomes the highest, which is no client, no server and no message.
 fn narrow(a: u64) -> u32
@@ -109,40 +100,27 @@ pub fn write_answer(out: &mut [u64], i: usize, a: Answer)
     out[at + 1] = shown(a);
 }
 
-// The steps one after the other. The system stays in one local: a step is given two parts of it, and these are put back.
+// The steps one after the other, each on the memory that the one before it left.
 fn take_all(
-    s: System,
+    t: Settings,
     steps: &[u64],
     n: usize,
     out: &mut [u64],
+    s: &mut Servers,
+    c: &mut Clients,
     b: &mut Slots,
-    r: &mut Replies,
-) -> System
-    requires { ⌜ (areAllowed (s .settings) ≡ true) × Stored (s .settings) newWorld s (now b) (now r)
+)
+    requires { ⌜ (areAllowed t ≡ true) × Stored newWorld (now s) (now c) (now b)
         × (n * 5 ≤ length (now steps)) × (n * 2 ≤ length (now out)) ⌝ }
-    ensures { λ z. ⌜ Run (s .settings) (now (steps .entry)) (now (out .entry)) n n z
-        (now (b .exit)) (now (r .exit)) (now (out .exit)) ⌝ }
+    ensures { λ _. ⌜ Run t (now (steps .entry)) (now (out .entry)) n n
+        (now (s .exit)) (now (c .exit)) (now (b .exit)) (now (out .exit)) ⌝ }
 {
-    let t = s.settings;
-    let mut u = s;
     let mut i = 0;
     while i < n {
-        let x = step_in(steps, i);
-        let j = server_place(x);
-        let d = client_place(x);
-        let v = u.servers[j];
-        let c = u.clients[d];
-        let z = inner(t, u.stopped, v, c, x, b, r);
-        let a = z.answer;
+        let a = take_step(t, step_in(steps, i), s, c, b);
         write_answer(out, i, a);
-        u.stopped = z.stopped;
-        let w = z.server;
-        u.servers[j] = w;
-        let y = z.client;
-        u.clients[d] = y;
         i += 1;
     }
-    u
 }
 
 // A run from a setup. Five numbers a step, two an answer; as many steps as both have room for. A refused setup changes nothing.
@@ -152,34 +130,23 @@ pub fn run(
     faulty: u32,
     steps: &[u64],
     out: &mut [u64],
+    s: &mut Servers,
+    c: &mut Clients,
     b: &mut Slots,
-    r: &mut Replies,
-) -> Ran
-    ensures { λ z. ⌜ (z .setup ≡ setupOf f clients faulty)
-        × Outcome (setupOf f clients faulty) (now (steps .entry)) (now (out .entry)) (now (b .entry)) (now (r .entry))
-        (z .system) (now (b .exit)) (now (r .exit)) (now (out .exit)) ⌝ }
+) -> Setup
+    ensures { λ r. ⌜ (r ≡ setupOf f clients faulty)
+        × Outcome (setupOf f clients faulty) (now (steps .entry)) (now (out .entry))
+        (now (s .entry)) (now (c .entry)) (now (b .entry))
+        (now (s .exit)) (now (c .exit)) (now (b .exit)) (now (out .exit)) ⌝ }
 {
     let setup = settings_of(f, clients, faulty);
     match setup {
-        Setup::Refused(_) => {
-            let s = new_system(Settings {
-                f: 0,
-                clients: 0,
-                faulty: 0,
-            });
-            Ran {
-                setup: setup,
-                system: s,
-            }
-        }
+        Setup::Refused(_) => {}
         Setup::Set(t) => {
             let n = least(steps.len() / STEP, out.len() / ANSWER);
-            let s = set_up(t, b, r);
-            let last = take_all(s, steps, n, out, b, r);
-            Ran {
-                setup: setup,
-                system: last,
-            }
+            set_up(s, c, b);
+            take_all(t, steps, n, out, s, c, b);
         }
     }
+    setup
 }

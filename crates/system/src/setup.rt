@@ -2,16 +2,12 @@
 ghost use mathlib.Core.Path.{_≡_};
 ghost use Rattle.register.specs.World.{newWorld};
 ghost use Rattle.system.specs.Setup.{setupOf};
-ghost use Rattle.state.specs.State.{storeSystem};
 ghost use Rattle.system.specs.Stored.{Stored};
 use channel::Slots;
-use message::ReadNumber;
 use refusal::Refusal;
-use register::Phase;
-use state::Replies;
-use state::Session;
+use state::Clients;
+use state::Servers;
 use state::Settings;
-use state::System;
 use state::sound::count_faulty;
 use state::sound::is_in_range;
 
@@ -56,30 +52,11 @@ pub fn settings_of(f: u32, clients: u32, faulty: u32) -> Setup
     }
 }
 
-// The small parts at setup.
-pub fn new_system(t: Settings) -> System
-    ensures { λ s. ⌜ s ≡ storeSystem t newWorld ⌝ }
+// The state at setup: all zero.
+pub fn set_up(s: &mut Servers, c: &mut Clients, b: &mut Slots)
+    ensures { λ _. ⌜ Stored newWorld (now (s .exit)) (now (c .exit)) (now (b .exit)) ⌝ }
 {
-    let v = server::new_server();
-    let c = Session {
-        phase: Phase::Idle,
-        reads: ReadNumber(0),
-    };
-    let servers = [v; 13];
-    let clients = [c; 6];
-    System {
-        settings: t,
-        stopped: 0,
-        servers: servers,
-        clients: clients,
-    }
-}
-
-// The state at setup, in lent memory that is zeroed for it.
-pub fn set_up(t: Settings, b: &mut Slots, r: &mut Replies) -> System
-    ensures { λ s. ⌜ Stored t newWorld s (now (b .exit)) (now (r .exit)) ⌝ }
-{
-    *b = [0u8; 13884];
-    *r = [0u64; 546];
-    new_system(t)
+    *s = [0u64; 26];
+    *c = [0u64; 571];
+    *b = [0u64; 2652];
 }

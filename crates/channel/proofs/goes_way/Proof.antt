@@ -4,24 +4,6 @@ use Rattle.channel.specs.Sound.{goes}
 use Rattle.channel.proofs.goes_way.Statement.{statement}
 use Rattle.channel.proofs.goes_way.Tie as tie
 
-enum-known-m : tie.Need-enum-known-m
-enum-known-m c = search needs
-
-enum-known-m-2 : tie.Need-enum-known-m-2
-enum-known-m-2 c = search needs
-
-enum-told : tie.Need-enum-told
-enum-told c = search needs
-
-enum-known-m-3 : tie.Need-enum-known-m-3
-enum-known-m-3 c = search needs
-
-enum-known-m-4 : tie.Need-enum-known-m-4
-enum-known-m-4 c = search needs
-
-enum-known-m-5 : tie.Need-enum-known-m-5
-enum-known-m-5 c = search needs
-
 returns : tie.Need-returns
 unfolding goes
 returns c = simp (c .before .m .given .1)
@@ -50,12 +32,12 @@ pub goes-way-spec : {M : Type 1} → statement M
 goes-way-spec =
     tie.close
     (tie.spec
-    enum-known-m
-    enum-known-m-2
-    enum-told
-    enum-known-m-3
-    enum-known-m-4
-    enum-known-m-5
+    (λ c. search needs)
+    (λ c. search needs)
+    (λ c. search needs)
+    (λ c. search needs)
+    (λ c. search needs)
+    (λ c. search needs)
     returns
     returns-2
     returns-3

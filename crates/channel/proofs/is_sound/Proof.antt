@@ -8,13 +8,13 @@ use borrow.Author.Needs.{needs}
 use borrow.Author.Tests.{not-true, not-false}
 use Rattle.basics.specs.Tests.{all, allBelow}
 use Rattle.basics.proofs.Tests.{below-fails}
-use Rattle.channel.specs.Sound.{channelTests, slotTest, soundBy, sound}
+use Rattle.channel.specs.Sound.{channelTests, sound}
 use Rattle.channel.proofs.Passing.{none-pass, more-pass}
 use Rattle.channel.proofs.is_sound.Statement.{statement}
 use Rattle.channel.proofs.is_sound.Tie as tie
 
 abbrev passes : List ℕ → ℕ → Bool
-passes b i = all (channelTests slotTest b i)
+passes b i = all (channelTests b i)
 
 abbrev Inv-loop : tie.InvT-loop
 Inv-loop b i₀ i = (i ≤ 156) × (allBelow (passes b) i ≡ true)
@@ -25,22 +25,13 @@ abbrev μ-loop : tie.MeasureT-loop
 loop-holds : tie.Need-loop-holds Inv-loop μ-loop
 loop-holds c = (search needs, none-pass (passes (c .args .b .now)))
 
-channel-sound-requires : tie.Need-channel-sound-requires Inv-loop μ-loop
-channel-sound-requires c κs = search needs
-
 returns : tie.Need-returns Inv-loop μ-loop
-unfolding soundBy sound
+unfolding sound
 returns c =
     let b = c .before .before .before .before .args .b .now in
     let i = c .before .before .before .loop .i in
     sym (below-fails (passes b) 156 i (c .before .before .loop-test .taken)
     (sym (c .before .channel-sound .ensures) ∙ not-true _ (c .if1 .taken)))
-
-add-i : tie.Need-add-i Inv-loop μ-loop
-add-i c = search needs
-
-loop-less : tie.Need-loop-less Inv-loop μ-loop
-loop-less c = search needs
 
 loop-again : tie.Need-loop-again Inv-loop μ-loop
 loop-again c =
@@ -49,7 +40,7 @@ loop-again c =
     (omega arith, more-pass (passes b) (l .i) (l .inv .1) (sym (c .before .channel-sound .ensures) ∙ not-false _ (c .if1 .left)))
 
 returns-2 : tie.Need-returns-2 Inv-loop μ-loop
-unfolding soundBy sound
+unfolding sound
 returns-2 c =
     let e : c .before .loop .i ≡ 156 = omega arith in
     sym (rw (← e) (c .before .loop .inv .1))
@@ -61,9 +52,9 @@ is-sound-spec =
     Inv-loop
     μ-loop
     loop-holds
-    channel-sound-requires
+    (λ c κs. search needs)
     returns
-    add-i
-    loop-less
+    (λ c. search needs)
+    (λ c. search needs)
     loop-again
     returns-2)

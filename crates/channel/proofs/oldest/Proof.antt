@@ -1,21 +1,24 @@
--- `channel::oldest` meets its contract: it is the first slot. Assumes nothing.
+-- `channel::oldest` meets its contract: the two numbers of the first slot. Assumes nothing.
+use native.Mathlib.Nat.{add-zero}
 use borrow.Author.Needs.{needs}
 use Rattle.channel.specs.Memory.{oldestOn}
 use Rattle.channel.proofs.oldest.Statement.{statement}
 use Rattle.channel.proofs.oldest.Tie as tie
 
-mul-load : tie.Need-mul-load
-mul-load c = search needs
-
-add-load : tie.Need-add-load
-add-load c = search needs
-
-load-requires : tie.Need-load-requires
-load-requires c κs = search needs
-
 returns : tie.Need-returns
 unfolding oldestOn
-returns c = c .load .ensures .0
+returns c = rw add-zero
 
 pub oldest-spec : {M : Type 1} → statement M
-oldest-spec = tie.close (tie.spec mul-load add-load load-requires returns)
+oldest-spec =
+    tie.close
+    (tie.spec
+    (λ c. search needs)
+    (λ c. search needs)
+    (λ c. search needs)
+    (λ c. search needs)
+    (λ c. search needs)
+    (λ c. search needs)
+    (λ c. search needs)
+    (λ c. search needs)
+    returns)

@@ -1,4 +1,4 @@
--- `channel::zeros` meets its contract. The loop's invariant: x is zero where the bytes passed are. Assumes nothing.
+-- `channel::zeros` meets its contract. The loop's invariant: x is zero where the numbers passed are. Assumes nothing.
 use Prim.Native.Nat.{_≤_, _-_}
 use mathlib.Core.Path.{_≡_, refl, _∙_}
 use native.Mathlib.Numerals.{add-one}
@@ -21,18 +21,6 @@ loop-holds : tie.Need-loop-holds Inv-loop μ-loop
 unfolding allBelow
 loop-holds c = (search needs, refl)
 
-add-x : tie.Need-add-x Inv-loop μ-loop
-add-x c = search needs
-
-element-copy-out-x : tie.Need-element-copy-out-x Inv-loop μ-loop
-element-copy-out-x c = search needs
-
-add-j : tie.Need-add-j Inv-loop μ-loop
-add-j c = search needs
-
-loop-less : tie.Need-loop-less Inv-loop μ-loop
-loop-less c = search needs
-
 loop-again : tie.Need-loop-again Inv-loop μ-loop
 unfolding allBelow
 loop-again c =
@@ -51,9 +39,10 @@ zeros-spec =
     Inv-loop
     μ-loop
     loop-holds
-    add-x
-    element-copy-out-x
-    add-j
-    loop-less
+    (λ c. search needs)
+    (λ c. search needs)
+    (λ c. search needs)
+    (λ c. search needs)
+    (λ c. search needs)
     loop-again
     returns)

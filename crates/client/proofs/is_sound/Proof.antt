@@ -1,65 +1,128 @@
--- `is_sound`: the client, then its memory in its phase.
+-- `is_sound`: the tests in the definition's order; the first that fails decides.
 -- Assumes nothing.
-use Prim.Native.Nat.{ℕ}
 use mathlib.Core.Path.{_≡_, sym, _∙_}
-use mathlib.Core.Bool.{Bool}
-use mathlib.Core.List.{List}
-use borrow.Author.Tests.{not-true, not-false}
-use Rattle.register.specs.Thresholds.{size}
-use Rattle.register.specs.Client.{isReading}
-use Rattle.replies.specs.Sound.{areSound}
-use Rattle.client.specs.Sound.{stores, isSound}
+use mathlib.Core.Bool.{true}
+use native.Mathlib.Omega.{arith}
+use lib.Dec.{eqb, leb, ltb}
+use lib.ListN.{length, getD}
+use borrow.Author.Tests.{lt-leb, le-leb, lt-ltb, le-ltb, eq-eqb, ne-eqb, not-true, not-false}
+use Rattle.replies.proofs.Rising.{and-true}
+use Rattle.client.specs.Sound.{isSoundEntry, isSoundCounter, areSoundReplies, isSoundMemory}
 use borrow.Author.Needs.{needs}
 use Rattle.client.proofs.is_sound.Statement.{statement}
 use Rattle.client.proofs.is_sound.Tie as tie
 
-is-sound-client-requires : tie.Need-is-sound-client-requires
-is-sound-client-requires c = search needs
+-- ---- what each test leaves
+
+few : (c : tie.Else1) → leb (c .before .before .args .f) 4 ≡ true
+few c = le-leb _ 4 (c .if1 .left)
+
+long : (c : tie.Else2) → eqb (length (c .before .before .before .args .m .now)) 95 ≡ true
+long c = eq-eqb _ 95 (c .if2 .left)
+
+reads : (c : tie.Else3) → ltb (getD (c .before .before .before .before .before .args .m .now) 0 0) 1048576 ≡ true
+reads c = lt-ltb _ 1048576 (c .if3 .left)
+
+code : (c : tie.Else4) → leb (getD (c .before .before .before .before .before .before .before .args .m .now) 1 0) 3 ≡ true
+code c = le-leb _ 3 (c .if4 .left)
+
+abbrev at-else5 : tie.Else5 → tie.Start
+at-else5 c = c .before .before .before .before .before .before .before .before .before .before
+
+entry : (c : tie.Else5) → isSoundEntry (getD (at-else5 c .args .m .now) 1 0) (getD (at-else5 c .args .m .now) 2 0) ≡ true
+entry c = sym (c .before .is-sound-entry .ensures) ∙ not-false _ (c .if5 .left)
+
+abbrev at-else6 : tie.Else6 → tie.Start
+at-else6 c = c .before .before .before .before .before .before .before .before .before .before .before .before .before
+
+counter : (c : tie.Else6)
+    → isSoundCounter (getD (at-else6 c .args .m .now) 1 0) (getD (at-else6 c .args .m .now) 3 0) ≡ true
+counter c = sym (c .before .is-sound-counter .ensures) ∙ not-false _ (c .if6 .left)
+
+-- ---- the answers
 
 returns : tie.Need-returns
-unfolding isSound
-returns c = rw (sym (c .before .is-sound-client .ensures) ∙ not-true _ (c .if1 .taken))
-
-servers-requires : tie.Need-servers-requires
-servers-requires c = search needs
-
-cast-n : tie.Need-cast-n
-cast-n c = search needs
-
-is-reading-requires : tie.Need-is-reading-requires
-is-reading-requires c = search needs
-
-is-storing-requires : tie.Need-is-storing-requires
-is-storing-requires c = search needs
-
-are-sound-requires : tie.Need-are-sound-requires
-are-sound-requires c = search needs
-
--- the memory's test, from what the calls answer
-memory : (r : List ℕ) (n m : ℕ) (a b a′ b′ t : Bool) → t ≡ areSound n a b r → n ≡ m → a ≡ a′ → b ≡ b′
-    → t ≡ areSound m a′ b′ r
-memory r n m a b a′ b′ t e en ea eb = e ∙ rw (en, ea, eb)
+unfolding isSoundMemory
+returns c = rw (lt-leb _ 4 (c .if1 .taken))
 
 returns-2 : tie.Need-returns-2
-unfolding isSound
+unfolding isSoundMemory
 returns-2 c =
-    let a = c .before .before .before .before .before .before .before .args in
-    rw (sym (c .before .before .before .before .before .is-sound-client .ensures)
-    ∙ not-false _ (c .before .before .before .before .if1 .left))
-    (memory (a .r .now) _ (size (a .c .f)) _ _ (isReading (a .c .phase)) (stores (a .c .phase)) _
-    (c .are-sound .ensures)
-    (c .before .before .before .servers .ensures) (c .before .before .is-reading .ensures)
-    (c .before .is-storing .ensures))
+    let m = c .before .before .before .args .m .now in
+    rw (few (c .before), ne-eqb (length m) 95 (λ e. omega (arith, e, c .if2 .taken)))
+
+returns-3 : tie.Need-returns-3
+unfolding isSoundMemory
+returns-3 c =
+    let d = c .before .before in
+    rw (few (d .before), long d, le-ltb _ 1048576 (c .if3 .taken))
+
+returns-4 : tie.Need-returns-4
+unfolding isSoundMemory
+returns-4 c =
+    let e = c .before .before in
+    let d = e .before .before in
+    rw (few (d .before), long d, reads e, lt-leb _ 3 (c .if4 .taken))
+
+returns-5 : tie.Need-returns-5
+unfolding isSoundMemory
+returns-5 c =
+    let g = c .before .before .before in
+    let e = g .before .before in
+    let d = e .before .before in
+    rw (
+      few (d .before),
+      long d,
+      reads e,
+      code g,
+      sym (c .before .is-sound-entry .ensures)
+          ∙ not-true _ (c .if5 .taken),
+    )
+
+returns-6 : tie.Need-returns-6
+unfolding isSoundMemory
+returns-6 c =
+    let h = c .before .before .before in
+    let g = h .before .before .before in
+    let e = g .before .before in
+    let d = e .before .before in
+    rw (
+      few (d .before),
+      long d,
+      reads e,
+      code g,
+      entry h,
+      sym (c .before .is-sound-counter .ensures)
+          ∙ not-true _ (c .if6 .taken),
+    )
+
+returns-7 : tie.Need-returns-7
+unfolding isSoundMemory
+returns-7 c =
+    let i = c .before in
+    let h = i .before .before .before in
+    let g = h .before .before .before in
+    let e = g .before .before in
+    let d = e .before .before in
+    let a = at-else6 i .args in
+    rw (few (d .before), long d, reads e, code g, entry h, counter i)
+    (c .are-replies-sound .ensures ∙ sym (and-true (areSoundReplies (a .f) (a .m .now))))
 
 pub is-sound-spec : {M : Type 1} → statement M
 is-sound-spec =
     tie.close
     (tie.spec
-    is-sound-client-requires
     returns
-    servers-requires
-    cast-n
-    is-reading-requires
-    is-storing-requires
-    are-sound-requires
-    returns-2)
+    returns-2
+    (λ c. search needs)
+    returns-3
+    (λ c. search needs)
+    returns-4
+    (λ c. search needs)
+    (λ c κs. search needs)
+    returns-5
+    (λ c. search needs)
+    (λ c κs. search needs)
+    returns-6
+    (λ c κs. search needs)
+    returns-7)

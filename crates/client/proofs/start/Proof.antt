@@ -1,27 +1,21 @@
--- `start`: the next read number, nothing of any server, GET_INFO.
+-- `start`: the head with the next read number and the phase is stored; the replies are empty before it and after it.
 -- Assumes nothing.
-use mathlib.Core.Path.{sym}
-use Rattle.register.specs.Client.{nextRead, started}
-use Rattle.replies.proofs.Storing.{store-cleared}
-use Rattle.client.specs.Sends.{startedOf}
+use Rattle.client.proofs.Memory.{memory-facts}
+use Rattle.client.proofs.Starting.{starts}
 use borrow.Author.Needs.{needs}
 use Rattle.client.proofs.start.Statement.{statement}
 use Rattle.client.proofs.start.Tie as tie
 
-add-t5 : tie.Need-add-t5
-add-t5 c = search needs
+store-requires : tie.Need-store-requires
+store-requires c κs =
+    let s = c .before .before .before in
+    memory-facts (s .args .c .f) (s .args .m .now) (s .pre .1) .long
 
 returns : tie.Need-returns
-unfolding started nextRead
 returns c =
-    let s = c .before in
-    λ q. record {
-      client = startedOf (s .args .c) (lib.ListN.replicate 91 0) (s .args .ph) .client;
-      replies = sym (store-cleared (s .args .ph)
-          (nextRead (Rattle.client.specs.State.view (s .args .c) (lib.ListN.replicate 91 0)))) q;
-      sends = startedOf (s .args .c) (lib.ListN.replicate 91 0) (s .args .ph) .sends;
-      answer = startedOf (s .args .c) (lib.ListN.replicate 91 0) (s .args .ph) .answer;
-    }
+    let s = c .before .before .before .before .before .before in
+    let t = c .before .before .store in
+    starts (s .args .c) (s .args .ph) (s .args .m .now) (t .last .0) (s .pre .0) (s .pre .1) (s .pre .2) (t .ensures)
 
 pub start-spec : {M : Type 1} → statement M
-start-spec = tie.close (tie.spec add-t5 returns)
+start-spec = tie.close (tie.spec (search needs) store-requires (λ c. search needs) returns)

@@ -1,199 +1,169 @@
--- `take`: the refusals in order; otherwise what `taken` does.
+-- `take`: the refusals in order; otherwise what `take_message` does.
 -- Assumes nothing.
-use Prim.Native.Nat.{_≤_, _<_}
 use mathlib.Core.Path.{_≡_, sym, ap, _∙_}
 use mathlib.Core.Bool.{true}
 use native.Mathlib.Omega.{arith}
 use lib.Dec.{leb}
-use borrow.Author.Tests.{lt-leb, le-leb, not-true, not-false}
+use borrow.Author.Tests.{leb-true, not-true, not-false}
+use Rattle.basics.proofs.Cases.{both}
 use Rattle.message.specs.declared.Unpacked.{Unpacked}
 use Rattle.message.specs.Layout.{unpackOf}
 use Rattle.register.specs.Thresholds.{size}
 use Rattle.register.specs.Steps.{isReply}
-use Rattle.client.specs.declared.Took.{Took}
-use Rattle.client.specs.Sound.{isSound}
-use Rattle.client.specs.Sends.{after}
-use Rattle.client.specs.Entry.{takeOf}
+use Rattle.client.specs.declared.Client.{Client}
+use Rattle.client.specs.declared.Outcome.{Outcome}
+use Rattle.client.specs.Sound.{isSoundMemory}
+use Rattle.client.specs.Outcome.{after, takenOf}
+use Rattle.client.specs.Entry.{isClient, isServer, takeOf}
+use Rattle.client.proofs.Memory.{memory-facts, loaded-self}
 use borrow.Author.Needs.{needs}
 use Rattle.client.proofs.take.Statement.{statement}
 use Rattle.client.proofs.take.Tie as tie
 
-is-sound-requires : tie.Need-is-sound-requires
-is-sound-requires c = search needs
+-- ---- what each test leaves
 
-refuse-requires : tie.Need-refuse-requires
-refuse-requires c = search needs
+abbrev at-else1 : tie.Else1 → tie.Start
+at-else1 c = c .before .before .before .before .before
 
-same-length : tie.Need-same-length
-same-length c = search needs
+sound-is : (c : tie.Else1) → isSoundMemory (at-else1 c .args .f) (at-else1 c .args .m .now) ≡ true
+sound-is c = sym (c .before .is-sound .ensures) ∙ not-false _ (c .if1 .left)
+
+client-is : (c : tie.Else2) → isClient (at-else1 (c .before .before) .args .number) ≡ true
+client-is c = sym (c .before .is-client .ensures) ∙ not-false _ (c .if2 .left)
+
+abbrev at-else3 : tie.Else3 → tie.Else1
+at-else3 c = c .before .before .before .before
+
+server-is : (c : tie.Else3) → isServer (at-else1 (at-else3 c) .args .f) (at-else1 (at-else3 c) .args .k) ≡ true
+server-is c = sym (c .before .is-server .ensures) ∙ not-false _ (c .if3 .left)
+
+abbrev at-unpack : tie.After-unpack → tie.Start
+at-unpack c = at-else1 (at-else3 (c .before))
+
+unpacked-is : (c : tie.After-unpack) (u : Unpacked) → c .unpack .result ≡ u
+    → unpackOf (at-unpack c .args .bytes .now) ≡ u
+unpacked-is c u e = sym (c .unpack .ensures) ∙ e
+
+-- ---- the answers
 
 returns : tie.Need-returns
 unfolding takeOf
 returns c =
-    let a = c .before .before .before .before .before .before .args in
     rw (sym (c .before .before .is-sound .ensures) ∙ not-true _ (c .before .if1 .taken))
-    (ap (λ (t : Took). after t (a .r .now)) (c .refuse .ensures))
-
-refuse-requires-2 : tie.Need-refuse-requires-2
-refuse-requires-2 c = search needs
-
-same-length-2 : tie.Need-same-length-2
-same-length-2 c = search needs
+    (ap (λ (o : Outcome). after o (c .before .before .before .before .before .before .args .m .now)) (c .refuse .ensures))
 
 returns-2 : tie.Need-returns-2
 unfolding takeOf
 returns-2 c =
-    let a = c .before .before .before .before .before .before .before .args in
-    rw (
-      sym (c .before .before .before .is-sound .ensures)
-          ∙ not-false _ (c .before .before .if1 .left),
-      lt-leb 1 (a .k) (omega (arith, c .before .if2 .taken)),
-    )
-    (ap (λ (t : Took). after t (a .r .now)) (c .refuse2 .ensures))
-
-servers-requires : tie.Need-servers-requires
-servers-requires c = search needs
-
-refuse-requires-3 : tie.Need-refuse-requires-3
-refuse-requires-3 c = search needs
-
-same-length-3 : tie.Need-same-length-3
-same-length-3 c = search needs
+    let d = c .before .before .before in
+    rw (sound-is d, sym (c .before .before .is-client .ensures) ∙ not-true _ (c .before .if2 .taken))
+    (ap (λ (o : Outcome). after o (at-else1 d .args .m .now)) (c .refuse2 .ensures))
 
 returns-3 : tie.Need-returns-3
 unfolding takeOf
 returns-3 c =
-    let a = c .before .before .before .before .before .before .before .before .before .args in
-    let n = c .before .before .servers .ensures in
-    let past : size (a .c .f) < a .k = omega (arith, n, c .before .if3 .taken) in
-    rw (
-      sym (c .before .before .before .before .before .is-sound .ensures)
-          ∙ not-false _ (c .before .before .before .before .if1 .left),
-      le-leb 1 _ (c .before .before .before .if2 .left),
-      lt-leb (a .k) (size (a .c .f)) past,
-    )
-    (ap (λ (t : Took). after t (a .r .now)) (c .refuse3 .ensures))
-
-unpack-requires : tie.Need-unpack-requires
-unpack-requires c = search needs
-
-enum-known-m : tie.Need-enum-known-m
-enum-known-m c = search needs
-
-enum-told : tie.Need-enum-told
-enum-told c = search needs
-
-refuse-requires-4 : tie.Need-refuse-requires-4
-refuse-requires-4 c = search needs
-
-same-length-4 : tie.Need-same-length-4
-same-length-4 c = search needs
-
-abbrev at-else3 : tie.Else3 → tie.Start
-at-else3 c = c .before .before .before .before .before .before .before .before
-
--- the first two refusals do not apply
-accepted : (c : tie.Else3)
-    → (isSound (at-else3 c .args .c)
-    (at-else3 c .args .r .now) ≡ true)
-    × (leb 1 (at-else3 c .args .k) ≡ true)
-    × (leb (at-else3 c .args .k)
-    (size (at-else3 c .args .c .f)) ≡ true)
-accepted c =
-    let a = at-else3 c .args in
-    let n = c .before .servers .ensures in
-    let inside : a .k ≤ size (a .c .f) = omega (arith, n, c .if3 .left) in (
-      sym (c .before .before .before .before .is-sound .ensures)
-          ∙ not-false _ (c .before .before .before .if1 .left),
-      le-leb 1 _ (c .before .before .if2 .left),
-      le-leb (a .k) (size (a .c .f)) inside,
-    )
+    let e = c .before .before .before in
+    let d = e .before .before in
+    rw (sound-is d, client-is e, sym (c .before .before .is-server .ensures) ∙ not-true _ (c .before .if3 .taken))
+    (ap (λ (o : Outcome). after o (at-else1 d .args .m .now)) (c .refuse3 .ensures))
 
 returns-4 : tie.Need-returns-4
 unfolding takeOf isReply
 returns-4 c =
-    let d = c .before .before .before .before in
-    let a = at-else3 d .args in
-    let t = accepted d in
-    let bad : unpackOf (a .bytes .now) ≡ Unpacked.Bad = sym (c .before .before .before .unpack .ensures)
-    ∙ c .before .enum-told .given .1 in
-    rw (t .0, t .1, t .2, bad) (ap (λ (t : Took). after t (a .r .now)) (c .refuse4 .ensures))
-
-is-reply-requires : tie.Need-is-reply-requires
-is-reply-requires c = search needs
-
-refuse-requires-5 : tie.Need-refuse-requires-5
-refuse-requires-5 c = search needs
-
-same-length-5 : tie.Need-same-length-5
-same-length-5 c = search needs
+    let u = c .before .before .before in
+    let g = u .before in
+    let d = at-else3 g in
+    let bad = unpacked-is u Unpacked.Bad (c .before .enum-told .given .1) in
+    rw (sound-is d, client-is (g .before .before), server-is g, bad)
+    (ap (λ (o : Outcome). after o (at-else1 d .args .m .now)) (c .refuse4 .ensures))
 
 returns-5 : tie.Need-returns-5
 unfolding takeOf
 returns-5 c =
-    let d = c .before .before .before .before .before .before .before in
-    let a = at-else3 d .args in
-    let t = accepted d in
+    let u = c .before .before .before .before .before .before in
+    let g = u .before in
+    let d = at-else3 g in
     rw (
-      t .0,
-      t .1,
-      t .2,
-      sym (c .before .before .before .before .before .before .unpack .ensures)
-          ∙ c .before .before .before .before .m .given .1,
+      sound-is d,
+      client-is (g .before .before),
+      server-is g,
+      unpacked-is u _ (c .before .before .before .before .x .given .1),
       sym (c .before .before .is-reply .ensures)
           ∙ not-true _ (c .before .if4 .taken),
     )
-    (ap (λ (t : Took). after t (a .r .now)) (c .refuse5 .ensures))
+    (ap (λ (o : Outcome). after o (at-else1 d .args .m .now)) (c .refuse5 .ensures))
 
-taken-requires : tie.Need-taken-requires
-taken-requires c κs =
-    let d = c .before .before .before .before .before .before .before in
-    let s = at-else3 d in
-    let t = accepted d in (
-      t .0,
-      c .before .before .before .before .before .before .before .before .before .if2 .left,
-      borrow.Author.Tests.leb-true (s .args .k) (size (s .args .c .f)) (t .2),
+load-requires : tie.Need-load-requires
+load-requires c κs =
+    let d = at-else3 (c .before .before .before .before .before .before .before) in
+    memory-facts (at-else1 d .args .f) (at-else1 d .args .m .now) (sound-is d) .long
+
+take-message-requires : tie.Need-take-message-requires
+take-message-requires c κs =
+    let l = c .before in
+    let g = l .before .before .before .before .before .before .before .before in
+    let d = at-else3 g in
+    let a = at-else1 d .args in
+    let client = both (leb 1 (a .number)) (leb (a .number) 6) (client-is (g .before .before)) in
+    let server = both (leb 1 (a .k)) (leb (a .k) (size (a .f))) (server-is g) in
+    let number = ap (λ (x : Client). x .number) (l .load .ensures) in
+    let f = ap (λ (x : Client). x .f) (l .load .ensures) in (
+      loaded-self (l .load .result) (a .number) (a .f) (a .m .now) (l .load .ensures),
+      ap (λ (x : Client). isSoundMemory (x .f) (a .m .now)) (l .load .ensures) ∙ sound-is d,
+      omega (arith, number, leb-true 1 (a .number) (client .0)),
+      omega (arith, number, leb-true (a .number) 6 (client .1)),
+      leb-true 1 (a .k) (server .0),
+      omega (arith, f, leb-true (a .k) (size (a .f)) (server .1)),
     )
-
-same-length-6 : tie.Need-same-length-6
-same-length-6 c = search needs
 
 returns-6 : tie.Need-returns-6
 unfolding takeOf
 returns-6 c =
-    let e = c .before .before .before .before in
-    let t = accepted (e .before .before .before .before .before .before) in
-    let good = sym (e .before .before .before .before .before .unpack .ensures)
-    ∙ e .before .before .before .m .given .1 in
-    let reply = sym (e .before .is-reply .ensures) ∙ not-false _ (e .if4 .left) in
-    rw (t .0, t .1, t .2, good, reply)
-    (c .before .before .taken .ensures)
+    let l = c .before .before .before .before in
+    let r = l .before .before in
+    let u = r .before .before .before .before .before in
+    let g = u .before in
+    let d = at-else3 g in
+    let a = at-else1 d .args in
+    rw (
+      sound-is d,
+      client-is (g .before .before),
+      server-is g,
+      unpacked-is u _ (r .before .before .before .x .given .1),
+      sym (r .before .is-reply .ensures)
+          ∙ not-false _ (r .if4 .left),
+    )
+    (c .before .before .take-message .ensures
+    ∙ ap (λ (y : Client). takenOf (y .number) (y .f) (a .m .now) (a .k) (r .before .before .before .x .given .0 .0))
+    (l .load .ensures))
 
 pub take-spec : {M : Type 1} → statement M
 take-spec =
     tie.close
     (tie.spec
-    is-sound-requires
-    refuse-requires
-    same-length
+    (λ c κs. search needs)
+    (λ c κs. search needs)
+    (λ c. search needs)
     returns
-    refuse-requires-2
-    same-length-2
+    (λ c κs. search needs)
+    (λ c κs. search needs)
+    (λ c. search needs)
     returns-2
-    servers-requires
-    refuse-requires-3
-    same-length-3
+    (λ c κs. search needs)
+    (λ c κs. search needs)
+    (λ c. search needs)
     returns-3
-    unpack-requires
-    enum-known-m
-    enum-told
-    refuse-requires-4
-    same-length-4
+    (λ c κs. search needs)
+    (λ c. search needs)
+    (λ c. search needs)
+    (λ c κs. search needs)
+    (λ c. search needs)
     returns-4
-    is-reply-requires
-    refuse-requires-5
-    same-length-5
+    (λ c κs. search needs)
+    (λ c κs. search needs)
+    (λ c. search needs)
     returns-5
-    taken-requires
-    same-length-6
+    load-requires
+    take-message-requires
+    (λ c. search needs)
     returns-6)

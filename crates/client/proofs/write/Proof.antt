@@ -1,118 +1,155 @@
 -- `write`: the refusals in order; otherwise the start.
 -- Assumes nothing.
 use mathlib.Core.Path.{_≡_, sym, ap, _∙_}
-use mathlib.Core.Bool.{true}
+use mathlib.Core.Bool.{true, false}
+use lib.Dec.{leb}
 use borrow.Author.Tests.{lt-leb, le-leb, not-true, not-false}
-use Rattle.register.specs.declared.Phase.the-variants.{ReadingForWrite}
+use Rattle.licence.specs.Entry.{isLicence}
 use Rattle.register.specs.Client.{isIdle}
-use Rattle.client.specs.declared.Took.{Took}
-use Rattle.client.specs.Sends.{after}
-use Rattle.client.specs.Entry.{writeOf}
-use Rattle.client.proofs.Starting.{starts}
+use Rattle.client.specs.declared.Client.{Client}
+use Rattle.client.specs.declared.Outcome.{Outcome}
+use Rattle.client.specs.Memory.{phaseIn, readsIn}
+use Rattle.client.specs.Sound.{isSoundMemory}
+use Rattle.client.specs.Outcome.{after}
+use Rattle.client.specs.Entry.{isClient, writeOf}
+use Rattle.client.proofs.Memory.{memory-facts, loaded-self}
 use borrow.Author.Needs.{needs}
 use Rattle.client.proofs.write.Statement.{statement}
 use Rattle.client.proofs.write.Tie as tie
 
-is-sound-requires : tie.Need-is-sound-requires
-is-sound-requires c = search needs
+-- ---- what each test leaves
 
-refuse-requires : tie.Need-refuse-requires
-refuse-requires c = search needs
+abbrev at-else1 : tie.Else1 → tie.Start
+at-else1 c = c .before .before .before .before
+
+sound-is : (c : tie.Else1) → isSoundMemory (at-else1 c .args .f) (at-else1 c .args .m .now) ≡ true
+sound-is c = sym (c .before .is-sound .ensures) ∙ not-false _ (c .if1 .left)
+
+client-is : (c : tie.Else2) → isClient (at-else1 (c .before .before) .args .number) ≡ true
+client-is c = sym (c .before .is-client .ensures) ∙ not-false _ (c .if2 .left)
+
+load-requires : tie.Need-load-requires
+load-requires c κs =
+    let d = c .before .before .before in
+    memory-facts (at-else1 d .args .f) (at-else1 d .args .m .now) (sound-is d) .long
+
+abbrev at-load : tie.After-load → tie.Else1
+at-load c = c .before .before .before .before
+
+phase-is : (c : tie.After-is-idle) → c .is-idle .result ≡ isIdle (phaseIn (at-else1 (at-load (c .before)) .args .m .now))
+phase-is c = c .is-idle .ensures ∙ ap (λ (x : Client). isIdle (x .phase)) (c .before .load .ensures)
+
+idle-is : (c : tie.Else3) → isIdle (phaseIn (at-else1 (at-load (c .before .before)) .args .m .now)) ≡ true
+idle-is c = sym (phase-is (c .before)) ∙ not-false _ (c .if3 .left)
+
+abbrev at-else4 : tie.Else4 → tie.Else3
+at-else4 c = c .before .before
+
+entry-is : (c : tie.Else4) → isLicence (at-else1 (at-load (at-else4 c .before .before)) .args .e .0) ≡ true
+entry-is c = sym (c .before .is-licence .ensures) ∙ not-false _ (c .if4 .left)
+
+-- ---- the answers
 
 returns : tie.Need-returns
 unfolding writeOf
 returns c =
     rw (sym (c .before .before .is-sound .ensures) ∙ not-true _ (c .before .if1 .taken))
-    (ap (λ (t : Took). after t (c .before .before .before .before .args .r .now)) (c .refuse .ensures))
-
-is-idle-requires : tie.Need-is-idle-requires
-is-idle-requires c = search needs
-
-refuse-requires-2 : tie.Need-refuse-requires-2
-refuse-requires-2 c = search needs
+    (ap (λ (o : Outcome). after o (c .before .before .before .before .before .args .m .now)) (c .refuse .ensures))
 
 returns-2 : tie.Need-returns-2
 unfolding writeOf
 returns-2 c =
-    rw (
-      sym (c .before .before .before .before .is-sound .ensures)
-          ∙ not-false _ (c .before .before .before .if1 .left),
-      sym (c .before .before .is-idle .ensures)
-          ∙ not-true _ (c .before .if2 .taken),
-    )
-    (ap (λ (t : Took). after t (c .before .before .before .before .before .before .args .r .now)) (c .refuse2 .ensures))
-
-is-licence-requires : tie.Need-is-licence-requires
-is-licence-requires c = search needs
-
-refuse-requires-3 : tie.Need-refuse-requires-3
-refuse-requires-3 c = search needs
+    let d = c .before .before .before in
+    rw (sound-is d, sym (c .before .before .is-client .ensures) ∙ not-true _ (c .before .if2 .taken))
+    (ap (λ (o : Outcome). after o (at-else1 d .args .m .now)) (c .refuse2 .ensures))
 
 returns-3 : tie.Need-returns-3
 unfolding writeOf
 returns-3 c =
+    let l = c .before .before .before in
+    let d = at-load l in
     rw (
-      sym (c .before .before .before .before .before .before .is-sound .ensures)
-          ∙ not-false _ (c .before .before .before .before .before .if1 .left),
-      sym (c .before .before .before .before .is-idle .ensures) ∙ not-false _ (c .before .before .before .if2 .left),
-      sym (c .before .before .is-licence .ensures) ∙ not-true _ (c .before .if3 .taken),
+      sound-is d,
+      client-is (l .before .before),
+      sym (phase-is (c .before .before))
+          ∙ not-true _ (c .before .if3 .taken),
     )
-    (ap (λ (t : Took). after t (c .before .before .before .before .before .before .before .before .args .r .now))
-    (c .refuse3 .ensures))
-
-refuse-requires-4 : tie.Need-refuse-requires-4
-refuse-requires-4 c = search needs
+    (ap (λ (o : Outcome). after o (at-else1 d .args .m .now)) (c .refuse3 .ensures))
 
 returns-4 : tie.Need-returns-4
 unfolding writeOf
 returns-4 c =
+    let i = c .before .before .before in
+    let l = i .before .before in
+    let d = at-load l in
     rw (
-      sym (c .before .before .before .before .before .before .before .before .is-sound .ensures)
-          ∙ not-false _ (c .before .before .before .before .before .before .before .if1 .left),
-      sym (c .before .before .before .before .before .before .is-idle .ensures)
-          ∙ not-false _ (c .before .before .before .before .before .if2 .left),
-      sym (c .before .before .before .before .is-licence .ensures) ∙ not-false _ (c .before .before .before .if3 .left),
-      le-leb 1048575 _ (c .before .if4 .taken),
+      sound-is d,
+      client-is (l .before .before),
+      idle-is i,
+      sym (c .before .before .is-licence .ensures)
+          ∙ not-true _ (c .before .if4 .taken),
     )
-    (ap
-    (λ (t : Took). after t (c .before .before .before .before .before .before .before .before .before .before .args .r .now))
-    (c .refuse4 .ensures))
-
-start-requires : tie.Need-start-requires
-start-requires c = search needs
+    (ap (λ (o : Outcome). after o (at-else1 d .args .m .now)) (c .refuse4 .ensures))
 
 returns-5 : tie.Need-returns-5
 unfolding writeOf
 returns-5 c =
-    let a = c .before .before .before .before .before .before .before .before .before .before .args in
-    let sound = sym (c .before .before .before .before .before .before .before .before .is-sound .ensures)
-    ∙ not-false _ (c .before .before .before .before .before .before .before .if1 .left) in
-    let idle : isIdle (a .c .phase) ≡ true =
-    sym (c .before .before .before .before .before .before .is-idle .ensures)
-    ∙ not-false _ (c .before .before .before .before .before .if2 .left) in
-    rw (
-      sound,
-      idle,
-      sym (c .before .before .before .before .is-licence .ensures)
-          ∙ not-false _ (c .before .before .before .if3 .left),
-      lt-leb 1048575 _ (c .before .if4 .left),
+    let e = c .before .before .before in
+    let i = at-else4 e in
+    let l = i .before .before in
+    let d = at-load l in
+    let last : leb 1048575 (readsIn (at-else1 d .args .m .now) .0) ≡ true =
+    ap (λ (x : Client). leb 1048575 (x .reads .0)) (sym (l .load .ensures)) ∙ le-leb 1048575 _ (c .before .if5 .taken) in
+    rw (sound-is d, client-is (l .before .before), idle-is i, entry-is e, last)
+    (ap (λ (o : Outcome). after o (at-else1 d .args .m .now)) (c .refuse5 .ensures))
+
+start-requires : tie.Need-start-requires
+start-requires c κs =
+    let i = at-else4 (c .before .before .before) in
+    let l = i .before .before in
+    let a = at-else1 (at-load l) .args in (
+      loaded-self (l .load .result) (a .number) (a .f) (a .m .now) (l .load .ensures),
+      ap (λ (x : Client). isSoundMemory (x .f) (a .m .now)) (l .load .ensures) ∙ sound-is (at-load l),
+      sym (i .before .is-idle .ensures) ∙ not-false _ (i .if3 .left),
+      c .before .if5 .left,
     )
-    (starts (a .c) (a .r .now) (ReadingForWrite (a .e)) (c .start .result) sound idle (c .start .ensures))
+
+returns-6 : tie.Need-returns-6
+unfolding writeOf
+returns-6 c =
+    let e = c .before .before .before .before .before .before in
+    let i = at-else4 e in
+    let l = i .before .before in
+    let d = at-load l in
+    let more : leb 1048575 (readsIn (at-else1 d .args .m .now) .0) ≡ false =
+    ap (λ (x : Client). leb 1048575 (x .reads .0)) (sym (l .load .ensures))
+    ∙ lt-leb 1048575 _ (c .before .before .before .before .if5 .left) in
+    rw (sound-is d, client-is (l .before .before), idle-is i, entry-is e, more) (c .before .before .start .ensures)
 
 pub write-spec : {M : Type 1} → statement M
 write-spec =
     tie.close
     (tie.spec
-    is-sound-requires
-    refuse-requires
+    (λ c κs. search needs)
+    (λ c κs. search needs)
+    (λ c. search needs)
     returns
-    is-idle-requires
-    refuse-requires-2
+    (λ c κs. search needs)
+    (λ c κs. search needs)
+    (λ c. search needs)
     returns-2
-    is-licence-requires
-    refuse-requires-3
+    load-requires
+    (λ c κs. search needs)
+    (λ c κs. search needs)
+    (λ c. search needs)
     returns-3
-    refuse-requires-4
+    (λ c κs. search needs)
+    (λ c κs. search needs)
+    (λ c. search needs)
     returns-4
+    (λ c κs. search needs)
+    (λ c. search needs)
+    returns-5
     start-requires
-    returns-5)
+    (λ c. search needs)
+    returns-6)

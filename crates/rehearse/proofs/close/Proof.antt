@@ -7,9 +7,6 @@ use Rattle.rehearse.proofs.Closing.{read-some, read-none, read-last}
 use Rattle.rehearse.proofs.close.Statement.{statement}
 use Rattle.rehearse.proofs.close.Tie as tie
 
-add-result : tie.Need-add-result
-add-result c = search needs
-
 returns : tie.Need-returns
 returns c =
     let s = c .before in
@@ -20,12 +17,6 @@ returns-2 c =
     let s = c .before .before in
     read-none (s .args .input .now) (s .args .have) (s .args .n) (s .pre .0) (s .pre .1) (c .before .if1 .left)
     (c .if2 .taken)
-
-slice-write-input : tie.Need-slice-write-input
-slice-write-input c = search needs
-
-add-result-2 : tie.Need-add-result-2
-add-result-2 c = search needs
 
 same-length : tie.Need-same-length
 same-length c = simp length-set
@@ -39,4 +30,4 @@ returns-3 c =
 pub close-spec : {M : Type 1} → statement M
 close-spec =
     tie.close
-    (tie.spec add-result returns returns-2 slice-write-input add-result-2 same-length returns-3)
+    (tie.spec (search needs) returns returns-2 (search needs) (search needs) same-length returns-3)

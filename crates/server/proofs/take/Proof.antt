@@ -2,117 +2,96 @@
 use mathlib.Core.Path.{_≡_, sym, ap, _∙_}
 use mathlib.Core.Bool.{true}
 use mathlib.Core.Logic.{⊎-elim}
+use Prim.Native.Nat.{_≤_}
 use borrow.Author.Needs.{needs}
-use borrow.Author.Tests.{lt-ltb, le-ltb, ltb-true, ltb-false, not-true, not-false}
-use Rattle.server.specs.State.{sound}
-use Rattle.server.specs.Taking.{isRequest, served}
+use borrow.Author.Tests.{ltb-true, ltb-false, not-true, not-false}
+use Rattle.server.specs.Memory.{isSound}
+use Rattle.server.specs.Taking.{isRequest, resultOf}
 use Rattle.server.proofs.Outcomes.{unsound, no-process-low, no-process-high, malformed, taken}
 use Rattle.server.proofs.take.Statement.{statement}
 use Rattle.server.proofs.take.Tie as tie
 
-refused-requires : tie.Need-refused-requires
-refused-requires c κs = search needs
+-- where a sound memory and a client are known
+abbrev start : tie.Else3 → tie.Start
+start c = c .before .before .before .before .before .before .before
+
+is-sound : (c : tie.Else3) → isSound (start c .args .m .now) ≡ true
+is-sound c = sym (c .before .before .before .is-sound .ensures) ∙ not-false _ (c .before .before .if1 .left)
+
+low : (c : tie.Else3) → 1 ≤ start c .args .d
+low c = c .before .if2 .left
+
+top : (c : tie.Else3) → start c .args .d ≤ 6
+top c = ltb-false 6 (start c .args .d) (c .if3 .left)
 
 returns : tie.Need-returns
-unfolding sound
+unfolding resultOf
 returns c =
-    let a = c .before .before .before .before .args in
-    c .refused .ensures ∙ sym (unsound (a .s) (a .d) (a .bytes .now) (le-ltb _ _ (c .before .if1 .taken)))
-
-refused-requires-2 : tie.Need-refused-requires-2
-refused-requires-2 c κs = search needs
+    let a = c .before .before .before .before .before .args in
+    sym (unsound (a .m .now) (a .d) (a .bytes .now) (sym (c .before .is-sound .ensures) ∙ not-true _ (c .if1 .taken)))
 
 returns-2 : tie.Need-returns-2
-unfolding sound
+unfolding resultOf
 returns-2 c =
-    let a = c .before .before .before .before .before .args in
-    let h : sound (a .s) ≡ true = lt-ltb _ _ (c .before .before .if1 .left) in
-    c .refused2 .ensures
-    ∙ sym (⊎-elim (λ w. no-process-low (a .s) (a .d) (a .bytes .now) h (w .taken))
-    (λ w. no-process-high (a .s) (a .d) (a .bytes .now) h (w .0 .left) (ltb-true 6 (a .d) (w .1 .taken)))
-    (c .before .if2 .came))
+    let a = c .before .before .before .before .before .before .args in
+    let h : isSound (a .m .now) ≡ true = sym (c .before .before .is-sound .ensures) ∙ not-false _ (c .before .if1 .left) in
+    sym (⊎-elim (λ w. no-process-low (a .m .now) (a .d) (a .bytes .now) h (w .taken))
+    (λ w. no-process-high (a .m .now) (a .d) (a .bytes .now) h (w .0 .left) (ltb-true 6 (a .d) (w .1 .taken)))
+    (c .if2 .came))
 
-unpack-requires : tie.Need-unpack-requires
-unpack-requires c κs = search needs
-
-enum-known-m : tie.Need-enum-known-m
-enum-known-m c = search needs
-
-enum-told : tie.Need-enum-told
-enum-told c = search needs
-
-refused-requires-3 : tie.Need-refused-requires-3
-refused-requires-3 c κs = search needs
-
--- in these, e is the place behind the test of the sender
 returns-3 : tie.Need-returns-3
-unfolding sound isRequest
+unfolding resultOf isRequest
 returns-3 c =
-    let e = c .before .before .before .before in
-    let a = e .before .before .before .before .before .args in
-    let h : sound (a .s) ≡ true = lt-ltb _ _ (e .before .before .if1 .left) in
-    let bad = sym (c .before .before .before .unpack .ensures) ∙ c .before .enum-told .given .1 in
-    c .refused3 .ensures
-    ∙ sym (malformed (a .s) (a .d) (a .bytes .now) h (e .before .if2 .left) (ltb-false 6 (a .d) (e .if3 .left))
-    (ap isRequest bad))
-
-is-taken-requires : tie.Need-is-taken-requires
-is-taken-requires c κs = search needs
-
-refused-requires-4 : tie.Need-refused-requires-4
-refused-requires-4 c κs = search needs
+    let e = c .before .before .before in
+    let a = start e .args in
+    let bad = sym (c .before .before .unpack .ensures) ∙ c .enum-told .given .1 in
+    sym (malformed (a .m .now) (a .d) (a .bytes .now) (is-sound e) (low e) (top e) (ap isRequest bad))
 
 returns-4 : tie.Need-returns-4
-unfolding sound
+unfolding resultOf
 returns-4 c =
-    let e = c .before .before .before .before .before .before .before in
-    let a = e .before .before .before .before .before .args in
-    let h : sound (a .s) ≡ true = lt-ltb _ _ (e .before .before .if1 .left) in
-    let m = c .before .before .before .before .m .given in
-    let good = sym (c .before .before .before .before .before .before .unpack .ensures) ∙ m .1 in
-    let other = sym (c .before .before .is-taken .ensures) ∙ not-true _ (c .before .if4 .taken) in
-    c .refused4 .ensures
-    ∙ sym (malformed (a .s) (a .d) (a .bytes .now) h (e .before .if2 .left) (ltb-false 6 (a .d) (e .if3 .left))
+    let u = c .before .before .before .before .before in
+    let a = start (u .before) .args in
+    let good = sym (u .unpack .ensures) ∙ c .before .before .before .message .given .1 in
+    let other = sym (c .before .is-taken .ensures) ∙ not-true _ (c .if4 .taken) in
+    sym (malformed (a .m .now) (a .d) (a .bytes .now) (is-sound (u .before)) (low (u .before)) (top (u .before))
     (ap isRequest good ∙ other))
 
-cast-after : tie.Need-cast-after
-cast-after c = search needs
-
-after-requires : tie.Need-after-requires
-unfolding sound
-after-requires c κs =
-    let e = c .before .before .before .before .before .before in
-    (lt-ltb _ _ (e .before .before .if1 .left), e .before .if2 .left, ltb-false 6 _ (e .if3 .left))
+serve-requires : tie.Need-serve-requires
+serve-requires c κs =
+    let e = c .before .before .before .before .before .before .before in
+    (is-sound e, low e, top e)
 
 returns-5 : tie.Need-returns-5
-unfolding sound
+unfolding resultOf
 returns-5 c =
-    let e = c .before .before .before .before .before .before .before .before in
-    let a = e .before .before .before .before .before .args in
-    let h : sound (a .s) ≡ true = lt-ltb _ _ (e .before .before .if1 .left) in
-    let m = c .before .before .before .before .before .m .given in
-    let good = sym (c .before .before .before .before .before .before .before .unpack .ensures) ∙ m .1 in
-    let one = sym (c .before .before .before .is-taken .ensures) ∙ not-false _ (c .before .before .if4 .left) in
-    ap served (c .before .after .ensures)
-    ∙ sym (taken (a .s) (a .d) (a .bytes .now) h (e .before .if2 .left) (ltb-false 6 (a .d) (e .if3 .left))
-    (m .0 .0) good one)
+    let i = c .before .before .before .before in
+    let u = i .before .before .before .before .before in
+    let a = start (u .before) .args in
+    let good = sym (u .unpack .ensures) ∙ i .before .before .before .message .given .1 in
+    let one = sym (i .before .is-taken .ensures) ∙ not-false _ (i .if4 .left) in
+    c .before .before .serve .ensures
+    ∙ sym (taken (a .m .now) (a .d) (a .bytes .now) (is-sound (u .before)) (low (u .before)) (top (u .before))
+    (i .before .before .before .message .given .0 .0) good one)
 
 pub take-spec : {M : Type 1} → statement M
 take-spec =
     tie.close
     (tie.spec
-    refused-requires
+    (λ c κs. search needs)
+    (λ c. search needs)
     returns
-    refused-requires-2
+    (λ c. search needs)
     returns-2
-    unpack-requires
-    enum-known-m
-    enum-told
-    refused-requires-3
+    (λ c κs. search needs)
+    (λ c. search needs)
+    (λ c. search needs)
+    (λ c. search needs)
     returns-3
-    is-taken-requires
-    refused-requires-4
+    (λ c κs. search needs)
+    (λ c. search needs)
     returns-4
-    cast-after
-    after-requires
+    (λ c. search needs)
+    serve-requires
+    (λ c. search needs)
     returns-5)

@@ -8,15 +8,9 @@ use Rattle.server.specs.State.{contains}
 use Rattle.state.proofs.is_in.Statement.{statement}
 use Rattle.state.proofs.is_in.Tie as tie
 
-cast-result : tie.Need-cast-result
-cast-result c = search needs
-
-shr-result : tie.Need-shr-result
-shr-result c = search needs
-
 returns : tie.Need-returns
 unfolding contains
 returns c = ap (λ (bit : ℕ). eqb bit 1) (and-mask (c .args .set / 2 ^ c .args .i) 1)
 
 pub is-in-spec : {M : Type 1} → statement M
-is-in-spec = tie.close (tie.spec cast-result shr-result returns)
+is-in-spec = tie.close (tie.spec (search needs) returns)

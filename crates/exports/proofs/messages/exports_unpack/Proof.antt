@@ -9,24 +9,6 @@ use Rattle.exports.specs.Fields.{unpackedNumber, unpackedFields}
 use Rattle.exports.proofs.messages.exports_unpack.Statement.{statement}
 use Rattle.exports.proofs.messages.exports_unpack.Tie as tie
 
-unpack-requires : tie.Need-unpack-requires
-unpack-requires c κs = search needs
-
-enum-told : tie.Need-enum-told
-enum-told c = search needs
-
-number-requires : tie.Need-number-requires
-number-requires c κs = search needs
-
-cast-result : tie.Need-cast-result
-cast-result c = search needs
-
-enum-known-u : tie.Need-enum-known-u
-enum-known-u c = search needs
-
-fields-of-requires : tie.Need-fields-of-requires
-fields-of-requires c κs = search needs
-
 returns : tie.Need-returns
 returns c =
     let made = c .before .before .before in
@@ -52,11 +34,5 @@ pub exports-unpack-spec : {M : Type 1} → statement M
 exports-unpack-spec =
     tie.close
     (tie.spec
-    unpack-requires
-    enum-told
-    number-requires
-    cast-result
-    enum-known-u
-    fields-of-requires
-    returns
-    returns-2)
+    (search needs) (search needs) (search needs) (search needs) (search needs) (search needs)
+    returns returns-2)

@@ -47,24 +47,6 @@ returns-5 c =
       le-ltb _ (2 ^ 40) (c .if5 .taken),
     )
 
-cast-t8 : tie.Need-cast-t8
-cast-t8 c = search needs
-
-cast-pair-of : tie.Need-cast-pair-of
-cast-pair-of c = search needs
-
-pair-of-requires : tie.Need-pair-of-requires
-pair-of-requires c κs = search needs
-
-cast-t8-2 : tie.Need-cast-t8-2
-cast-t8-2 c = search needs
-
-cast-t13 : tie.Need-cast-t13
-cast-t13 c = search needs
-
-of-words-requires : tie.Need-of-words-requires
-of-words-requires c κs = search needs
-
 returns-6 : tie.Need-returns-6
 returns-6 c =
     let e5 = c .before .before in
@@ -82,15 +64,5 @@ pub message-of-spec : {M : Type 1} → statement M
 message-of-spec =
     tie.close
     (tie.spec
-    returns
-    returns-2
-    returns-3
-    returns-4
-    returns-5
-    cast-t8
-    cast-pair-of
-    pair-of-requires
-    cast-t8-2
-    cast-t13
-    of-words-requires
-    returns-6)
+    returns returns-2 returns-3 returns-4 returns-5 (search needs) (search needs) (search needs)
+    (search needs) (search needs) (search needs) returns-6)

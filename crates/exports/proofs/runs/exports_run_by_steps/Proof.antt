@@ -14,24 +14,6 @@ use Rattle.exports.specs.Runs.{setupNumber, answersBy, answersOf}
 use Rattle.exports.proofs.runs.exports_run_by_steps.Statement.{statement}
 use Rattle.exports.proofs.runs.exports_run_by_steps.Tie as tie
 
-settings-of-requires : tie.Need-settings-of-requires
-settings-of-requires c κs = search needs
-
-enum-known-setup : tie.Need-enum-known-setup
-enum-known-setup c = search needs
-
-number-requires : tie.Need-number-requires
-number-requires c κs = search needs
-
-cast-result : tie.Need-cast-result
-cast-result c = search needs
-
-enum-known-setup-2 : tie.Need-enum-known-setup-2
-enum-known-setup-2 c = search needs
-
-least-requires : tie.Need-least-requires
-least-requires c κs = search needs
-
 step-through-requires : tie.Need-step-through-requires
 step-through-requires c κs =
     let set = c .before .before .before in
@@ -49,9 +31,6 @@ returns c =
       c .number .ensures ∙ ap setupNumber (sym e),
       ap (λ (s : Setup). answersOf s (a .steps .now) (a .out .now)) (sym e),
     )
-
-same-length : tie.Need-same-length
-same-length c = search needs
 
 returns-2 : tie.Need-returns-2
 unfolding howMany
@@ -73,13 +52,5 @@ pub exports-run-by-steps-spec : {M : Type 1} → statement M
 exports-run-by-steps-spec =
     tie.close
     (tie.spec
-    settings-of-requires
-    enum-known-setup
-    number-requires
-    cast-result
-    enum-known-setup-2
-    least-requires
-    step-through-requires
-    returns
-    same-length
-    returns-2)
+    (search needs) (search needs) (search needs) (search needs) (search needs) (search needs)
+    step-through-requires returns (search needs) returns-2)

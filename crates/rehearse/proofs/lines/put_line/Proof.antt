@@ -9,34 +9,20 @@ use Rattle.rehearse.proofs.Printing.{shown-written}
 use Rattle.rehearse.proofs.lines.put_line.Statement.{statement}
 use Rattle.rehearse.proofs.lines.put_line.Tie as tie
 
-sub-print : tie.Need-sub-print
-sub-print c = search needs
-
-part-print-start : tie.Need-part-print-start
-part-print-start c = search needs
-
-part-print-end : tie.Need-part-print-end
-part-print-end c = search needs
-
-print-requires : tie.Need-print-requires
-print-requires c κs = search needs
-
 returns : tie.Need-returns
 returns c =
     let p = c .before .before in
-    let a = p .before .before .before .args in
-    shown-written (a .number) (a .what) (a .out .now) (a .used) _ _ (p .before .before .before .pre)
-    (p .print .ensures)
+    let s = p .before .before .before in
+    let a = s .args in
+    shown-written (a .number .number) (a .what) (a .out .now) (a .used) _ _ (s .pre .0) (p .print-numbered .ensures)
 
 add-result : tie.Need-add-result
 add-result c =
     let p = c .before .before in
     let a = p .before .before .before .args in
-    let w = shown-written (a .number) (a .what) (a .out .now) (a .used) _ _ (p .before .before .before .pre)
-    (p .print .ensures) in
-    let fits = w .fits in
-    let ends = w .ends in
-    let h : a .used + p .print .result ≤ length (a .out .now) = omega arith in
+    let fits = returns c .fits in
+    let ends = returns c .ends in
+    let h : a .used + p .print-numbered .result ≤ length (a .out .now) = omega arith in
     search needs
 
 same-length : tie.Need-same-length
@@ -44,5 +30,4 @@ same-length c = keeps (returns c)
 
 pub put-line-spec : {M : Type 1} → statement M
 put-line-spec =
-    tie.close
-    (tie.spec sub-print part-print-start part-print-end print-requires add-result same-length returns)
+    tie.close (tie.spec (search needs) (search needs) (search needs) (λ c κs. search needs) add-result same-length returns)

@@ -6,9 +6,9 @@ use Prim.Native.Nat.{ℕ, _+_, _-_, _/_, _%_, _≤_}
 use native.Mathlib.Omega.{arith}
 use borrow.Author.Needs.{needs}
 use lib.ListN.{length, set}
-use Rattle.script.specs.Numbers.{digitsOf, decimal}
+use Rattle.script.specs.Numbers.{digitsOf, digitCount, decimal}
 use Rattle.script.specs.Writing.{Written}
-use Rattle.script.proofs.Digits.{count-most, digit-below-ten}
+use Rattle.script.proofs.Digits.{digits-length, digit-below-ten}
 use Rattle.script.proofs.Trailing.{Trailing, none-yet, wide, one-more, two-more, all-written}
 use Rattle.script.proofs.Writing.{keeps, reads}
 use Rattle.script.proofs.print.put_decimal.Statement.{statement}
@@ -31,7 +31,9 @@ loop-holds c =
 -- the digits fit
 room : (c : tie.After-digit-count Inv-loop μ-loop)
     → let a = c .before .before .args in a .at + c .digit-count .result ≤ length (a .out .now)
-room c = omega (arith, c .digit-count .ensures, count-most 19 (c .before .before .args .v))
+room c =
+    let v = c .before .before .args .v in
+    omega (arith, c .digit-count .ensures, digits-length 10 (digitCount 19 v) v)
 
 sub-i : tie.Need-sub-i Inv-loop μ-loop
 sub-i c = search needs

@@ -1,6 +1,9 @@
 -- `put_spaced`: a blank, and a number behind it.
 use native.Mathlib.Omega.{arith}
 use borrow.Author.Needs.{needs}
+use lib.ListN.{length}
+use Rattle.script.specs.Numbers.{decimal}
+use Rattle.script.proofs.Digits.{decimal-short}
 use Rattle.script.proofs.Writing.{keeps, room, then}
 use Rattle.script.proofs.print.put_spaced.Statement.{statement}
 use Rattle.script.proofs.print.put_spaced.Tie as tie
@@ -12,7 +15,9 @@ put-text-requires : tie.Need-put-text-requires
 put-text-requires c κs = search needs
 
 put-decimal-requires : tie.Need-put-decimal-requires
-put-decimal-requires c κs = room (c .before .before .before .put-text .ensures) 1 20 (omega arith) (omega arith)
+put-decimal-requires c κs =
+    let v = c .before .before .before .before .before .before .before .args .v in
+    room (c .before .before .before .put-text .ensures) 1 (length (decimal v)) (omega arith) (omega (arith, decimal-short v))
 
 returns : tie.Need-returns
 returns c =

@@ -22,9 +22,6 @@ abbrev μ-loop : tie.MeasureT-loop
 loop-holds : tie.Need-loop-holds Inv-loop μ-loop
 loop-holds c = let a = c .args in (search needs, none-pass (areLinksSound (a .t) (a .stopped) (a .b .now)))
 
-are-links-sound-requires : tie.Need-are-links-sound-requires Inv-loop μ-loop
-are-links-sound-requires c κs = search needs
-
 returns : tie.Need-returns Inv-loop μ-loop
 unfolding areChannelsSound
 returns c =
@@ -32,12 +29,6 @@ returns c =
     let i = c .before .before .before .loop .i in
     rw (below-fails (areLinksSound (a .t) (a .stopped) (a .b .now)) 6 i (c .before .before .loop-test .taken)
     (sym (c .before .are-links-sound .ensures) ∙ not-true _ (c .if1 .taken)))
-
-add-i : tie.Need-add-i Inv-loop μ-loop
-add-i c = search needs
-
-loop-less : tie.Need-loop-less Inv-loop μ-loop
-loop-less c = search needs
 
 loop-again : tie.Need-loop-again Inv-loop μ-loop
 loop-again c =
@@ -47,9 +38,6 @@ loop-again c =
       more-pass (areLinksSound (a .t) (a .stopped) (a .b .now)) (l .i) (l .inv .1)
           (sym (c .before .are-links-sound .ensures) ∙ not-false _ (c .if1 .left)),
     )
-
-is-sound-requires : tie.Need-is-sound-requires Inv-loop μ-loop
-is-sound-requires c κs = search needs
 
 returns-2 : tie.Need-returns-2 Inv-loop μ-loop
 unfolding areChannelsSound
@@ -62,15 +50,4 @@ returns-2 c =
 
 pub are-channels-sound-spec : {M : Type 1} → statement M
 are-channels-sound-spec =
-    tie.close
-    (tie.spec
-    Inv-loop
-    μ-loop
-    loop-holds
-    are-links-sound-requires
-    returns
-    add-i
-    loop-less
-    loop-again
-    is-sound-requires
-    returns-2)
+    tie.close (tie.spec Inv-loop μ-loop loop-holds (search needs) returns (search needs) (search needs) loop-again (search needs) returns-2)

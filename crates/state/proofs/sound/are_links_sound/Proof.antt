@@ -22,9 +22,6 @@ loop-holds : tie.Need-loop-holds Inv-loop μ-loop
 loop-holds c =
     let a = c .args in (search needs, none-pass (isLinkSound (a .t) (a .stopped) (a .b .now) (a .i)))
 
-is-link-sound-requires : tie.Need-is-link-sound-requires Inv-loop μ-loop
-is-link-sound-requires c κs = search needs
-
 returns : tie.Need-returns Inv-loop μ-loop
 unfolding areLinksSound
 returns c =
@@ -33,12 +30,6 @@ returns c =
     sym (below-fails (isLinkSound (a .t) (a .stopped) (a .b .now) (a .i)) 13 j
     (c .before .before .loop-test .taken)
     (sym (c .before .is-link-sound .ensures) ∙ not-true _ (c .if1 .taken)))
-
-add-j : tie.Need-add-j Inv-loop μ-loop
-add-j c = search needs
-
-loop-less : tie.Need-loop-less Inv-loop μ-loop
-loop-less c = search needs
 
 loop-again : tie.Need-loop-again Inv-loop μ-loop
 loop-again c =
@@ -57,14 +48,4 @@ returns-2 c =
 
 pub are-links-sound-spec : {M : Type 1} → statement M
 are-links-sound-spec =
-    tie.close
-    (tie.spec
-    Inv-loop
-    μ-loop
-    loop-holds
-    is-link-sound-requires
-    returns
-    add-j
-    loop-less
-    loop-again
-    returns-2)
+    tie.close (tie.spec Inv-loop μ-loop loop-holds (search needs) returns (search needs) (search needs) loop-again returns-2)

@@ -26,21 +26,12 @@ abbrev μ-loop : tie.MeasureT-loop
 loop-holds : tie.Need-loop-holds Inv-loop μ-loop
 loop-holds c = (search needs, none-pass (passes (c .args .t)))
 
-is-mark-fine-requires : tie.Need-is-mark-fine-requires Inv-loop μ-loop
-is-mark-fine-requires c κs = search needs
-
 returns : tie.Need-returns Inv-loop μ-loop
 returns c =
     let t = c .before .before .before .before .args .t in
     let i = c .before .before .before .loop .i in
     sym (below-fails (passes t) 13 i (c .before .before .loop-test .taken)
     (sym (c .before .is-mark-fine .ensures) ∙ not-true _ (c .if1 .taken)))
-
-add-i : tie.Need-add-i Inv-loop μ-loop
-add-i c = search needs
-
-loop-less : tie.Need-loop-less Inv-loop μ-loop
-loop-less c = search needs
 
 loop-again : tie.Need-loop-again Inv-loop μ-loop
 loop-again c =
@@ -58,14 +49,4 @@ returns-2 c =
 
 pub are-marks-fine-spec : {M : Type 1} → statement M
 are-marks-fine-spec =
-    tie.close
-    (tie.spec
-    Inv-loop
-    μ-loop
-    loop-holds
-    is-mark-fine-requires
-    returns
-    add-i
-    loop-less
-    loop-again
-    returns-2)
+    tie.close (tie.spec Inv-loop μ-loop loop-holds (search needs) returns (search needs) (search needs) loop-again returns-2)

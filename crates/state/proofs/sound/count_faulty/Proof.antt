@@ -20,24 +20,12 @@ loop-holds : tie.Need-loop-holds Inv-loop μ-loop
 unfolding count
 loop-holds c = search needs
 
-is-in-requires : tie.Need-is-in-requires Inv-loop μ-loop
-is-in-requires c κs = search needs
-
-cast-n : tie.Need-cast-n Inv-loop μ-loop
-cast-n c = search needs
-
 add-n : tie.Need-add-n Inv-loop μ-loop
 add-n c = record { fits = omega (arith, bool-le (c .is-in .result)) }
 
-add-i : tie.Need-add-i Inv-loop μ-loop
-add-i c = search needs
-
-loop-less : tie.Need-loop-less Inv-loop μ-loop
-loop-less c = search needs
-
 loop-again : tie.Need-loop-again Inv-loop μ-loop
 loop-again c =
-    let f = c .before .before .before .args .t .faulty in
+    let f = c .before .before .before .before .args .t .faulty in
     let l = c .before .before .loop in
     let b : _ ≤ 1 = bool-le (c .is-in .result) in (
       search needs,
@@ -47,21 +35,10 @@ loop-again c =
 
 returns : tie.Need-returns Inv-loop μ-loop
 returns c =
-    let f = c .before .before .args .t .faulty in
+    let f = c .before .before .before .args .t .faulty in
     count-end (λ j. contains f (suc j)) (c .before .loop .i) 13 _ (search needs) (search needs)
     (c .before .loop .inv .2)
 
 pub count-faulty-spec : {M : Type 1} → statement M
 count-faulty-spec =
-    tie.close
-    (tie.spec
-    Inv-loop
-    μ-loop
-    loop-holds
-    is-in-requires
-    cast-n
-    add-n
-    add-i
-    loop-less
-    loop-again
-    returns)
+    tie.close (tie.spec Inv-loop μ-loop (search needs) loop-holds (search needs) (search needs) add-n (search needs) (search needs) loop-again returns)

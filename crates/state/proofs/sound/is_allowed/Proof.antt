@@ -12,18 +12,9 @@ use Rattle.state.specs.Sound.{areAllowed}
 use Rattle.state.proofs.sound.is_allowed.Statement.{statement}
 use Rattle.state.proofs.sound.is_allowed.Tie as tie
 
-is-in-range-requires : tie.Need-is-in-range-requires
-is-in-range-requires c κs = search needs
-
 returns : tie.Need-returns
 unfolding areAllowed setupRefusal
 returns c = rw (sym (c .before .is-in-range .ensures) ∙ not-true _ (c .if1 .taken))
-
-cast-if2 : tie.Need-cast-if2
-cast-if2 c = search needs
-
-count-faulty-requires : tie.Need-count-faulty-requires
-count-faulty-requires c κs = search needs
 
 returns-2 : tie.Need-returns-2
 unfolding areAllowed setupRefusal settingsOf
@@ -45,11 +36,4 @@ returns-3 c =
 
 pub is-allowed-spec : {M : Type 1} → statement M
 is-allowed-spec =
-    tie.close
-    (tie.spec
-    is-in-range-requires
-    returns
-    cast-if2
-    count-faulty-requires
-    returns-2
-    returns-3)
+    tie.close (tie.spec (search needs) returns (search needs) (search needs) returns-2 returns-3)

@@ -5,15 +5,9 @@ use mathlib.Core.Bool.{not}
 use native.Mathlib.Omega.{arith}
 use borrow.Author.Needs.{needs}
 use borrow.Author.Tests.{lt-ltb, le-ltb}
-use Rattle.state.proofs.SoundServer.{honest-place}
+use Rattle.state.proofs.Tested.{honest-place}
 use Rattle.state.proofs.sound.is_honest.Statement.{statement}
 use Rattle.state.proofs.sound.is_honest.Tie as tie
-
-servers-requires : tie.Need-servers-requires
-servers-requires c κs = search needs
-
-cast-if1 : tie.Need-cast-if1
-cast-if1 c = search needs
 
 returns : tie.Need-returns
 returns c =
@@ -22,16 +16,13 @@ returns c =
     let h : 3 * a .t .f + 1 ≤ a .j = omega (arith, n) in
     rw (honest-place (a .t) (a .j), le-ltb (a .j) (3 * a .t .f + 1) h)
 
-is-in-requires : tie.Need-is-in-requires
-is-in-requires c κs = search needs
-
 returns-2 : tie.Need-returns-2
 returns-2 c =
-    let a = c .before .before .before .args in
-    let n = c .before .before .servers .ensures in
+    let a = c .before .before .before .before .args in
+    let n = c .before .before .before .servers .ensures in
     let h : a .j < 3 * a .t .f + 1 = omega (arith, n) in
     rw (honest-place (a .t) (a .j), lt-ltb (a .j) (3 * a .t .f + 1) h) (ap not (c .is-in .ensures))
 
 pub is-honest-spec : {M : Type 1} → statement M
 is-honest-spec =
-    tie.close (tie.spec servers-requires cast-if1 returns is-in-requires returns-2)
+    tie.close (tie.spec (search needs) (search needs) returns (search needs) (search needs) returns-2)

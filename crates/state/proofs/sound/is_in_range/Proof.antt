@@ -27,9 +27,6 @@ returns-3 c =
       lt-leb (t .clients) 6 (c .if3 .taken),
     )
 
-are-marks-fine-requires : tie.Need-are-marks-fine-requires
-are-marks-fine-requires c κs = search needs
-
 returns-4 : tie.Need-returns-4
 unfolding inRange settingsOf
 returns-4 c =
@@ -44,4 +41,4 @@ returns-4 c =
 
 pub is-in-range-spec : {M : Type 1} → statement M
 is-in-range-spec =
-    tie.close (tie.spec returns returns-2 returns-3 are-marks-fine-requires returns-4)
+    tie.close (tie.spec returns returns-2 returns-3 (search needs) returns-4)

@@ -6,15 +6,9 @@ use Rattle.state.specs.Sound.{isLinkSound}
 use Rattle.state.proofs.sound.is_link_sound.Statement.{statement}
 use Rattle.state.proofs.sound.is_link_sound.Tie as tie
 
-is-up-sound-requires : tie.Need-is-up-sound-requires
-is-up-sound-requires c κs = search needs
-
 returns : tie.Need-returns
 unfolding isLinkSound
 returns c = rw (sym (c .before .is-up-sound .ensures) ∙ not-true _ (c .if1 .taken))
-
-is-down-sound-requires : tie.Need-is-down-sound-requires
-is-down-sound-requires c κs = search needs
 
 returns-2 : tie.Need-returns-2
 unfolding isLinkSound
@@ -24,4 +18,4 @@ returns-2 c =
 
 pub is-link-sound-spec : {M : Type 1} → statement M
 is-link-sound-spec =
-    tie.close (tie.spec is-up-sound-requires returns is-down-sound-requires returns-2)
+    tie.close (tie.spec (search needs) returns (search needs) returns-2)

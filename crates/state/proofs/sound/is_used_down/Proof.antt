@@ -5,21 +5,12 @@ use mathlib.Core.Bool.{not}
 use native.Mathlib.Omega.{arith}
 use borrow.Author.Needs.{needs}
 use borrow.Author.Tests.{lt-ltb, le-ltb}
-use Rattle.state.proofs.SoundServer.{server-place}
+use Rattle.state.proofs.Tested.{server-place}
 use Rattle.state.proofs.sound.is_used_down.Statement.{statement}
 use Rattle.state.proofs.sound.is_used_down.Tie as tie
 
-cast-if1 : tie.Need-cast-if1
-cast-if1 c = search needs
-
 returns : tie.Need-returns
 returns c = let a = c .before .before .args in rw (le-ltb (a .i) (a .t .clients) (c .if1 .taken))
-
-servers-requires : tie.Need-servers-requires
-servers-requires c κs = search needs
-
-cast-if2 : tie.Need-cast-if2
-cast-if2 c = search needs
 
 returns-2 : tie.Need-returns-2
 returns-2 c =
@@ -31,9 +22,6 @@ returns-2 c =
       server-place (a .t) (a .j),
       le-ltb (a .j) (3 * a .t .f + 1) h,
     )
-
-is-in-requires : tie.Need-is-in-requires
-is-in-requires c κs = search needs
 
 returns-3 : tie.Need-returns-3
 returns-3 c =
@@ -49,12 +37,4 @@ returns-3 c =
 
 pub is-used-down-spec : {M : Type 1} → statement M
 is-used-down-spec =
-    tie.close
-    (tie.spec
-    cast-if1
-    returns
-    servers-requires
-    cast-if2
-    returns-2
-    is-in-requires
-    returns-3)
+    tie.close (tie.spec (search needs) returns (search needs) (search needs) returns-2 (search needs) returns-3)

@@ -4,14 +4,8 @@ use borrow.Author.Tests.{lt-ltb, le-ltb}
 use Rattle.state.proofs.sound.is_used_up.Statement.{statement}
 use Rattle.state.proofs.sound.is_used_up.Tie as tie
 
-cast-if1 : tie.Need-cast-if1
-cast-if1 c = search needs
-
 returns : tie.Need-returns
 returns c = let a = c .before .before .args in rw (le-ltb (a .i) (a .t .clients) (c .if1 .taken))
-
-is-honest-requires : tie.Need-is-honest-requires
-is-honest-requires c κs = search needs
 
 returns-2 : tie.Need-returns-2
 returns-2 c =
@@ -19,5 +13,4 @@ returns-2 c =
     rw (lt-ltb (a .i) (a .t .clients) (c .before .if1 .left)) (c .is-honest .ensures)
 
 pub is-used-up-spec : {M : Type 1} → statement M
-is-used-up-spec =
-    tie.close (tie.spec cast-if1 returns is-honest-requires returns-2)
+is-used-up-spec = tie.close (tie.spec (search needs) returns (search needs) returns-2)

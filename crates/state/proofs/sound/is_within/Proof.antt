@@ -1,15 +1,11 @@
 -- `is_within`: a shift of 1 by at most six does not wrap. Assumes nothing.
 use borrow.Author.Needs.{needs}
-use Rattle.state.proofs.SoundServer.{bit-is}
+use Rattle.state.proofs.Tested.{bit-is}
 use Rattle.state.proofs.sound.is_within.Statement.{statement}
 use Rattle.state.proofs.sound.is_within.Tie as tie
-
-shl-result : tie.Need-shl-result
-shl-result c = search needs
 
 returns : tie.Need-returns
 returns c = rw (bit-is (c .args .n) (c .pre))
 
 pub is-within-spec : {M : Type 1} → statement M
-is-within-spec =
-    tie.close (tie.spec shl-result returns)
+is-within-spec = tie.close (tie.spec (search needs) returns)

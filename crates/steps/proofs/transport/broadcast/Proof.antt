@@ -20,15 +20,6 @@ Inv-loop b₀ i w faulty n j₀ b j = (j ≤ n) × ((m : Message) → w ≡ word
 abbrev μ-loop : tie.MeasureT-loop
 μ-loop b₀ i w faulty n j₀ b j = n - j
 
-words-of-requires : tie.Need-words-of-requires Inv-loop μ-loop
-words-of-requires c κs = search needs
-
-servers-requires : tie.Need-servers-requires Inv-loop μ-loop
-servers-requires c κs = search needs
-
-cast-n : tie.Need-cast-n Inv-loop μ-loop
-cast-n c = search needs
-
 loop-holds : tie.Need-loop-holds Inv-loop μ-loop
 unfolding broadcast
 loop-holds c = (search needs, λ m e. refl)
@@ -37,21 +28,16 @@ is-in-requires : tie.Need-is-in-requires Inv-loop μ-loop
 is-in-requires c κs = omega (arith, c .before .before .servers .ensures)
 
 up-requires : tie.Need-up-requires Inv-loop μ-loop
-up-requires c κs = omega (arith, c .before .before .before .before .before .servers .ensures)
+up-requires c κs = let l = c .before .before .before .before in omega (arith, l .before .servers .ensures)
 
 put-requires : tie.Need-put-requires Inv-loop μ-loop
-put-requires c κs = omega (arith, c .before .before .before .before .before .before .servers .ensures)
-
-add-j : tie.Need-add-j Inv-loop μ-loop
-add-j c = search needs
-
-loop-less : tie.Need-loop-less Inv-loop μ-loop
-loop-less c = search needs
+put-requires c κs = let l = c .before .before .before .before .before in omega (arith, l .before .servers .ensures)
 
 loop-again : tie.Need-loop-again Inv-loop μ-loop
 loop-again c =
     let l = c .before .before .before in
-    let a = l .before .before .before .args in (
+    let at-words-of = l .before .before .before in
+    let a = at-words-of .before .args in (
       omega arith,
       λ m e. ⊎-elim
           (λ w. broadcast-honest (a .t .faulty) (a .b .now) (l .loop .b) (a .i) m (l .loop .j) (l .loop .inv .1 m e) _
@@ -65,9 +51,10 @@ loop-again c =
 returns : tie.Need-returns Inv-loop μ-loop
 returns c =
     let s = c .before .before in
-    let a = s .before .before .args in
+    let at-words-of = s .before .before in
+    let a = at-words-of .before .args in
     let last : c .before .loop .j ≡ size (a .t .f) = omega (arith, s .servers .ensures) in
-    c .before .loop .inv .1 (a .m) (s .before .words-of .ensures)
+    c .before .loop .inv .1 (a .m) (at-words-of .words-of .ensures)
     ∙ ap (λ (n : ℕ). broadcast (a .t .faulty) (a .b .now) (a .i) (a .m) n) last
 
 pub broadcast-spec : {M : Type 1} → statement M
@@ -76,14 +63,15 @@ broadcast-spec =
     (tie.spec
     Inv-loop
     μ-loop
-    words-of-requires
-    servers-requires
-    cast-n
+    (search needs)
+    (search needs)
+    (search needs)
+    (search needs)
     loop-holds
     is-in-requires
     up-requires
     put-requires
-    add-j
-    loop-less
+    (search needs)
+    (search needs)
     loop-again
     returns)

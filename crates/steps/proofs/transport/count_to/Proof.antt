@@ -13,29 +13,8 @@ use Rattle.steps.proofs.ReplyLengths.{byte-le, none-length, info-length
 use Rattle.steps.proofs.transport.count_to.Statement.{statement}
 use Rattle.steps.proofs.transport.count_to.Tie as tie
 
-add-own : tie.Need-add-own
-add-own c = search needs
-
-cast-own : tie.Need-cast-own
-cast-own c = search needs
-
-enum-told : tie.Need-enum-told
-enum-told c = search needs
-
-enum-known-s : tie.Need-enum-known-s
-enum-known-s c = search needs
-
-enum-known-s-2 : tie.Need-enum-known-s-2
-enum-known-s-2 c = search needs
-
-cast-is-in : tie.Need-cast-is-in
-cast-is-in c = search needs
-
 is-in-requires : tie.Need-is-in-requires
 is-in-requires c κs = omega arith
-
-cast-result : tie.Need-cast-result
-cast-result c = search needs
 
 add-result : tie.Need-add-result
 add-result c =
@@ -61,10 +40,11 @@ returns-2 c =
 
 returns-3 : tie.Need-returns-3
 returns-3 c =
-    let a = c .before .before .before .before .args in (
+    let s = c .before .before .before .before in
+    let a = s .args in (
       rw (add-one (a .i), c .is-in .ensures)
-          (forward-length (a .d) (a .i) _ _ (c .before .before .before .before .pre)
-          ∙ ap (λ (s : Sends). length (sentTo (suc (a .i)) (sentBy (a .d) s))) (sym (c .before .before .s2 .given .1))),
+          (forward-length (a .d) (a .i) _ _ (s .pre)
+          ∙ ap (λ (y : Sends). length (sentTo (suc (a .i)) (sentBy (a .d) y))) (sym (c .before .before .s2 .given .1))),
       omega (arith, byte-le (c .is-in .result), byte-le (eqb (a .d) (a .i + 1))),
     )
 
@@ -72,14 +52,14 @@ pub count-to-spec : {M : Type 1} → statement M
 count-to-spec =
     tie.close
     (tie.spec
-    add-own
-    cast-own
-    enum-told
-    enum-known-s
-    enum-known-s-2
-    cast-is-in
+    (search needs)
+    (search needs)
+    (search needs)
+    (search needs)
+    (search needs)
+    (search needs)
     is-in-requires
-    cast-result
+    (search needs)
     add-result
     returns
     returns-2

@@ -18,12 +18,6 @@ Inv-loop b₀ i n j₀ b j = (j ≤ n) × (b ≡ emptied b₀ i j)
 abbrev μ-loop : tie.MeasureT-loop
 μ-loop b₀ i n j₀ b j = n - j
 
-servers-requires : tie.Need-servers-requires Inv-loop μ-loop
-servers-requires c κs = search needs
-
-cast-n : tie.Need-cast-n Inv-loop μ-loop
-cast-n c = search needs
-
 loop-holds : tie.Need-loop-holds Inv-loop μ-loop
 unfolding emptied
 loop-holds c = (search needs, refl)
@@ -32,13 +26,7 @@ down-requires : tie.Need-down-requires Inv-loop μ-loop
 down-requires c κs = omega (arith, c .before .before .before .servers .ensures)
 
 clear-requires : tie.Need-clear-requires Inv-loop μ-loop
-clear-requires c κs = omega (arith, c .before .before .before .before .servers .ensures)
-
-add-j : tie.Need-add-j Inv-loop μ-loop
-add-j c = search needs
-
-loop-less : tie.Need-loop-less Inv-loop μ-loop
-loop-less c = search needs
+clear-requires c κs = let l = c .before .before .before in omega (arith, l .before .servers .ensures)
 
 loop-again : tie.Need-loop-again Inv-loop μ-loop
 unfolding emptied
@@ -64,12 +52,12 @@ empty-down-spec =
     (tie.spec
     Inv-loop
     μ-loop
-    servers-requires
-    cast-n
+    (search needs)
+    (search needs)
     loop-holds
     down-requires
     clear-requires
-    add-j
-    loop-less
+    (search needs)
+    (search needs)
     loop-again
     returns)

@@ -27,12 +27,6 @@ is-in-requires c κs = omega arith
 send-one-requires : tie.Need-send-one-requires Inv-loop μ-loop
 send-one-requires c κs = omega arith
 
-add-i : tie.Need-add-i Inv-loop μ-loop
-add-i c = search needs
-
-loop-less : tie.Need-loop-less Inv-loop μ-loop
-loop-less c = search needs
-
 loop-again : tie.Need-loop-again Inv-loop μ-loop
 loop-again c =
     let l = c .before .before .before in
@@ -63,7 +57,7 @@ forward-spec =
     loop-holds
     is-in-requires
     send-one-requires
-    add-i
-    loop-less
+    (search needs)
+    (search needs)
     loop-again
     returns)

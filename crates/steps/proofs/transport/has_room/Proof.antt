@@ -1,22 +1,26 @@
--- `has_room`: the count is the channel's. Assumes nothing.
-use Prim.Native.Nat.{ℕ, _+_}
-use mathlib.Core.Path.{ap}
+-- `has_room`: the count is the channel's, and is at most what is left of the slots exactly where the sum is at most the slots.
+-- Assumes nothing.
+use Prim.Native.Nat.{ℕ, _+_, _-_, _≤_}
+use mathlib.Core.Path.{_≡_, sym, ap, _∙_}
+use native.Mathlib.Omega.{arith}
 use borrow.Author.Needs.{needs}
+use borrow.Author.Tests.{leb-true, leb-false, le-leb, lt-leb}
 use lib.Dec.{leb}
+use Rattle.basics.proofs.Cases.{by-test}
 use Rattle.steps.proofs.transport.has_room.Statement.{statement}
 use Rattle.steps.proofs.transport.has_room.Tie as tie
 
-count-requires : tie.Need-count-requires
-count-requires c κs = search needs
-
-cast-result : tie.Need-cast-result
-cast-result c = search needs
-
-add-result : tie.Need-add-result
-add-result c = search needs
+same-room : (n more : ℕ) → more ≤ 8 → leb n (8 - more) ≡ leb (n + more) 8
+same-room n more h =
+    by-test (leb n (8 - more))
+    (λ e. let le = leb-true n (8 - more) e in e ∙ sym (le-leb (n + more) 8 (omega arith)))
+    (λ e. let lt = leb-false n (8 - more) e in e ∙ sym (lt-leb (n + more) 8 (omega arith)))
 
 returns : tie.Need-returns
-returns c = ap (λ (n : ℕ). leb (n + c .before .args .more) 8) (c .count .ensures)
+returns c =
+    let s = c .before in
+    same-room (c .count .result) (s .args .more) (s .pre .1)
+    ∙ ap (λ (n : ℕ). leb (n + s .args .more) 8) (c .count .ensures)
 
 pub has-room-spec : {M : Type 1} → statement M
-has-room-spec = tie.close (tie.spec count-requires cast-result add-result returns)
+has-room-spec = tie.close (tie.spec (search needs) (search needs) returns)

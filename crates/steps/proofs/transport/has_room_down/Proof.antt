@@ -13,21 +13,6 @@ use Rattle.steps.proofs.transport.has_room_down.Tie as tie
 abbrev room : tie.Start → Sends → Bool
 room s z = let a = s .args in roomDown (a .t) (a .stopped) (a .b .now) (a .j) (sentBy (a .d) z)
 
-enum-told : tie.Need-enum-told
-enum-told c = search needs
-
-enum-known-s : tie.Need-enum-known-s
-enum-known-s c = search needs
-
-sub-has-room-from : tie.Need-sub-has-room-from
-sub-has-room-from c = search needs
-
-cast-has-room-from : tie.Need-cast-has-room-from
-cast-has-room-from c = search needs
-
-has-room-from-requires : tie.Need-has-room-from-requires
-has-room-from-requires c κs = search needs
-
 returns : tie.Need-returns
 returns c =
     let told = c .before .before .before in
@@ -36,15 +21,6 @@ returns c =
     sym (ap (room s) (told .s .given .1)
     ∙ room-info (a .t) (a .stopped) (a .b .now) (a .j) (a .d) (s .pre .0) (s .pre .1) (s .pre .4) _ _ (s .pre .2)
     (sym (c .before .has-room-from .ensures) ∙ c .if1 .taken))
-
-all-have-room-requires : tie.Need-all-have-room-requires
-all-have-room-requires c κs = search needs
-
-enum-known-s-2 : tie.Need-enum-known-s-2
-enum-known-s-2 c = search needs
-
-all-have-room-requires-2 : tie.Need-all-have-room-requires-2
-all-have-room-requires-2 c κs = search needs
 
 returns-2 : tie.Need-returns-2
 returns-2 c =
@@ -67,15 +43,15 @@ pub has-room-down-spec : {M : Type 1} → statement M
 has-room-down-spec =
     tie.close
     (tie.spec
-    enum-told
-    enum-known-s
-    sub-has-room-from
-    cast-has-room-from
-    has-room-from-requires
+    (search needs)
+    (search needs)
+    (search needs)
+    (search needs)
+    (search needs)
     returns
-    all-have-room-requires
-    enum-known-s-2
-    all-have-room-requires-2
+    (search needs)
+    (search needs)
+    (search needs)
     returns-2
     returns-3
     returns-4)

@@ -10,27 +10,6 @@ use Rattle.steps.proofs.SendLaws.{reply-none, reply-info, reply-forward
 use Rattle.steps.proofs.transport.reply.Statement.{statement}
 use Rattle.steps.proofs.transport.reply.Tie as tie
 
-enum-told : tie.Need-enum-told
-enum-told c = search needs
-
-enum-known-s : tie.Need-enum-known-s
-enum-known-s c = search needs
-
-send-one-requires : tie.Need-send-one-requires
-send-one-requires c κs = search needs
-
-enum-known-s-2 : tie.Need-enum-known-s-2
-enum-known-s-2 c = search needs
-
-forward-requires : tie.Need-forward-requires
-forward-requires c κs = search needs
-
-counter-of-requires : tie.Need-counter-of-requires
-counter-of-requires c κs = search needs
-
-send-one-requires-2 : tie.Need-send-one-requires-2
-send-one-requires-2 c κs = search needs
-
 -- the slots after a reply
 abbrev replied : (c : tie.Start) → Sends → List ℕ
 replied c x = sendDown (c .args .stopped) (c .args .b .now) (c .args .j) (sentBy (suc (c .args .i)) x)
@@ -63,13 +42,13 @@ pub reply-spec : {M : Type 1} → statement M
 reply-spec =
     tie.close
     (tie.spec
-    enum-told
-    enum-known-s
-    send-one-requires
-    enum-known-s-2
-    forward-requires
-    counter-of-requires
-    send-one-requires-2
+    (search needs)
+    (search needs)
+    (search needs)
+    (search needs)
+    (search needs)
+    (search needs)
+    (search needs)
     returns
     returns-2
     returns-3)

@@ -6,26 +6,15 @@ use Rattle.steps.proofs.SendLaws.{put-message, send-working, send-stopp
 use Rattle.steps.proofs.transport.send_one.Statement.{statement}
 use Rattle.steps.proofs.transport.send_one.Tie as tie
 
-is-in-requires : tie.Need-is-in-requires
-is-in-requires c κs = search needs
-
-down-requires : tie.Need-down-requires
-down-requires c κs = search needs
-
-words-of-requires : tie.Need-words-of-requires
-words-of-requires c κs = search needs
-
-put-requires : tie.Need-put-requires
-put-requires c κs = search needs
-
 returns : tie.Need-returns
 returns c =
-    let s = c .before .before .before .before .before in
+    let at-if1 = c .before .before .before .before in
+    let s = at-if1 .before in
     let a = s .before .args in
     put-message (a .b .now) _ _ _ _ (a .m) (c .before .before .down .ensures) (c .before .words-of .ensures)
     (c .put .ensures)
     ∙ sym (send-working (a .stopped) (a .b .now) (a .i) (a .j) (a .m)
-    (sym (s .is-in .ensures) ∙ not-true _ (c .before .before .before .before .if1 .taken)))
+    (sym (s .is-in .ensures) ∙ not-true _ (at-if1 .if1 .taken)))
 
 returns-2 : tie.Need-returns-2
 returns-2 c =
@@ -36,4 +25,4 @@ returns-2 c =
 pub send-one-spec : {M : Type 1} → statement M
 send-one-spec =
     tie.close
-    (tie.spec is-in-requires down-requires words-of-requires put-requires returns returns-2)
+    (tie.spec (search needs) (search needs) (search needs) (search needs) returns returns-2)

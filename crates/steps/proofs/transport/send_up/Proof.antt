@@ -14,30 +14,6 @@ use Rattle.steps.proofs.transport.send_up.Tie as tie
 abbrev sent : (c : tie.Start) → Sends → List ℕ
 sent c x = sendUp (c .args .t) (c .args .b .now) (c .args .i) (messagesOf x)
 
-enum-told : tie.Need-enum-told
-enum-told c = search needs
-
-enum-known-s : tie.Need-enum-known-s
-enum-known-s c = search needs
-
-broadcast-requires : tie.Need-broadcast-requires
-broadcast-requires c κs = search needs
-
-enum-told-2 : tie.Need-enum-told-2
-enum-told-2 c = search needs
-
-broadcast-requires-2 : tie.Need-broadcast-requires-2
-broadcast-requires-2 c κs = search needs
-
-enum-known-s-2 : tie.Need-enum-known-s-2
-enum-known-s-2 c = search needs
-
-broadcast-requires-3 : tie.Need-broadcast-requires-3
-broadcast-requires-3 c κs = search needs
-
-broadcast-requires-4 : tie.Need-broadcast-requires-4
-broadcast-requires-4 c κs = search needs
-
 returns : tie.Need-returns
 unfolding sendUp
 returns c = ap (sent (c .before .before)) (sym (c .enum-told .given .1))
@@ -69,14 +45,14 @@ pub send-up-spec : {M : Type 1} → statement M
 send-up-spec =
     tie.close
     (tie.spec
-    enum-told
-    enum-known-s
-    broadcast-requires
-    enum-told-2
-    broadcast-requires-2
-    enum-known-s-2
-    broadcast-requires-3
-    broadcast-requires-4
+    (search needs)
+    (search needs)
+    (search needs)
+    (search needs)
+    (search needs)
+    (search needs)
+    (search needs)
+    (search needs)
     returns
     returns-2
     returns-3

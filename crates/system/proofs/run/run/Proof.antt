@@ -1,77 +1,65 @@
 -- `run`: a refused setup leaves everything; an accepted one is allowed, so its run is the history's, and demand 3
 -- holds of it.
 -- Assumes nothing.
+use Prim.Native.Nat.{ℕ}
 use mathlib.Core.Path.{_≡_, refl, sym, subst, _∙_}
+use mathlib.Core.List.{List}
 use native.Mathlib.Omega.{arith}
 use borrow.Author.Needs.{needs}
 use Rattle.register.proofs.Formats.{holds-always}
 use Rattle.state.specs.declared.Settings.{Settings}
-use Rattle.state.specs.Sound.{areAllowed}
 use Rattle.state.proofs.SoundFacts.{allowed-of}
-use mathlib.Core.Bool.{true}
-use Rattle.system.specs.Run.{howMany, stepsIn}
-use Rattle.system.proofs.RunLaws.{own-settings, stored-own, run-own}
+use Rattle.system.specs.declared.setup.Setup.the-variants.{Set}
+use Rattle.system.specs.Run.{howMany, stepsIn, Run}
+use Rattle.system.specs.Setup.{setupOf}
 use Rattle.system.proofs.SetupLaws.{allowed-set}
 use Rattle.system.proofs.run.run.Statement.{statement}
 use Rattle.system.proofs.run.run.Tie as tie
 
-settings-of-requires : tie.Need-settings-of-requires
-settings-of-requires c κs = search needs
+-- a run of as many steps
+run-for : (t : Settings) (xs out : List ℕ) (n m : ℕ) → n ≡ m → (s c b new : List ℕ) → Run t xs out n n s c b new
+    → Run t xs out m m s c b new
+run-for t xs out n m e s c b new = subst (λ (k : ℕ). Run t xs out k k s c b new) e
 
-enum-told : tie.Need-enum-told
-enum-told c = search needs
+-- where places come from
+abbrev start : tie.After-settings-of → tie.Start
+start c = c .before .before .before
 
-new-system-requires : tie.Need-new-system-requires
-new-system-requires c κs = search needs
+abbrev counted : tie.After-set-up → tie.After-least
+counted c = c .before .before .before .before
 
-enum-known-setup : tie.Need-enum-known-setup
-enum-known-setup c = search needs
+abbrev set : tie.After-take-all-arg4 → tie.After-set-up
+set c = c .before .before .before .before
 
-least-requires : tie.Need-least-requires
-least-requires c κs = search needs
-
-set-up-requires : tie.Need-set-up-requires
-set-up-requires c κs = search needs
+-- the setup is accepted
+accepted : (c : tie.After-setup) → let a = start (c .before .before) .args in
+    setupOf (a .f) (a .clients) (a .faulty) ≡ Set (c .setup .given .0 .0)
+accepted c = sym (c .before .before .settings-of .ensures) ∙ c .setup .given .1
 
 take-all-requires : tie.Need-take-all-requires
 take-all-requires c κs =
-    let s = c .before .before .before in
-    let n = s .before .before .before in
-    let told = n .before .before in
-    let asked = told .before .before in
-    let a = asked .before .before .before .args in
-    let e = sym (asked .settings-of .ensures) ∙ told .setup .given .1 in
-    let st = s .set-up .ensures in
-    let many = n .least .ensures in (
-      subst (λ (t : Settings). areAllowed t ≡ true) (sym (own-settings _ _ _ _ _ st))
-          (allowed-of _ (allowed-set _ _ _ _ e)),
-      stored-own _ _ _ _ _ st,
-      omega arith,
-      omega arith,
-    )
+    let n = counted (set c) in
+    let e = accepted (n .before .before) in
+    let many = n .least .ensures in
+    (allowed-of _ (allowed-set _ _ _ _ e), set c .set-up .ensures, omega arith, omega arith)
 
 returns : tie.Need-returns
 returns c =
-    let e = sym (c .before .before .before .settings-of .ensures) ∙ c .before .enum-told .given .1 in
-    (search needs, rw e (c .new-system .ensures, refl, refl, refl))
-
-same-length : tie.Need-same-length
-same-length c = search needs
+    let e = sym (c .before .before .settings-of .ensures) ∙ c .enum-told .given .1 in
+    (search needs, rw e (refl, refl, refl, refl))
 
 returns-2 : tie.Need-returns-2
 unfolding howMany
 returns-2 c =
-    let s = c .before .before .before .before .before .before in
-    let n = s .before .before .before in
+    let all = c .before .before in
+    let n = counted (set (all .before)) in
     let told = n .before .before in
-    let asked = told .before .before in
-    let a = asked .before .before .before .args in
-    let e = sym (asked .settings-of .ensures) ∙ told .setup .given .1 in
+    let a = start (told .before .before) .args in
+    let e = accepted told in
     let many = howMany (a .steps .now) (a .out .now) in (
       sym e,
       rw e (
-        run-own _ _ (a .steps .now) (a .out .now) _ many _ _ _ _ (own-settings _ _ _ _ _ (s .set-up .ensures))
-            (n .least .ensures) (c .before .before .take-all .ensures),
+        run-for _ (a .steps .now) (a .out .now) _ many (n .least .ensures) _ _ _ _ (all .take-all .ensures),
         holds-always _ (allowed-set _ _ _ _ e .accepted) (stepsIn (a .steps .now) many),
       ),
     )
@@ -80,13 +68,12 @@ pub run-spec : {M : Type 1} → statement M
 run-spec =
     tie.close
     (tie.spec
-    settings-of-requires
-    enum-told
-    new-system-requires
-    enum-known-setup
-    least-requires
-    set-up-requires
+    (search needs)
+    (search needs)
+    (search needs)
+    (search needs)
+    (search needs)
     take-all-requires
     returns
-    same-length
+    (search needs)
     returns-2)

@@ -6,36 +6,6 @@ use Rattle.system.specs.Run.{stepBy}
 use Rattle.system.proofs.run.step_of.Statement.{statement}
 use Rattle.system.proofs.run.step_of.Tie as tie
 
-narrow-requires : tie.Need-narrow-requires
-narrow-requires c κs = search needs
-
-narrow-requires-2 : tie.Need-narrow-requires-2
-narrow-requires-2 c κs = search needs
-
-narrow-requires-3 : tie.Need-narrow-requires-3
-narrow-requires-3 c κs = search needs
-
-narrow-requires-4 : tie.Need-narrow-requires-4
-narrow-requires-4 c κs = search needs
-
-narrow-requires-5 : tie.Need-narrow-requires-5
-narrow-requires-5 c κs = search needs
-
-narrow-requires-6 : tie.Need-narrow-requires-6
-narrow-requires-6 c κs = search needs
-
-narrow-requires-7 : tie.Need-narrow-requires-7
-narrow-requires-7 c κs = search needs
-
-narrow-requires-8 : tie.Need-narrow-requires-8
-narrow-requires-8 c κs = search needs
-
-narrow-requires-9 : tie.Need-narrow-requires-9
-narrow-requires-9 c κs = search needs
-
-narrow-requires-10 : tie.Need-narrow-requires-10
-narrow-requires-10 c κs = search needs
-
 returns : tie.Need-returns
 unfolding stepBy
 returns c = rw (c .before .match .keys1, c .narrow .ensures)
@@ -83,20 +53,7 @@ pub step-of-spec : {M : Type 1} → statement M
 step-of-spec =
     tie.close
     (tie.spec
-    narrow-requires
-    narrow-requires-2
-    narrow-requires-3
-    narrow-requires-4
-    narrow-requires-5
-    narrow-requires-6
-    narrow-requires-7
-    narrow-requires-8
-    narrow-requires-9
-    narrow-requires-10
-    returns
-    returns-2
-    returns-3
-    returns-4
-    returns-5
-    returns-6
-    returns-7)
+    (search needs) (search needs) (search needs) (search needs)
+    (search needs) (search needs) (search needs) (search needs)
+    (search needs) (search needs) returns returns-2 returns-3 returns-4 returns-5
+    returns-6 returns-7)

@@ -20,21 +20,6 @@ returns-3 c =
     let a = c .before .before .before .args in
     sym (over-clients (a .f) (a .clients) (a .faulty) (c .before .before .if1 .left) (c .if3 .taken))
 
-cast-t11 : tie.Need-cast-t11
-cast-t11 c = search needs
-
-cast-t12 : tie.Need-cast-t12
-cast-t12 c = search needs
-
-cast-t13 : tie.Need-cast-t13
-cast-t13 c = search needs
-
-is-in-range-requires : tie.Need-is-in-range-requires
-is-in-range-requires c κs = search needs
-
-count-faulty-requires : tie.Need-count-faulty-requires
-count-faulty-requires c κs = search needs
-
 -- the marks are tested first, so at both calls they are among the 13
 returns-4 : tie.Need-returns-4
 returns-4 c =
@@ -65,14 +50,5 @@ pub settings-of-spec : {M : Type 1} → statement M
 settings-of-spec =
     tie.close
     (tie.spec
-    returns
-    returns-2
-    returns-3
-    cast-t11
-    cast-t12
-    cast-t13
-    is-in-range-requires
-    count-faulty-requires
-    returns-4
-    returns-5
-    returns-6)
+    returns returns-2 returns-3 (search needs) (search needs) (search needs)
+    (search needs) (search needs) returns-4 returns-5 returns-6)

@@ -17,9 +17,6 @@ returns : tie.Need-returns
 unfolding wordsIn
 returns c = rw (ne-eqb (length (c .before .before .args .bytes .now)) 11 (c .if1 .taken))
 
-load-requires : tie.Need-load-requires
-load-requires c κs = search needs
-
 returns-2 : tie.Need-returns-2
 unfolding wordsIn
 returns-2 c =
@@ -29,4 +26,4 @@ returns-2 c =
     (c .load .ensures ∙ ap (λ (s : List ℕ). words (spelt 0 s)) (take-all 11 l (omega (arith, long))))
 
 pub lie-words-spec : {M : Type 1} → statement M
-lie-words-spec = tie.close (tie.spec returns load-requires returns-2)
+lie-words-spec = tie.close (tie.spec returns (search needs) returns-2)

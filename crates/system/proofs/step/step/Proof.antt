@@ -1,25 +1,41 @@
--- `step`: an unsound state is refused, and a sound one takes the step. Assumes nothing.
-use mathlib.Core.Path.{sym, _∙_}
+-- `step`: an unsound state is refused, and a sound one has what the step asks and takes it (`StepLaws`).
+-- Assumes nothing.
+use mathlib.Core.Path.{_≡_, sym, _∙_}
+use mathlib.Core.Bool.{true}
 use borrow.Author.Needs.{needs}
 use borrow.Author.Tests.{not-true, not-false}
+use Rattle.state.specs.Sound.{isSound}
+use Rattle.state.proofs.SoundFacts.{facts}
 use Rattle.system.specs.Step.{stepped}
+use Rattle.system.proofs.ReadyLaws.{ready}
+use Rattle.system.proofs.StepLaws.{step-law}
 use Rattle.system.proofs.step.step.Statement.{statement}
 use Rattle.system.proofs.step.step.Tie as tie
 
-is-sound-requires : tie.Need-is-sound-requires
-is-sound-requires c κs = search needs
+-- where the test's place comes from
+abbrev start : tie.After-is-sound → tie.Start
+start c = c .before .before .before .before
 
 returns : tie.Need-returns
 unfolding stepped
 returns c = rw (sym (c .before .is-sound .ensures) ∙ not-true _ (c .if1 .taken))
 
+-- what the test has shown
+sound : (c : tie.Else1) → let a = start (c .before) .args in isSound (a .t) (a .s .now) (a .c .now) (a .b .now) ≡ true
+sound c = sym (c .before .is-sound .ensures) ∙ not-false _ (c .if1 .left)
+
 take-step-requires : tie.Need-take-step-requires
 take-step-requires c κs =
-    let e1 = c .before .before in
-    sym (e1 .before .is-sound .ensures) ∙ not-false _ (e1 .if1 .left)
+    let e = c .before .before .before in
+    let a = start (e .before) .args in
+    ready (a .t) (a .s .now) (a .c .now) (a .b .now) (facts (a .t) (a .s .now) (a .c .now) (a .b .now) (sound e))
 
 returns-2 : tie.Need-returns-2
-returns-2 c = c .take-step .ensures
+returns-2 c =
+    let args = c .before .before .before in
+    let e = args .before in
+    let a = start (e .before) .args in
+    step-law (a .t) (a .s .now) (a .c .now) (a .b .now) (sound e) (a .x) _ (c .take-step .ensures)
 
 pub step-spec : {M : Type 1} → statement M
-step-spec = tie.close (tie.spec is-sound-requires returns take-step-requires returns-2)
+step-spec = tie.close (tie.spec (search needs) returns take-step-requires returns-2)

@@ -1,0 +1,52 @@
+-- `print_numbered`: the number, and what stands behind it; a buffer that could be too short is left as it is.
+use mathlib.Core.Path.{_∙_}
+use mathlib.Core.List.{_++_}
+use native.Mathlib.Nat.{zero-add}
+use native.Mathlib.Omega.{arith}
+use borrow.Author.Needs.{needs}
+use borrow.Author.Tests.{le-leb, lt-leb}
+use lib.ListN.{length}
+use Rattle.script.specs.Numbers.{decimal}
+use Rattle.script.specs.Printed.{behindNumber, printed}
+use Rattle.script.specs.Writing.{Written}
+use Rattle.script.proofs.Digits.{decimal-short}
+use Rattle.script.proofs.Lengths.{behind-long}
+use Rattle.script.proofs.Over.{begun-keeps, then-over}
+use Rattle.script.proofs.Writing.{keeps}
+use Rattle.script.proofs.print.print_numbered.Statement.{statement}
+use Rattle.script.proofs.print.print_numbered.Tie as tie
+
+returns : tie.Need-returns
+returns c =
+    let short = lt-leb 80 (length (c .before .before .args .out .now)) (omega arith) in
+    record { bytes = simp short; holds = simp short }
+
+put-output-requires : tie.Need-put-output-requires
+put-output-requires c κs =
+    let number = c .before .before .before in
+    let begun = number .put-numeral .ensures in
+    rw (begun-keeps begun) (omega (arith, begun .ends, decimal-short (number .before .before .before .before .args .q .number)))
+
+-- the whole line
+line : (c : tie.After-slice-known3)
+    → let start = c .before .before .before .before .before .before .before .before .before .before in
+    Written (decimal (start .args .q .number) ++ behindNumber (start .args .what)) (start .args .out .now) 0
+    (c .before .before .put-output .result) (c .before .before .put-output .last .0)
+line c =
+    let number = c .before .before .before .before .before .before in
+    then-over (number .put-numeral .ensures) (behind-long (number .before .before .before .before .args .what))
+    (c .before .before .put-output .ensures)
+
+same-length : tie.Need-same-length
+same-length c = keeps (line c)
+
+returns-2 : tie.Need-returns-2
+unfolding printed
+returns-2 c =
+    let tested = c .before .before .before .before .before .before .before .before in
+    let long = le-leb 80 (length (tested .before .before .args .out .now)) (omega arith) in
+    record { bytes = simp long (line c .ends ∙ zero-add _); holds = simp long (line c .holds) }
+
+pub print-numbered-spec : {M : Type 1} → statement M
+print-numbered-spec =
+    tie.close (tie.spec returns (λ c κs. search needs) put-output-requires same-length returns-2)

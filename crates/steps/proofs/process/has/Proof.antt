@@ -1,0 +1,17 @@
+-- `has`: the one with number n is at place n - 1. Assumes nothing.
+use Prim.Native.Nat.{suc, _-_}
+use mathlib.Core.Path.{_≡_, ap, _∙_}
+use native.Mathlib.Omega.{arith}
+use borrow.Author.Needs.{needs}
+use Rattle.server.specs.State.{contains}
+use Rattle.steps.proofs.process.has.Statement.{statement}
+use Rattle.steps.proofs.process.has.Tie as tie
+
+returns : tie.Need-returns
+returns c =
+    let a = c .before .args in
+    let same : suc (a .n - 1) ≡ a .n = omega arith in
+    c .is-in .ensures ∙ ap (contains (a .set)) same
+
+pub has-spec : {M : Type 1} → statement M
+has-spec = tie.close (tie.spec (search needs) (search needs) (search needs) returns)

@@ -1,0 +1,137 @@
+-- `take_oldest`: a message that the client does not take goes off its channel; else it is taken. Assumes nothing.
+use Prim.Native.Nat.{ℕ, _+_, _-_}
+use mathlib.Core.Bool.{false}
+use mathlib.Core.List.{List}
+use mathlib.Core.Path.{_≡_, sym, ap, _∙_}
+use native.Mathlib.Omega.{arith}
+use borrow.Author.Needs.{needs}
+use borrow.Author.Tests.{not-true}
+use lib.ListN.{take, drop}
+use Rattle.client.specs.declared.Client.{Client}
+use Rattle.client.specs.Memory as client
+use Rattle.client.specs.Sound.{isSoundMemory}
+use Rattle.client.specs.Taking.{isTaken}
+use Rattle.state.specs.State.{clientStart, clientAt, messageAt}
+use Rattle.steps.specs.Inner.{replyAt, shown, takeOldest}
+use Rattle.steps.proofs.Lent.{lent}
+use Rattle.steps.proofs.Receiving.{drop-gives}
+use Rattle.steps.proofs.step.take_oldest.Statement.{statement}
+use Rattle.steps.proofs.step.take_oldest.Tie as tie
+
+-- where a place comes from
+abbrev first-of : tie.After-client-start → tie.After-oldest
+first-of c = c .before
+
+abbrev start-of : tie.After-client-start → tie.Start
+start-of c = first-of c .before .before .before .before
+
+abbrev place-of : tie.After-load → tie.After-client-start
+place-of c = c .before .before .before
+
+-- the message is the oldest reply
+oldest-is : (c : tie.After-client-start) → let a = start-of c .args in first-of c .oldest .result ≡ replyAt (a .b .now) (a .d) (a .k)
+oldest-is c =
+    first-of c .oldest .ensures ∙ ap (messageAt (start-of c .args .b .now)) (first-of c .before .before .down .ensures)
+
+-- the part that is lent is the client's
+abbrev part : tie.After-client-start → List ℕ
+part c =
+    let at = c .client-start .result in
+    take (at + 95 - at) (drop at (start-of c .args .c .now))
+
+part-is : (c : tie.After-client-start) → part c ≡ clientAt (start-of c .args .c .now) (start-of c .args .d - 1)
+part-is c = lent (clientStart (start-of c .args .d - 1)) 95 (start-of c .args .c .now) _ (c .client-start .ensures)
+
+-- the client that is loaded
+loaded : (c : tie.After-load) → let a = start-of (place-of c) .args in
+    c .load .result ≡ client.loaded (a .d) (a .t .f) (clientAt (a .c .now) (a .d - 1))
+loaded c =
+    let a = start-of (place-of c) .args in
+    c .load .ensures ∙ ap (client.loaded (a .d) (a .t .f)) (part-is (place-of c))
+
+number : (c : tie.After-load) → c .load .result .number ≡ start-of (place-of c) .args .d
+number c = ap (λ (x : Client). x .number) (loaded c)
+
+is-taken-requires : tie.Need-is-taken-requires
+is-taken-requires c κs =
+    let l = c .before .before in
+    let s = start-of (place-of l) in (
+      search needs,
+      s .pre .4,
+      omega (arith, s .pre .0, s .pre .5),
+      l .load .ensures
+          ∙ ap (λ (x : Client). client.loaded (x .number) (x .f) (part (place-of l))) (sym (l .load .ensures)),
+    )
+
+returns : tie.Need-returns
+returns c =
+    let at-is-taken = c .before .before .before in
+    let l = at-is-taken .before .before .before in
+    let p = place-of l in
+    let s = start-of p in
+    let a = s .args in
+    let m = first-of p .oldest .result in
+    let other : isTaken (shown (a .t) (a .c .now) (a .b .now) (a .d)) (a .k) m ≡ false =
+    sym (at-is-taken .is-taken .ensures ∙ ap (λ (l : List ℕ). isTaken (client.view l) (a .k) m) (part-is p))
+    ∙ not-true _ (c .before .before .if1 .taken) in
+    drop-gives (a .t) (a .c .now) (a .b .now) (a .d) (a .k) m (oldest-is p) (s .pre .0) (s .pre .7) (s .pre .2) (s .pre .3)
+    (s .pre .6) other _ _ (first-of p .before .before .down .ensures) (c .take .ensures)
+
+take-message-requires : tie.Need-take-message-requires
+take-message-requires c κs =
+    let at-is-taken = c .before .before .before in
+    let l = at-is-taken .before .before .before in
+    let s = start-of (place-of l) in
+    let a = s .args in
+    let n = number l in (
+      s .pre .0,
+      s .pre .1,
+      omega (arith, n, s .pre .2),
+      omega (arith, n, s .pre .3),
+      s .pre .4,
+      s .pre .5,
+      loaded l ∙ ap (λ (d : ℕ). client.loaded d (a .t .f) (clientAt (a .c .now) (d - 1))) (sym n),
+      ap (λ (d : ℕ). isSoundMemory (a .t .f) (clientAt (a .c .now) (d - 1))) n ∙ s .pre .6,
+      oldest-is (place-of l) ∙ ap (λ (d : ℕ). replyAt (a .b .now) d (a .k)) (sym n),
+      s .pre .8,
+    )
+
+returns-2 : tie.Need-returns-2
+returns-2 c =
+    let at-take-message = c .before .before in
+    let at-is-taken = at-take-message .before .before .before .before in
+    let l = at-is-taken .before .before .before in
+    let a = start-of (place-of l) .args in
+    at-take-message .take-message .ensures
+    ∙ ap (λ (d : ℕ). takeOldest (a .t) (a .c .now) (a .b .now) d (a .k)) (number l)
+
+pub take-oldest-spec : {M : Type 1} → statement M
+take-oldest-spec =
+    tie.close
+    (tie.spec
+    (search needs)
+    (search needs)
+    (search needs)
+    (search needs)
+    (search needs)
+    (search needs)
+    (search needs)
+    (search needs)
+    (search needs)
+    (search needs)
+    (search needs)
+    (search needs)
+    (search needs)
+    (search needs)
+    (search needs)
+    (search needs)
+    (search needs)
+    (search needs)
+    (search needs)
+    is-taken-requires
+    (search needs)
+    (search needs)
+    returns
+    take-message-requires
+    (search needs)
+    returns-2)

@@ -1,0 +1,45 @@
+// Which clients and servers there are. They go by number here, as the steps name them.
+ghost use mathlib.Core.Bool.{_&&_};
+ghost use mathlib.Core.Path.{_≡_};
+ghost use Prim.Native.Nat.{_≤_};
+ghost use Rattle.register.specs.Settings.{isClient, isServer};
+ghost use Rattle.server.specs.State.{contains};
+ghost use Rattle.state.specs.State.{settingsOf};
+use state::Settings;
+use state::is_in;
+
+// Whether the one with a number is in a set that is given as bits.
+pub fn has(set: u64, n: u32) -> bool
+    requires { ⌜ (1 ≤ n) × (n ≤ 64) ⌝ }
+    ensures { λ r. ⌜ r ≡ contains set n ⌝ }
+{
+    is_in(set, (n - 1) as usize)
+}
+
+pub fn is_client(t: Settings, d: u32) -> bool
+    ensures { λ r. ⌜ r ≡ isClient (settingsOf t) d ⌝ }
+{
+    if d < 1 {
+        return false;
+    }
+    d <= t.clients as u32
+}
+
+fn is_server(t: Settings, k: u32) -> bool
+    ensures { λ r. ⌜ r ≡ isServer (settingsOf t) k ⌝ }
+{
+    if k < 1 {
+        return false;
+    }
+    k <= register::servers(t.f)
+}
+
+// Whether a client and a server are both there.
+pub fn are_there(t: Settings, d: u32, k: u32) -> bool
+    ensures { λ r. ⌜ r ≡ (isClient (settingsOf t) d && isServer (settingsOf t) k) ⌝ }
+{
+    if !is_client(t, d) {
+        return false;
+    }
+    is_server(t, k)
+}
