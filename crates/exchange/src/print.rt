@@ -1,10 +1,13 @@
 // The lines: a message with its sender and receiver, and the outcome of a read or a write.
+ghost use mathlib.Core.Path.{_≡_};
 ghost use Prim.Native.Nat.{_<_};
+ghost use Rattle.exchange.specs.Digits.{hexDigit};
 use message::Pair;
 use register::Answer;
 
 fn digit(v: u8) -> u8
     requires { ⌜ v < 16 ⌝ }
+    ensures { λ r. ⌜ r ≡ hexDigit v ⌝ }
 {
     if v < 10 { 48 + v } else { 55 + v }
 }
