@@ -1,4 +1,4 @@
--- Counting: the laws of `count`, and the pigeonhole that quorums rest on.
+-- Counting: the laws of `countBelow`, and the pigeonhole that quorums rest on.
 --
 -- More passes for a weaker test (`count-mono`); at most n (`count-le`); all of them (`count-all`); a count splits by a second
 -- test (`count-split`); two counts that add to more than n have a common number (`common`), and a count above 0 has one that
@@ -11,30 +11,32 @@ use native.Mathlib.Nat.{not-suc-le-zero, le-refl}
 use native.Mathlib.Omega.{arith}
 use lib.Dec.{leb}
 use borrow.Author.Tests.{leb-true, leb-false}
-use Rattle.basics.specs.Counting.{count}
+use Rattle.basics.specs.Counting.{countBelow}
 use Rattle.basics.proofs.Cases.{by-test}
 
-pub count-mono : (p q : ℕ → Bool) (n : ℕ) → ((k : ℕ) → k < n → p k ≡ true → q k ≡ true) → count p n ≤ count q n
-unfolding count
+pub count-mono : (p q : ℕ → Bool) (n : ℕ) → ((k : ℕ) → k < n → p k ≡ true → q k ≡ true)
+    → countBelow p n ≤ countBelow q n
+unfolding countBelow
 count-mono p q zero h = le-refl _
 count-mono p q (suc n) h =
     let ih = count-mono p q n (λ k a. h k (omega arith)) in
     by-test (p n) (λ e. rw (e, h n (omega arith) e) (omega arith))
     (λ e. rw e (by-test (q n) (λ e′. rw e′ (omega arith)) (λ e′. rw e′ (omega arith))))
 
-pub count-le : (p : ℕ → Bool) (n : ℕ) → count p n ≤ n
-unfolding count
+pub count-le : (p : ℕ → Bool) (n : ℕ) → countBelow p n ≤ n
+unfolding countBelow
 count-le p zero = le-refl _
 count-le p (suc n) =
     let ih = count-le p n in by-test (p n) (λ e. rw e (omega arith)) (λ e. rw e (omega arith))
 
-pub count-all : (n : ℕ) → count (λ k. true) n ≡ n
-unfolding count
+pub count-all : (n : ℕ) → countBelow (λ k. true) n ≡ n
+unfolding countBelow
 count-all zero = refl
 count-all (suc n) = let ih = count-all n in omega arith
 
-pub count-split : (p q : ℕ → Bool) (n : ℕ) → count p n ≤ count (λ k. p k && not (q k)) n + count q n
-unfolding count
+pub count-split : (p q : ℕ → Bool) (n : ℕ)
+    → countBelow p n ≤ countBelow (λ k. p k && not (q k)) n + countBelow q n
+unfolding countBelow
 count-split p q zero = le-refl _
 count-split p q (suc n) =
     let ih = count-split p q n in
@@ -48,8 +50,8 @@ pub record Common (p q : ℕ → Bool) (n : ℕ) : Type 0 where
   pub left : p at ≡ true
   pub right : q at ≡ true
 
-pub common : (p q : ℕ → Bool) (n : ℕ) → n < count p n + count q n → Common p q n
-unfolding count
+pub common : (p q : ℕ → Bool) (n : ℕ) → n < countBelow p n + countBelow q n → Common p q n
+unfolding countBelow
 common p q zero h = absurd (not-suc-le-zero h)
 common p q (suc n) h =
     by-test (p n)
@@ -62,14 +64,14 @@ common p q (suc n) h =
     up c = record { at = c .at; high = omega arith; left = c .left; right = c .right }
 
 -- a number below n that passes
-pub found : (p : ℕ → Bool) (n : ℕ) → 1 ≤ count p n → Common p p n
+pub found : (p : ℕ → Bool) (n : ℕ) → 1 ≤ countBelow p n → Common p p n
 found p n h =
     let c = common p (λ k. true) n (rw (count-all n) (omega arith)) in
     record { at = c .at; high = c .high; left = c .left; right = c .left }
 
 -- a longer range has no fewer that pass
-pub count-longer : (p : ℕ → Bool) (n m : ℕ) → n ≤ m → count p n ≤ count p m
-unfolding count
+pub count-longer : (p : ℕ → Bool) (n m : ℕ) → n ≤ m → countBelow p n ≤ countBelow p m
+unfolding countBelow
 count-longer p n zero h = let z : n ≡ 0 = omega arith in rw z (le-refl _)
 count-longer p n (suc m) h =
     by-test (leb n m) (λ e. let ih = count-longer p n m (leb-true n m e) in omega arith)

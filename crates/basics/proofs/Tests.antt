@@ -11,20 +11,20 @@ use native.Mathlib.Nat.{not-suc-le-zero}
 use native.Mathlib.Omega.{arith}
 use lib.Dec.{eqb}
 use borrow.Author.Tests.{eqb-true, eqb-false}
-use Rattle.basics.specs.Tests.{all, allBelow}
+use Rattle.basics.specs.Tests.{allPass, allBelow}
 use Rattle.basics.proofs.Cases.{by-test, both, both-of, true-or-false}
 
 abbrev pub Each : List Bool → Type 0
 Each [] = Unit {0}
 Each (b ∷ bs) = (b ≡ true) × Each bs
 
-pub each : (bs : List Bool) → all bs ≡ true → Each bs
+pub each : (bs : List Bool) → allPass bs ≡ true → Each bs
 each [] e = tt
-each (b ∷ bs) e = let p = both b (all bs) e in (p .0, each bs (p .1))
+each (b ∷ bs) e = let p = both b (allPass bs) e in (p .0, each bs (p .1))
 
-pub all-of : (bs : List Bool) → Each bs → all bs ≡ true
+pub all-of : (bs : List Bool) → Each bs → allPass bs ≡ true
 all-of [] e = refl
-all-of (b ∷ bs) e = both-of b (all bs) (e .0) (all-of bs (e .1))
+all-of (b ∷ bs) e = both-of b (allPass bs) (e .0) (all-of bs (e .1))
 
 -- a test at a number below n + 1: at n or below it
 at-last {ℓ} : {C : Type ℓ} (i n : ℕ) → i < suc n → (i ≡ n → C) → (i < n → C) → C

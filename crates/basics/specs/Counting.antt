@@ -5,6 +5,6 @@ use mathlib.Core.Bool.{Bool}
 use mir.Val.{boolByte}
 
 -- how many of 0 .. n - 1 pass
-unfoldable pub count : (ℕ → Bool) → ℕ → ℕ
-count p zero = 0
-count p (suc n) = count p n + boolByte (p n)
+unfoldable pub countBelow : (ℕ → Bool) → ℕ → ℕ
+countBelow p zero = 0
+countBelow p (suc n) = countBelow p n + boolByte (p n)

@@ -5,9 +5,9 @@ use mathlib.Core.Bool.{Bool, true, _&&_}
 use mathlib.Core.List.{List, [], _∷_}
 
 -- every test of the list passes
-abbrev pub all : List Bool → Bool
-all [] = true
-all (b ∷ bs) = b && all bs
+abbrev pub allPass : List Bool → Bool
+allPass [] = true
+allPass (b ∷ bs) = b && allPass bs
 
 -- every number below n passes the test p
 unfoldable pub allBelow : (ℕ → Bool) → ℕ → Bool

@@ -1,14 +1,14 @@
 -- The answer `dayNumber` by cases: the number of a real date, 8 for anything else.
 --
--- `day-given` and `day-refused` read it forwards; `day-is` reads it back; `day-range` and `day-small` bound it, for sums and
--- signed differences.
+-- `day-given` and `day-refused` read it forwards; `day-is` reads it back; `day-range` and `day-small` bound
+-- it, for sums and signed differences.
 -- Assumes nothing.
 use mathlib.Core.Path.{_≡_}
 use mathlib.Core.Bool.{true, false}
 use Prim.Native.Nat.{ℕ, _^_, _≤_, _<_}
 use native.Mathlib.Omega.{arith}
 use Rattle.basics.proofs.Cases.{by-test}
-use Rattle.refusal.specs.declared.Refusal.the-variants.{NoEntry}
+use Rattle.refusal.specs.Numbers.{numbered}
 use Rattle.calendar.specs.Calendar.{isDate, dayOf, dayNumber}
 use Rattle.calendar.specs.declared.DayNumber.the-variants.{Day, Refused}
 use Rattle.calendar.specs.Order.{date}
@@ -19,12 +19,13 @@ module _ (year month day : ℕ) where
   unfolding dayNumber
   day-given e = rw e
 
-  pub day-refused : isDate year month day ≡ false → dayNumber year month day ≡ Refused NoEntry
+  pub day-refused : isDate year month day ≡ false → dayNumber year month day ≡ Refused (numbered 8)
   unfolding dayNumber
   day-refused e = rw e
 
   -- an answer with a number: the date is real and the number is its
-  pub day-is : (a : ℕ) → dayNumber year month day ≡ Day a → (isDate year month day ≡ true) × (dayOf year month day ≡ a)
+  pub day-is : (a : ℕ) → dayNumber year month day ≡ Day a
+      → (isDate year month day ≡ true) × (dayOf year month day ≡ a)
   day-is a e =
       by-test (isDate year month day) (λ yes. (yes, let given = day-given yes in cc))
       (λ broken. absurd (let refused = day-refused broken in let z : _≡_ {A = ℕ} 0 1 = cc in omega arith))

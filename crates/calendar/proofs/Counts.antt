@@ -1,7 +1,8 @@
 -- Counting up: the day numbers of the next month and of the next year, and that neither count falls.
 --
--- A month adds its length to the days before it (`month-up`), a year its length to its first day (`year-up`), and twelve
--- months are the year (`twelve-months`). Both counts grow (`before-grows`, `first-grows`), and a month has 28 days or more.
+-- A month adds its length to the days before it (`month-up`), a year its length to its first day (`year-up`),
+-- and twelve months are the year (`twelve-months`). Both counts grow (`before-grows`, `first-grows`), and a
+-- month has 28 days or more.
 -- Assumes nothing.
 use mathlib.Core.Path.{_≡_, refl, ap, _∙_}
 use mathlib.Core.Bool.{Bool, true, false, cond, _||_}
@@ -13,7 +14,8 @@ use borrow.Author.Tests.{leb-true, leb-false}
 use Rattle.basics.proofs.Cases.{by-test}
 use Rattle.calendar.specs.Calendar.{leap, yearLength, firstDay, monthLength, daysBefore}
 
-pub month-up : (l : Bool) (month : ℕ) → 1 ≤ month → daysBefore l month ≡ daysBefore l (month - 1) + monthLength l month
+pub month-up : (l : Bool) (month : ℕ) → 1 ≤ month
+    → daysBefore l month ≡ daysBefore l (month - 1) + monthLength l month
 unfolding daysBefore
 month-up l zero h = absurd (not-suc-le-zero h)
 month-up l (suc k) h =
@@ -54,4 +56,5 @@ pub month-least : (l : Bool) (month : ℕ) → 28 ≤ monthLength l month
 unfolding monthLength
 month-least l month =
     cond-least (eqb month 2) _ _ 28 (cond-least l 29 28 28 (omega arith) (omega arith))
-    (cond-least (eqb month 4 || eqb month 6 || eqb month 9 || eqb month 11) 30 31 28 (omega arith) (omega arith))
+    (cond-least (eqb month 4 || eqb month 6 || eqb month 9 || eqb month 11) 30 31 28
+    (omega arith) (omega arith))

@@ -1,7 +1,7 @@
 -- What a real date is, by its bounds.
 --
--- The tests of `isDate` all pass exactly when each bound holds (`real`, `real-date`); so where one bound fails there is no
--- date (`no-date`), and where the first five hold the last test decides (`last-test`).
+-- The tests of `isDate` all pass exactly when each bound holds (`real`, `real-date`); so where one bound
+-- fails there is no date (`no-date`), and where the first five hold the last test decides (`last-test`).
 -- Assumes nothing.
 use mathlib.Core.Path.{_≡_, refl}
 use mathlib.Core.Bool.{Bool, true, false, _&&_}
@@ -60,4 +60,5 @@ module _ {year month day : ℕ} where
       → isDate year month day ≡ leb day (monthLength (leap year) month)
   unfolding isDate
   last-test a b c d e =
-      rw (le-leb 1900 year a, le-leb year 2199 b, le-leb 1 month c, le-leb month 12 d, le-leb 1 day e) (and-true _)
+      rw (le-leb 1900 year a, le-leb year 2199 b, le-leb 1 month c, le-leb month 12 d, le-leb 1 day e)
+      (and-true _)

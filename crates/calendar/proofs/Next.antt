@@ -1,8 +1,8 @@
 -- Day numbers count dates one by one.
 --
 -- The date after a real date is real, but for 31 December 2199 (`next-is-date`), and its number is one more
--- (`next-counts-one`): within a month the day moves; at its end the days of the month have passed (`month-up`); at the end of
--- December the days of the year have (`twelve-months`, `year-up`).
+-- (`next-counts-one`): within a month the day moves; at its end the days of the month have passed
+-- (`month-up`); at the end of December the days of the year have (`twelve-months`, `year-up`).
 -- Assumes nothing.
 use mathlib.Core.Path.{_≡_, refl, sym, ap, _∙_}
 use mathlib.Core.Bool.{true}

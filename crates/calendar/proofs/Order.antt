@@ -1,9 +1,10 @@
 -- Day numbers keep the order of dates, both ways, and are one to one.
 --
--- Within a year the number stays below the year's end (`below-year-end`), and within a month below the month's end
--- (`below-month-end`), and both counts grow; so an earlier date has a lower number (`order-kept`). Of two dates one is earlier
--- or they are the same (`compared`), so a lower number belongs to an earlier date (`order-back`) and a number to one date
--- (`one-to-one`). The bounds are the numbers of the first date and the last (`in-range`).
+-- Within a year the number stays below the year's end (`below-year-end`), and within a month below the
+-- month's end (`below-month-end`), and both counts grow; so an earlier date has a lower number
+-- (`order-kept`). Of two dates one is earlier or they are the same (`compared`), so a lower number belongs to
+-- an earlier date (`order-back`) and a number to one date (`one-to-one`). The bounds are the numbers of the
+-- first date and the last (`in-range`).
 -- Assumes nothing.
 use mathlib.Core.Path.{_≡_, refl, sym, ap}
 use mathlib.Core.Bool.{Bool, true, false, _||_}
@@ -21,7 +22,8 @@ use Rattle.calendar.proofs.Next.{same-date}
 
 module _ (t : Date) (r : Real (t .year) (t .month) (t .day)) where
   -- the days of the year that have passed stay below the end of the month
-  below-month-end : daysBefore (leap (t .year)) (t .month - 1) + (t .day - 1) < daysBefore (leap (t .year)) (t .month)
+  below-month-end :
+      daysBefore (leap (t .year)) (t .month - 1) + (t .day - 1) < daysBefore (leap (t .year)) (t .month)
   below-month-end = omega (arith, r, month-up (leap (t .year)) (t .month) (r .month-least))
 
   below-year-end : number t < firstDay (t .year + 1 - 1900)
@@ -50,7 +52,8 @@ unfolding earlier
 ways s t e =
     by-either (either (ltb (s .year) (t .year)) _ e) (λ y. by-year (ltb-true _ _ y))
     (λ p. let q = both (eqb (s .year) (t .year)) _ p in
-    by-either (either (ltb (s .month) (t .month)) _ (q .1)) (λ m. by-month (eqb-true _ _ (q .0)) (ltb-true _ _ m))
+    by-either (either (ltb (s .month) (t .month)) _ (q .1))
+    (λ m. by-month (eqb-true _ _ (q .0)) (ltb-true _ _ m))
     (λ o. let d = both (eqb (s .month) (t .month)) _ o in
     by-day (eqb-true _ _ (q .0)) (eqb-true _ _ (d .0)) (ltb-true _ _ (d .1))))
 
@@ -58,7 +61,8 @@ ways-back : (s t : Date) → Earlier s t → earlier s t ≡ true
 unfolding earlier
 ways-back s t (by-year y) = rw (lt-ltb _ _ y) refl
 ways-back s t (by-month y m) =
-    rw (le-ltb (s .year) (t .year) (omega arith), eq-eqb (s .year) (t .year) y, lt-ltb (s .month) (t .month) m) refl
+    rw (le-ltb (s .year) (t .year) (omega arith), eq-eqb (s .year) (t .year) y)
+    (rw (lt-ltb (s .month) (t .month) m) refl)
 ways-back s t (by-day y m d) =
     rw (
       le-ltb (s .year) (t .year) (omega arith),
@@ -69,29 +73,33 @@ ways-back s t (by-day y m d) =
     )
     refl
 
+-- dates of one year have its first day and its months in common
+january : (s t : Date) → s .year ≡ t .year → firstDay (s .year - 1900) ≡ firstDay (t .year - 1900)
+january s t y = ap (λ (n : ℕ). firstDay (n - 1900)) y
+
+months : (s t : Date) (k : ℕ) → s .year ≡ t .year
+    → daysBefore (leap (s .year)) k ≡ daysBefore (leap (t .year)) k
+months s t k y = ap (λ (n : ℕ). daysBefore (leap n) k) y
+
 kept : (s t : Date) → Real (s .year) (s .month) (s .day) → Real (t .year) (t .month) (t .day) → Earlier s t
     → number s < number t
 unfolding dayOf
 kept s t a b (by-year y) =
     omega (arith, below-year-end s a, first-grows (s .year + 1 - 1900) (t .year - 1900) (omega arith))
 kept s t a b (by-month y m) =
-    let january : firstDay (s .year - 1900) ≡ firstDay (t .year - 1900) = ap (λ (n : ℕ). firstDay (n - 1900)) y in
-    let days : daysBefore (leap (s .year)) (t .month - 1) ≡ daysBefore (leap (t .year)) (t .month - 1) =
-    ap (λ (n : ℕ). daysBefore (leap n) (t .month - 1)) y in
-    omega (arith, below-month-end s a, before-grows (leap (s .year)) (s .month) (t .month - 1) (omega arith))
+    let grows = before-grows (leap (s .year)) (s .month) (t .month - 1) (omega arith) in
+    omega (arith, january s t y, months s t (t .month - 1) y, below-month-end s a, grows)
 kept s t a b (by-day y m d) =
-    let january : firstDay (s .year - 1900) ≡ firstDay (t .year - 1900) = ap (λ (n : ℕ). firstDay (n - 1900)) y in
-    let year : daysBefore (leap (s .year)) (s .month - 1) ≡ daysBefore (leap (t .year)) (s .month - 1) =
-    ap (λ (n : ℕ). daysBefore (leap n) (s .month - 1)) y in
     let month : daysBefore (leap (t .year)) (s .month - 1) ≡ daysBefore (leap (t .year)) (t .month - 1) =
     ap (λ (n : ℕ). daysBefore (leap (t .year)) (n - 1)) m in
-    omega (arith, a .day-least)
+    omega (arith, january s t y, months s t (s .month - 1) y, a .day-least)
 
 -- which of two numbers is lower, or that they are the same
 by-order {ℓ} : {C : Type ℓ} (a b : ℕ) → (a < b → C) → (a ≡ b → C) → (b < a → C) → C
 by-order a b less same more =
     by-test (ltb a b) (λ e. less (ltb-true a b e))
-    (λ e. by-test (ltb b a) (λ e′. more (ltb-true b a e′)) (λ e′. same (omega (arith, ltb-false a b e, ltb-false b a e′))))
+    (λ e. by-test (ltb b a) (λ e′. more (ltb-true b a e′))
+    (λ e′. same (omega (arith, ltb-false a b e, ltb-false b a e′))))
 
 compared : (s t : Date) → Earlier s t ⊎ ((s ≡ t) ⊎ Earlier t s)
 compared s t =
@@ -109,7 +117,8 @@ module _ (s t : Date) (p : isReal s ≡ true) (q : isReal t ≡ true) where
   pub order-back : number s < number t → earlier s t ≡ true
   order-back h =
       by-either (compared s t) (λ w. ways-back s t w)
-      (λ o. absurd (by-either o (λ e. omega (arith, ap number e)) (λ w. omega (arith, kept t s (real q) (real p) w))))
+      (λ o. absurd (by-either o (λ e. omega (arith, ap number e))
+      (λ w. omega (arith, kept t s (real q) (real p) w))))
 
   pub one-to-one : number s ≡ number t → s ≡ t
   one-to-one h =

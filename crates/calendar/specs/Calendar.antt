@@ -1,15 +1,17 @@
 -- The Gregorian calendar by rule (01, section 'Entry and calendar').
 --
--- In order: leap years; years and months, their lengths and the days before them, each counted from the one before; real
--- dates; the day number of a date, and the answer for any three numbers. The stored tables are not here: they are proved to
--- follow these rules.
+-- In order: leap years; years and months, their lengths and the days before them, each counted from the one
+-- before; real dates; the day number of a date, and the answer for any three numbers. The stored tables are
+-- not here: they are proved to follow these rules.
 -- Assumes nothing.
 use Prim.Native.Nat.{ℕ, zero, suc, _+_, _-_, _%_}
 use mathlib.Core.Bool.{Bool, cond, not, _&&_, _||_}
 use mathlib.Core.List.{List, [], _∷_}
+use mathlib.Core.Option.{Option, none, some}
 use lib.Dec.{eqb, leb}
-use Rattle.basics.specs.Tests.{all}
-use Rattle.refusal.specs.declared.Refusal.the-variants.{NoEntry}
+use Rattle.basics.specs.Tests.{allPass}
+use Rattle.refusal.specs.declared.Refusal.{Refusal}
+use Rattle.refusal.specs.Ladder.{_whenever_, lowest}
 use Rattle.calendar.specs.declared.DayNumber.{DayNumber}
 use Rattle.calendar.specs.declared.DayNumber.the-variants.{Day, Refused}
 
@@ -36,18 +38,26 @@ unfoldable pub daysBefore : Bool → ℕ → ℕ
 daysBefore leapYear zero = 0
 daysBefore leapYear (suc k) = daysBefore leapYear k + monthLength leapYear (suc k)
 
--- what makes a date real: a year from 1900 to 2199, a month, a day of that month; months and days are counted from 1
+-- what makes a date real: a year from 1900 to 2199, a month, a day of that month; months and days are counted
+-- from 1
 abbrev pub dateTests : ℕ → ℕ → ℕ → List Bool
 dateTests year month day =
-    leb 1900 year ∷ leb year 2199 ∷ leb 1 month ∷ leb month 12 ∷ leb 1 day ∷ leb day (monthLength (leap year) month) ∷ []
+    leb 1900 year ∷ leb year 2199 ∷ leb 1 month ∷ leb month 12
+    ∷ leb 1 day ∷ leb day (monthLength (leap year) month) ∷ []
 
 unfoldable pub isDate : ℕ → ℕ → ℕ → Bool
-isDate year month day = all (dateTests year month day)
+isDate year month day = allPass (dateTests year month day)
 
 -- the day number of a real date
 unfoldable pub dayOf : ℕ → ℕ → ℕ → ℕ
 dayOf year month day = firstDay (year - 1900) + daysBefore (leap year) (month - 1) + (day - 1)
 
--- the day number, refused for what is no real date (8, no such entry)
+-- 01's answer: the 'day number', or refused 8, 'no such entry'
+abbrev pub dayAnswer : Option Refusal → ℕ → DayNumber
+dayAnswer none n = Day n
+dayAnswer (some r) n = Refused r
+
+-- the day number, refused for what is no real date
 unfoldable pub dayNumber : ℕ → ℕ → ℕ → DayNumber
-dayNumber year month day = cond (isDate year month day) (Day (dayOf year month day)) (Refused NoEntry)
+dayNumber year month day =
+    dayAnswer (lowest (8 whenever not (isDate year month day) ∷ [])) (dayOf year month day)

@@ -1,4 +1,5 @@
-// The Gregorian calendar from 1900 to 2199: leap years, real dates, day numbers (01, section 'Entry and calendar').
+// The Gregorian calendar from 1900 to 2199: leap years, real dates, day numbers (01, section 'Entry and
+// calendar').
 ghost use mathlib.Core.Path.{_≡_};
 ghost use Prim.Native.Nat.{_<_};
 ghost use Rattle.calendar.specs.Calendar.{leap, firstDay, monthLength, daysBefore, isDate, dayNumber};

@@ -1,4 +1,5 @@
-// The calendar's two stored tables. Each rule is proved over its whole table at once (`first_day`, `days_before`).
+// The calendar's two stored tables. Each rule is proved over its whole table at once (`first_day`,
+// `days_before`).
 
 // The day numbers of 1 January, from 1900 on.
 pub const FIRST_DAY: [u32; 300] = [

@@ -16,7 +16,7 @@ use lib.ListN.{length, getD, drop, replicate, length-drop}
 use lib.Seq.{append-snoc, getD-drop}
 use borrow.Author.Tests.{eqb-true, leb-true}
 use Rattle.basics.specs.Tables.{listed, partAt}
-use Rattle.basics.specs.Tests.{all}
+use Rattle.basics.specs.Tests.{allPass}
 use Rattle.basics.proofs.Cases.{both, both-of}
 use Rattle.basics.proofs.Listed.{listed-length, listed-same, listed-join, listed-first, listed-replicate}
 use Rattle.basics.proofs.Tables.{tabled-same, tabled-back}
@@ -30,14 +30,15 @@ use Rattle.channel.proofs.Channel.{packed-more}
 use Rattle.channel.proofs.Slot.{suits, heldAt, holds}
 
 -- one more that passes
-all-more : {A : Type 0} (p : A → Bool) (l : List A) (x : A) → all (map p l) ≡ true → p x ≡ true
-    → all (map p (l ++ x ∷ [])) ≡ true
+all-more : {A : Type 0} (p : A → Bool) (l : List A) (x : A) → allPass (map p l) ≡ true → p x ≡ true
+    → allPass (map p (l ++ x ∷ [])) ≡ true
 all-more p [] x h e = both-of (p x) true e refl
 all-more p (y ∷ l) x h e =
-    let q = both (p y) (all (map p l)) h in both-of (p y) (all (map p (l ++ x ∷ []))) (q .0) (all-more p l x (q .1) e)
+    let q = both (p y) (allPass (map p l)) h in
+    both-of (p y) (allPass (map p (l ++ x ∷ []))) (q .0) (all-more p l x (q .1) e)
 
 all-listed : {A : Type 0} (p : A → Bool) (f : ℕ → A) (k : ℕ) → ((s : ℕ) → s < k → p (f s) ≡ true)
-    → all (map p (listed f k)) ≡ true
+    → allPass (map p (listed f k)) ≡ true
 unfolding listed
 all-listed p f zero h = refl
 all-listed p f (suc k) h = all-more p (listed f k) (f k) (all-listed p f k (λ s less. h s (omega arith))) (h k (omega arith))
@@ -64,7 +65,7 @@ module _ (b : List ℕ) (h : sound b ≡ true) (i : ℕ) (inside : i < 156) wher
   unfolding sound channelTests
   channel =
       let k = countAt b i in
-      let t = each (channelTests b i) (below (λ j. all (channelTests b j)) 156 h i inside) in
+      let t = each (channelTests b i) (below (λ j. allPass (channelTests b j)) 156 h i inside) in
       record {
         few = leb-true k 8 (t .0);
         used = below (λ s. slotGoes (isDown i) b (156 + i * 16 + s * 2)) k (t .1 .0);
@@ -82,7 +83,7 @@ module _ (b : List ℕ) (h : sound b ≡ true) (i : ℕ) (inside : i < 156) wher
   pub messages-fit : length (messages b i) ≤ 8
   messages-fit = rw messages-count counts-fit
 
-  pub messages-suit : all (map (suits i) (messages b i)) ≡ true
+  pub messages-suit : allPass (map (suits i) (messages b i)) ≡ true
   unfolding messages
   messages-suit =
       all-listed (suits i) (λ s. heldAt b (156 + i * 16 + s * 2)) (countAt b i)

@@ -15,7 +15,7 @@ use lib.ListN.{length, getD, replicate, getD-replicate}
 use lib.Seq.{getD-append-add}
 use borrow.Author.Tests.{eq-eqb, le-leb}
 use Rattle.basics.specs.Tables.{listed}
-use Rattle.basics.specs.Tests.{all}
+use Rattle.basics.specs.Tests.{allPass}
 use Rattle.basics.proofs.Cases.{both}
 use Rattle.basics.proofs.Listed.{listed-same, listed-cons}
 use Rattle.basics.proofs.Tests.{all-of, below-of}
@@ -28,7 +28,7 @@ use Rattle.channel.proofs.Slot.{suits, heldAt, held-at, passes-at}
 
 -- every message on every channel may be there
 abbrev pub Suiting : (ℕ → List Message) → Type 0
-Suiting ch = (i : ℕ) → i < 156 → all (map (suits i) (ch i)) ≡ true
+Suiting ch = (i : ℕ) → i < 156 → allPass (map (suits i) (ch i)) ≡ true
 
 -- ---- the slots of one channel, with z behind them
 
@@ -40,12 +40,12 @@ module _ (z : List ℕ) where
   next-low s = omega arith
 
   module _ (i : ℕ) where
-    slots-back : (ms : List Message) → all (map (suits i) ms) ≡ true
+    slots-back : (ms : List Message) → allPass (map (suits i) ms) ≡ true
         → listed (λ s. heldAt (packed ms ++ z) (s * 2)) (length ms) ≡ ms
     unfolding listed packed
     slots-back [] h = refl
     slots-back (m ∷ ms) h =
-        let q = both (suits i m) (all (map (suits i) ms)) h in
+        let q = both (suits i m) (allPass (map (suits i) ms)) h in
         listed-cons (λ s. heldAt (packed (m ∷ ms) ++ z) (s * 2)) (length ms)
         ∙ rw (held-at i m (q .0) (packed (m ∷ ms) ++ z) 0 refl refl)
         (ap (λ (l : List Message). m ∷ l)
@@ -53,15 +53,15 @@ module _ (z : List ℕ) where
         (λ s less. rw (next-low s, next-place s))
         ∙ slots-back ms (q .1)))
 
-    slots-pass : (ms : List Message) (s : ℕ) → all (map (suits i) ms) ≡ true → s < length ms
+    slots-pass : (ms : List Message) (s : ℕ) → allPass (map (suits i) ms) ≡ true → s < length ms
         → slotGoes (isDown i) (packed ms ++ z) (s * 2) ≡ true
     unfolding packed
     slots-pass [] s h less = absurd (not-suc-le-zero less)
     slots-pass (m ∷ ms) zero h less =
-        passes-at i m (both (suits i m) (all (map (suits i) ms)) h .0) (packed (m ∷ ms) ++ z) 0 refl refl
+        passes-at i m (both (suits i m) (allPass (map (suits i) ms)) h .0) (packed (m ∷ ms) ++ z) 0 refl refl
     slots-pass (m ∷ ms) (suc s) h less =
         rw (next-low s, next-place s)
-        (slots-pass ms s (both (suits i m) (all (map (suits i) ms)) h .1) (omega arith))
+        (slots-pass ms s (both (suits i m) (allPass (map (suits i) ms)) h .1) (omega arith))
 
 -- ---- all channels
 
@@ -104,7 +104,7 @@ module _ (ch : ℕ → List Message) (fits : Fitting ch) (good : Suiting ch) whe
         ∙ ap (λ (x : ℕ). getD slots (x + j) 0) (sym (packed-length (ch i))) ∙ getD-append-add (packed (ch i)) rest j 0
         ∙ getD-replicate (16 - k * 2) j 0 0 less
 
-    sound-channel : all (channelTests (layout ch) i) ≡ true
+    sound-channel : allPass (channelTests (layout ch) i) ≡ true
     unfolding channelTests
     sound-channel =
         let k = length (ch i) in
@@ -124,4 +124,4 @@ module _ (ch : ℕ → List Message) (fits : Fitting ch) (good : Suiting ch) whe
 
   pub sound-messages : sound (layout ch) ≡ true
   unfolding sound
-  sound-messages = below-of (λ i. all (channelTests (layout ch) i)) 156 sound-channel
+  sound-messages = below-of (λ i. allPass (channelTests (layout ch) i)) 156 sound-channel

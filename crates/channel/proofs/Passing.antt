@@ -13,7 +13,7 @@ use native.Mathlib.Omega.{arith}
 use lib.Bits.{bitAnd, bitOr, or-add-and, and-le-l, and-le-r}
 use lib.Dec.{eqb}
 use borrow.Author.Tests.{eqb-true, eqb-false, eq-eqb, ne-eqb}
-use Rattle.basics.specs.Tests.{all, allBelow}
+use Rattle.basics.specs.Tests.{allPass, allBelow}
 use Rattle.basics.proofs.Cases.{by-test}
 use Rattle.channel.specs.Memory.{countAt}
 use Rattle.channel.specs.Sound.{zeroFrom, isDown, slotGoes, channelTests}
@@ -43,7 +43,8 @@ or-zero x y =
     (λ f. let q = eqb-false y 0 f in rw (e, f) (ne-eqb (bitOr x y) 0 (λ (z : bitOr x y ≡ 0). q (omega arith)))))
     (λ e. let p = eqb-false x 0 e in rw e (ne-eqb (bitOr x y) 0 (λ (z : bitOr x y ≡ 0). p (omega arith))))
 
-pub empty-sound : (b : List ℕ) (i : ℕ) → countAt b i ≡ 0 → all (channelTests b i) ≡ zeroFrom b (156 + i * 16) 16
+pub empty-sound : (b : List ℕ) (i : ℕ) → countAt b i ≡ 0
+    → allPass (channelTests b i) ≡ zeroFrom b (156 + i * 16) 16
 unfolding channelTests
 empty-sound b i none =
     rw (none, none-pass (λ s. slotGoes (isDown i) b (156 + i * 16 + s * 2)), add-zero (156 + i * 16))

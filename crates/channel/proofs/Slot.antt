@@ -17,9 +17,9 @@ use borrow.Author.Tests.{ltb-true, lt-ltb, ne-eqb}
 use Rattle.basics.proofs.Cases.{by-test, both, both-of, true-or-false}
 use Rattle.message.specs.declared.Message.{Message}
 use Rattle.message.specs.declared.Unpacked.{Unpacked}
-use Rattle.message.specs.declared.Unpacked.the-variants.{Good, Bad}
+use Rattle.message.specs.declared.Unpacked.the-variants.{Good, Refused}
 use Rattle.message.specs.declared.Words.{Words}
-use Rattle.message.specs.Layout.{numberOf, messageOf, wellFormed, words, wordsOf}
+use Rattle.message.specs.Layout.{numberOf, misprint, messageOf, wellFormed, words, wordsOf}
 use Rattle.message.proofs.Fields.{byWords, by-words}
 use Rattle.message.proofs.Numbers.{only, words-back}
 use Rattle.message.proofs.RoundTrip.{of-words-of}
@@ -37,7 +37,7 @@ held-is : (b : List ℕ) (at : ℕ) (m : Message) → messageAt b at ≡ Good m 
 unfolding messageIn
 held-is b at m e = ap messageIn e
 
-nowhere : (down : Bool) → goes down Bad ≡ false
+nowhere : (down : Bool) → goes down misprint ≡ false
 unfolding goes
 nowhere down = refl
 
@@ -59,8 +59,9 @@ module _ (i : ℕ) (b : List ℕ) (at : ℕ) (e : slotGoes (isDown i) b at ≡ t
   parts = both (ltb (getD b (at + 1) 0) (2 ^ 64)) (goes (isDown i) (messageAt b at)) e
 
   holds-as : (u : Unpacked) → messageAt b at ≡ u → Holds i b at
-  holds-as Bad q =
-      absurd (true-or-false (goes (isDown i) (messageAt b at)) (parts .1) (ap (goes (isDown i)) q ∙ nowhere (isDown i)))
+  unfolding goes
+  holds-as (Refused r) q =
+      absurd (true-or-false (goes (isDown i) (messageAt b at)) (parts .1) (ap (goes (isDown i)) q))
   holds-as (Good m) q =
       let h = getD b at 0 in
       let l = getD b (at + 1) 0 in
@@ -99,7 +100,7 @@ module _ (i : ℕ) (m : Message) (good : suits i m ≡ true) (b : List ℕ) (at 
 
 -- ---- a first number over 32 bits
 
-no-kind : (k t l : ℕ) → 7 ≤ k → byWords k t l ≡ Bad
+no-kind : (k t l : ℕ) → 7 ≤ k → byWords k t l ≡ misprint
 unfolding byWords
 no-kind k t l h =
     rw (
@@ -111,9 +112,9 @@ no-kind k t l h =
       ne-eqb k 6 (λ z. omega arith),
     )
 
-over-bad : (h l : ℕ) → 2 ^ 32 ≤ h → l < 2 ^ 64 → messageOf (h * 2 ^ 64 + l) ≡ Bad
-over-bad h l over small = by-words h l small ∙ no-kind (h / 2 ^ 20) (h % 2 ^ 20) l (omega arith)
+over-misprint : (h l : ℕ) → 2 ^ 32 ≤ h → l < 2 ^ 64 → messageOf (h * 2 ^ 64 + l) ≡ misprint
+over-misprint h l over small = by-words h l small ∙ no-kind (h / 2 ^ 20) (h % 2 ^ 20) l (omega arith)
 
 pub over-fails : (down : Bool) (h l : ℕ) → 2 ^ 32 ≤ h → wordsGo down h l ≡ false
 over-fails down h l over =
-    by-test (ltb l (2 ^ 64)) (λ e. rw (e, over-bad h l over (ltb-true l (2 ^ 64) e)) (nowhere down)) (λ e. rw e)
+    by-test (ltb l (2 ^ 64)) (λ e. rw (e, over-misprint h l over (ltb-true l (2 ^ 64) e)) (nowhere down)) (λ e. rw e)

@@ -11,11 +11,11 @@ use mathlib.Core.List.{List, [], _∷_}
 use lib.Dec.{eqb, leb, ltb}
 use lib.ListN.{getD}
 use Rattle.basics.specs.Tables.{listed}
-use Rattle.basics.specs.Tests.{all, allBelow}
+use Rattle.basics.specs.Tests.{allPass, allBelow}
 use Rattle.message.specs.declared.Message.{Message}
 use Rattle.message.specs.declared.Message.the-variants.{GetInfo, Info, Done, WriteInfo, Fwd, WriteAck}
 use Rattle.message.specs.declared.Unpacked.{Unpacked}
-use Rattle.message.specs.declared.Unpacked.the-variants.{Good, Bad}
+use Rattle.message.specs.declared.Unpacked.the-variants.{Good, Refused}
 use Rattle.message.specs.Layout.{messageOf}
 use Rattle.channel.specs.Memory.{channels, slots, width, span, slot, countAt}
 
@@ -35,7 +35,7 @@ goes down (Good Done) = not down
 goes down (Good (WriteInfo p)) = not down
 goes down (Good (Fwd p)) = down
 goes down (Good (WriteAck c)) = down
-goes down Bad = false
+goes down (Refused r) = false
 
 -- the numbers h and l are the words of a message that goes that way
 abbrev pub wordsGo : Bool → ℕ → ℕ → Bool
@@ -59,7 +59,7 @@ channelTests b i =
 
 -- the memory is sound
 unfoldable pub sound : List ℕ → Bool
-sound b = allBelow (λ i. all (channelTests b i)) channels
+sound b = allBelow (λ i. allPass (channelTests b i)) channels
 
 -- no channel holds more messages than it has slots
 abbrev pub CountsFit : List ℕ → Type 0
@@ -68,7 +68,7 @@ CountsFit b = (i : ℕ) → i < channels → countAt b i ≤ slots
 -- the message of numbers; where they are none it does not matter which
 unfoldable pub messageIn : Unpacked → Message
 messageIn (Good m) = m
-messageIn Bad = Done
+messageIn (Refused r) = Done
 
 -- what channel i holds, oldest first
 unfoldable pub messages : List ℕ → ℕ → List Message

@@ -5,7 +5,7 @@
 ghost use mathlib.Core.Path.{_≡_};
 ghost use Prim.Native.Nat.{_+_, _*_, _<_, _≤_};
 ghost use lib.ListN.{replicate};
-ghost use Rattle.basics.specs.Tests.{all, allBelow};
+ghost use Rattle.basics.specs.Tests.{allPass, allBelow};
 ghost use Rattle.channel.specs.Sound.{channelTests, goes, slotGoes, sound, wordsGo, zeroFrom};
 ghost use Rattle.channel.specs.Memory.{cleared, countAt, oldestOn, putOn, shifted, taken, zeroed};
 use message::Message;
@@ -183,7 +183,7 @@ fn slots_go(b: &Slots, at: usize, n: usize, down: bool) -> bool
 // Whether channel i is sound. Most are empty, and one pass over their slots says so.
 fn channel_sound(b: &Slots, i: usize) -> bool
     requires { ⌜ i < 156 ⌝ }
-    ensures { λ r. ⌜ r ≡ all (channelTests (now (b .entry)) i) ⌝ }
+    ensures { λ r. ⌜ r ≡ allPass (channelTests (now (b .entry)) i) ⌝ }
 {
     let at = CHANNELS + i * SPAN;
     let k = b[i];

@@ -1,7 +1,9 @@
--- A message that a client does not take is dropped: the model's step on it leaves the client and sends nothing.
+-- A message that a client does not take is dropped: the model's step on it leaves the client and sends
+-- nothing.
 --
--- Why: on each kind the step makes the test of `isTaken` first (`not-taken`). No message is taken by an idle client
--- (`idle-takes-none`), no INFO of another read (`other-read`), no acknowledgement of another write (`other-write`).
+-- Why: on each kind the step makes the test of `isTaken` first (`not-taken`). No message is taken by an idle
+-- client (`idle-takes-none`), no INFO of another read (`other-read`), no acknowledgement of another write
+-- (`other-write`).
 -- Assumes nothing.
 use mathlib.Core.Path.{_≡_, refl}
 use mathlib.Core.Bool.{true, false}
@@ -28,7 +30,8 @@ not-taken n f d x k (WriteInfo p) e = refl
 not-taken n f d x k (Fwd p) e = rw e
 not-taken n f d x k (WriteAck w) e = rw e
 
-pub idle-takes-none : (x : model.Client) (k : ℕ) (m : Message) → isIdle (x .phase) ≡ true → isTaken x k m ≡ false
+pub idle-takes-none : (x : model.Client) (k : ℕ) (m : Message) → isIdle (x .phase) ≡ true → isTaken x k m
+    ≡ false
 unfolding isTaken takesInfo
 idle-takes-none x k (GetInfo t) h = refl
 idle-takes-none x k (Info t p) h = rw (idle-reads-not (x .phase) h)

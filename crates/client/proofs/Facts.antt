@@ -47,7 +47,8 @@ pub record ClientSound (c : Client) : Type 0 where
 
 abbrev tests : Client → List Bool
 tests c =
-    leb 1 (c .number) ∷ leb (c .number) 6 ∷ leb (c .f) 4 ∷ ltb (c .reads .0) (2 ^ 20) ∷ isSoundPhase (c .phase) ∷ []
+    leb 1 (c .number) ∷ leb (c .number) 6 ∷ leb (c .f) 4 ∷ ltb (c .reads .0) (2 ^ 20)
+    ∷ isSoundPhase (c .phase) ∷ []
 
 pub client-facts : (c : Client) → isSoundClient c ≡ true → ClientSound c
 unfolding isSoundClient
@@ -89,12 +90,14 @@ of-client c r h = both (isSoundClient c) (inPhase c r) h .0
 pub of-memory : (c : Client) (r : List ℕ) → isSound c r ≡ true → MemorySound c r
 unfolding isSound
 of-memory c r h =
-    facts (size (c .f)) (isReading (c .phase)) (stores (c .phase)) r (both (isSoundClient c) (inPhase c r) h .1)
+    facts (size (c .f)) (isReading (c .phase)) (stores (c .phase)) r
+    (both (isSoundClient c) (inPhase c r) h .1)
 
 pub of-both : (c : Client) (r : List ℕ) → isSoundClient c ≡ true → MemorySound c r → isSound c r ≡ true
 unfolding isSound
 of-both c r h s =
-    both-of (isSoundClient c) (inPhase c r) h (sound (size (c .f)) (isReading (c .phase)) (stores (c .phase)) r s)
+    both-of (isSoundClient c) (inPhase c r) h
+    (sound (size (c .f)) (isReading (c .phase)) (stores (c .phase)) r s)
 
 -- a server of the client has a place
 pub has-place : (c : Client) (r : List ℕ) → isSound c r ≡ true → (k : ℕ) → k ≤ size (c .f) → k ≤ 13

@@ -46,7 +46,8 @@ pairs-fit (x ∷ l) w = (w 0, pairs-fit l (λ i. w (suc i)))
 take-words : (n : ℕ) (l : List ℕ) → Words l → Words (take n l)
 take-words n l w i =
     by-test (ltb i n) (λ e. rw (getD-take n l i 0 (borrow.Author.Tests.ltb-true i n e)) (w i))
-    (λ e. rw (lib.ListN.List·getD-eq-default (take n l) 0 {n = i} (let g = borrow.Author.Tests.ltb-false i n e in
+    (λ e. rw (lib.ListN.List·getD-eq-default (take n l) 0 {n = i}
+    (let g = borrow.Author.Tests.ltb-false i n e in
     omega (arith, lib.ListN.length-take n l, native.Mathlib.Nat.min-le-left n (length l)))) (omega arith))
 
 pub drop-words : (n : ℕ) (l : List ℕ) → Words l → Words (drop n l)
@@ -58,7 +59,8 @@ shown-fit c r w zero = tt
 shown-fit c r w (suc i) =
     by-test (ltb i 13)
     (λ e. rw e (pairs-fit (take (getD r (13 + i) 0) (fourAt r i))
-    (take-words (getD r (13 + i) 0) (fourAt r i) (take-words 4 (drop (39 + i * 4) r) (drop-words (39 + i * 4) r w)))))
+    (take-words (getD r (13 + i) 0) (fourAt r i)
+    (take-words 4 (drop (39 + i * 4) r) (drop-words (39 + i * 4) r w)))))
     (λ e. rw e tt)
 
 -- ---- adding a pair
@@ -83,11 +85,13 @@ add-fits limit p S h a =
 module _ (x : model.Client) (k : ℕ) (p : Pair) (h : p .0 < 2 ^ 64) (a : SetsFit x) where
   pub pair-fits : SetsFit (withPair x k p)
   unfolding withPair
-  pair-fits j = update-at AllFit (x .sets) k j (add 4 p (x .sets k)) (λ e. add-fits 4 p (x .sets k) h (a k)) (λ e. a j)
+  pair-fits j = update-at AllFit (x .sets) k j (add 4 p (x .sets k)) (λ e. add-fits 4 p (x .sets k) h (a k))
+      (λ e. a j)
 
   pub info-fits : SetsFit (withInfo x k p)
   unfolding withInfo
-  info-fits j = update-at AllFit (x .sets) k j (add 4 p (x .sets k)) (λ e. add-fits 4 p (x .sets k) h (a k)) (λ e. a j)
+  info-fits j = update-at AllFit (x .sets) k j (add 4 p (x .sets k)) (λ e. add-fits 4 p (x .sets k) h (a k))
+      (λ e. a j)
 
 -- ---- choosing one
 
@@ -112,10 +116,12 @@ highest-fits test (p ∷ l) a =
     by-test (test p) (λ e. rw e (higher-fits p (highestOf test l) (a .0) (highest-fits test l (a .1))))
     (λ e. rw e (highest-fits test l (a .1)))
 
-pub chosen-fits : (n f d : ℕ) (x : model.Client) (p : Pair) → SetsFit x → chosen n f d x ≡ some p → p .0 < 2 ^ 64
+pub chosen-fits : (n f d : ℕ) (x : model.Client) (p : Pair) → SetsFit x → chosen n f d x ≡ some p
+    → p .0 < 2 ^ 64
 unfolding chosen
 chosen-fits n f d x p a e =
     let fits : Fits (chosen n f d x) =
     by-test (enough n f (counted (λ k. isNoted (x .noted k)) n))
-    (λ t. rw t (highest-fits (counts n f d x) (allPairs (x .sets) n) (all-fit (x .sets) n a))) (λ t. rw t tt) in
+    (λ t. rw t (highest-fits (counts n f d x) (allPairs (x .sets) n) (all-fit (x .sets) n a)))
+    (λ t. rw t tt) in
     rw e at fits

@@ -1,8 +1,9 @@
 -- The head of a memory and the phase that it stands for.
 --
--- A sound code, entry and counter are those of the phase that they make (`head-facts`), by cases on the code. Those
--- of a sound phase are sound (`head-sound`), and those of any phase make it again, if its counter has 32 bits
--- (`phase-again`), by cases on the phase. Whether a phase is idle needs its code alone (`idle-again`).
+-- A sound code, entry and counter are those of the phase that they make (`head-facts`), by cases on the code.
+-- Those of a sound phase are sound (`head-sound`), and those of any phase make it again, if its counter has
+-- 32 bits (`phase-again`), by cases on the phase. Whether a phase is idle needs its code alone
+-- (`idle-again`).
 -- Assumes nothing.
 use mathlib.Core.Path.{_≡_, refl, sym, ap, _∙_}
 use mathlib.Core.Bool.{true}
@@ -31,7 +32,8 @@ none w h = let g = ltb-true w 1 h in omega arith
 pub mod-small : (w : ℕ) → w < 2 ^ 32 → w % 2 ^ 32 ≡ w
 mod-small w h = omega arith
 
-pub head-facts : (code e w : ℕ) → leb code 3 ≡ true → isSoundEntry code e ≡ true → isSoundCounter code w ≡ true
+pub head-facts : (code e w : ℕ) → leb code 3 ≡ true → isSoundEntry code e ≡ true → isSoundCounter code w
+    ≡ true
     → Head code e w
 unfolding phaseOf codeOf entryOf counterIn isSoundPhase
 head-facts zero e w h he hw =

@@ -1,8 +1,8 @@
--- Every state that the model's client can reach from a sound one is kept: stored, it is sound and shows that client
--- again, as a client with its replies and so as a memory (`kept-memory`).
+-- Every state that the model's client can reach from a sound one is kept: stored, it is sound and shows that
+-- client again, as a client with its replies and so as a memory (`kept-memory`).
 --
--- Either the next client is what a sound memory shows (`kept-view`), or its memory is empty and its phase and read
--- number are sound (`kept-cleared`); one message leads to one or the other (`kept-taken`).
+-- Either the next client is what a sound memory shows (`kept-view`), or its memory is empty and its phase and
+-- read number are sound (`kept-cleared`); one message leads to one or the other (`kept-taken`).
 -- Assumes nothing.
 use mathlib.Core.Path.{_≡_, refl, sym, ap, _∙_, subst}
 use mathlib.Core.Bool.{true, false, not, _&&_}
@@ -41,7 +41,8 @@ use Rattle.client.proofs.Fitting.{Words, SetsFit, shown-fit, pair-fits,
 use Rattle.client.proofs.Heads.{counter-fits}
 use Rattle.client.proofs.Memory.{sound-whole, view-store}
 use Rattle.client.proofs.Outcomes.{store-view}
-use Rattle.client.proofs.Shown.{paired, informed, pair-shown, info-shown, ack-shown, pair-sound, info-sound}
+use Rattle.client.proofs.Shown.{paired, informed, pair-shown, info-shown, ack-shown, pair-sound}
+use Rattle.client.proofs.Shown.{info-sound}
 use Rattle.client.proofs.Shown.{ack-keeps, empty-keeps}
 
 -- the model's client x, as the next state of c
@@ -128,7 +129,8 @@ module _ (c : Client) (h : isSoundClient c ≡ true) (x : model.Client) (same : 
       (lt-ltb (next .0) (2 ^ 20) room)))))
   kept-concluded (Storing w v) p e reading fits = absurd (true-or-false false reading refl)
 
-kept-looked : (c : Client) (r : List ℕ) → isSound c r ≡ true → isReading (c .phase) ≡ true → SetsFit (view c r)
+kept-looked : (c : Client) (r : List ℕ) → isSound c r ≡ true → isReading (c .phase) ≡ true
+    → SetsFit (view c r)
     → Kept c (looked (size (c .f)) (c .f) (c .number) (view c r)
     (chosen (size (c .f)) (c .f) (c .number) (view c r)) .client)
 unfolding looked
@@ -151,18 +153,22 @@ module _ (c : Client) (r : List ℕ) (k : ℕ) (h : isSound c r ≡ true) (low :
   abbrev next : model.Client → model.Client
   next x = looked (size (c .f)) (c .f) (c .number) x (chosen (size (c .f)) (c .f) (c .number) x) .client
 
-  kept-info : (p : Pair) → p .0 < 2 ^ 64 → isReading (c .phase) ≡ true → Kept c (next (withInfo (view c r) k p))
+  kept-info : (p : Pair) → p .0 < 2 ^ 64 → isReading (c .phase) ≡ true
+      → Kept c (next (withInfo (view c r) k p))
   kept-info p fits reading =
       let e : view c (informed r (k - 1) p) ≡ withInfo (view c r) k p =
-      info-shown c r (k - 1) (of-memory c r h .long) place p ∙ ap (λ (j : ℕ). withInfo (view c r) j p) number in
+      info-shown c r (k - 1) (of-memory c r h .long) place p
+      ∙ ap (λ (j : ℕ). withInfo (view c r) j p) number in
       subst (λ (x : model.Client). Kept c (next x)) e
       (kept-looked c (informed r (k - 1) p) (info-sound c r (k - 1) p h (omega arith) reading fits) reading
       (subst SetsFit (sym e) (info-fits (view c r) k p fits (shown-fit c r w))))
 
-  kept-fwd : (p : Pair) → p .0 < 2 ^ 64 → isReading (c .phase) ≡ true → Kept c (next (withPair (view c r) k p))
+  kept-fwd : (p : Pair) → p .0 < 2 ^ 64 → isReading (c .phase) ≡ true
+      → Kept c (next (withPair (view c r) k p))
   kept-fwd p fits reading =
       let e : view c (paired r (k - 1) p) ≡ withPair (view c r) k p =
-      pair-shown c r (k - 1) (of-memory c r h .long) place p ∙ ap (λ (j : ℕ). withPair (view c r) j p) number in
+      pair-shown c r (k - 1) (of-memory c r h .long) place p
+      ∙ ap (λ (j : ℕ). withPair (view c r) j p) number in
       subst (λ (x : model.Client). Kept c (next x)) e
       (kept-looked c (paired r (k - 1) p) (pair-sound c r (k - 1) h (omega arith) reading p) reading
       (subst SetsFit (sym e) (pair-fits (view c r) k p fits (shown-fit c r w))))
@@ -192,7 +198,8 @@ module _ (c : Client) (r : List ℕ) (k : ℕ) (h : isSound c r ≡ true) (low :
   kept-taken (GetInfo t) f = kept-view c r h
   kept-taken (Info t p) f =
       by-test (takesInfo (size (c .f)) (c .f) (c .number) (view c r) k t)
-      (λ e. rw e (kept-info p (ltb-true (p .0) (2 ^ 64) (both (ltb (t .0) (2 ^ 20)) (ltb (p .0) (2 ^ 64)) f .1))
+      (λ e. rw e (kept-info p (ltb-true (p .0) (2 ^ 64)
+      (both (ltb (t .0) (2 ^ 20)) (ltb (p .0) (2 ^ 64)) f .1))
       (both (isReading (c .phase)) (eqb (t .0) (c .reads .0))
       (both (isReading (c .phase) && eqb (t .0) (c .reads .0)) (not (isNoted (view c r .noted k))) e .0) .0)))
       (λ e. rw e (kept-view c r h))

@@ -1,5 +1,5 @@
--- The ladders of the entry points: each stands in the table's order, so the refusal given is the lowest that applies; and what is so
--- whether it refuses or not. What a ladder that refuses nothing says is in `refusal`.
+-- The ladders of the entry points: each stands in the table's order, so the refusal given is the lowest that
+-- applies; and what is so whether it refuses or not. What a ladder that refuses nothing says is in `refusal`.
 -- Assumes nothing.
 use mathlib.Core.Path.{_≡_, refl}
 use mathlib.Core.Bool.{true}

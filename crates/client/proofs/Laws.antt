@@ -1,9 +1,10 @@
 -- What a user of the client end can rely on, whatever bytes the servers send.
 --
--- In order: exactly one phase (`one-phase`); only READ, WROTE and SPENT lead to idle (`take-ends`); read numbers
--- rise by one at each start and at no other time (`read-rises`, `write-rises`, `take-keeps-number`); what changes
--- nothing: an INFO of another read (`old-info`), an acknowledgement of another write or outside one (`late-ack`),
--- any message to an idle client (`idle-drops`). That every memory stays sound is in `Steadiness`.
+-- In order: exactly one phase (`one-phase`); only READ, WROTE and SPENT lead to idle (`take-ends`); read
+-- numbers rise by one at each start and at no other time (`read-rises`, `write-rises`, `take-keeps-number`);
+-- what changes nothing: an INFO of another read (`old-info`), an acknowledgement of another write or outside
+-- one (`late-ack`), any message to an idle client (`idle-drops`). That every memory stays sound is in
+-- `Steadiness`.
 -- Assumes nothing.
 use mathlib.Core.Path.{_≡_, refl, ap, _∙_}
 use mathlib.Core.Bool.{Bool, true, false}
@@ -22,7 +23,7 @@ use Rattle.message.specs.declared.Message.the-variants.{GetInfo, Info, Done, Wr
 use Rattle.message.specs.declared.Pair.{Pair}
 use Rattle.message.specs.declared.ReadNumber.{ReadNumber}
 use Rattle.message.specs.declared.Unpacked.{Unpacked}
-use Rattle.message.specs.declared.Unpacked.the-variants.{Good, Bad}
+use Rattle.message.specs.declared.Unpacked.the-variants.{Good, Refused}
 use Rattle.message.specs.declared.WriteCounter.{WriteCounter}
 use Rattle.message.specs.Pair.{counter}
 use Rattle.message.specs.Layout.{unpackOf}
@@ -35,13 +36,15 @@ use Rattle.register.specs.declared.Phase.{Phase}
 use Rattle.register.specs.declared.Phase.the-variants.{Idle, Reading, ReadingForWrite, Storing}
 use Rattle.register.specs.Thresholds.{size, counted, enough}
 use Rattle.register.specs.Client as model
-use Rattle.register.specs.Client.{isIdle, isReading, isStoring, withInfo, withPair, withAck, chosen, concluded}
+use Rattle.register.specs.Client.{isIdle, isReading, isStoring, withInfo, withPair, withAck, chosen}
+use Rattle.register.specs.Client.{concluded}
 use Rattle.register.specs.Client.{looked, acknowledged, takesInfo, clientTakes, started, nextRead, entryOf}
 use Rattle.client.specs.Memory.{counterIn, phaseIn, readsIn, view}
 use Rattle.client.specs.Sound.{stores, isSoundMemory}
 use Rattle.client.specs.Taking.{isTaken}
 use Rattle.client.specs.Outcome.{After}
-use Rattle.client.specs.Entry.{refusedBy, readRefusals, writeRefusals, takeRefusals, takesIt, readOf, writeOf}
+use Rattle.client.specs.Entry.{refusedBy, readRefusals, writeRefusals, takeRefusals, takesIt}
+use Rattle.client.specs.Entry.{readOf, writeOf}
 use Rattle.client.specs.Entry.{takeOf}
 use Rattle.client.proofs.Dropping.{not-taken, idle-takes-none, other-read, other-write}
 use Rattle.client.proofs.Heads.{mod-small, idle-again}
@@ -136,7 +139,7 @@ module _ (d f : ℕ) (m : List ℕ) (k : ℕ) (h : isIdle (phaseIn m) ≡ false)
             ap (λ (r : ReadNumber). record { 0 = r .0 % 2 ^ 32 }) (t .number)
             ∙ ap (λ (n : ℕ). record { 0 = n }) (twice (getD m 0 0));
       }
-  proceeds Bad = record { ends = h; number = refl }
+  proceeds (Refused r) = record { ends = h; number = refl }
 
   take-proceeds : (bytes : List ℕ) → ProceedsTo (takeOf d f m k bytes)
   unfolding takeOf
@@ -173,9 +176,10 @@ pub record Unchanged (m : List ℕ) (a : After) : Type 0 where
 refused-unchanged : (m : List ℕ) (x : Refusal) → Unchanged m (refusedBy m x)
 refused-unchanged m x = record { memory = refl; sends = refl }
 
-pub by-unpacked : {A : Type 0} (u : Unpacked) → ((m : Message) → u ≡ Good m → A) → (u ≡ Bad → A) → A
+pub by-unpacked : {A : Type 0} (u : Unpacked) → ((m : Message) → u ≡ Good m → A)
+    → ((r : Refusal) → u ≡ Refused r → A) → A
 by-unpacked (Good m) f g = f m refl
-by-unpacked Bad f g = g refl
+by-unpacked (Refused r) f g = g r refl
 
 module _ (d f : ℕ) (m : List ℕ) (k : ℕ) (bytes : List ℕ) where
   -- an accepted message came to a sound memory
@@ -203,8 +207,8 @@ module _ (d f : ℕ) (m : List ℕ) (k : ℕ) (bytes : List ℕ) where
   unfolding takeOf
   idle-drops h =
       by-unpacked (unpackOf bytes) (λ x u. dropped-unchanged x u (idle-takes-none (view m) k x h))
-      (λ u. either (Unchanged m) m (lowest (takeRefusals d f m k bytes)) (takesIt d f m k (unpackOf bytes))
-      (refused-unchanged m) (λ none. rw u (refused-unchanged m no.Malformed)))
+      (λ r u. either (Unchanged m) m (lowest (takeRefusals d f m k bytes)) (takesIt d f m k (unpackOf bytes))
+      (refused-unchanged m) (λ none. rw u (refused-unchanged m r)))
 
 -- ---- every client at any time
 

@@ -1,11 +1,13 @@
--- A client in its memory: what is loaded is what was stored, and a sound memory is the memory of what it shows.
+-- A client in its memory: what is loaded is what was stored, and a sound memory is the memory of what it
+-- shows.
 --
--- Why: the four numbers of the head and the rest are the whole memory (`head-rest`); a sound head is that of its phase
--- (`Heads`), and sound replies are those of what they show (`replies`). A memory is asked, place by place, for what
--- its client and replies are asked for (`sound-parts`, `sound-whole`).
+-- Why: the four numbers of the head and the rest are the whole memory (`head-rest`); a sound head is that of
+-- its phase (`Heads`), and sound replies are those of what they show (`replies`). A memory is asked, place by
+-- place, for what its client and replies are asked for (`sound-parts`, `sound-whole`).
 --
--- In order: the head and the rest; a sound memory and its parts; loading what was stored (`view-store`, `load-stored`);
--- storing what was loaded (`store-load`, `store-view`); every memory's length, and the setup; a client that is loaded.
+-- In order: the head and the rest; a sound memory and its parts; loading what was stored (`view-store`,
+-- `load-stored`); storing what was loaded (`store-load`, `store-view`); every memory's length, and the setup;
+-- a client that is loaded.
 -- Assumes nothing.
 use mathlib.Core.Path.{_≡_, refl, sym, ap, _∙_}
 use mathlib.Core.Bool.{Bool, true}
@@ -31,7 +33,8 @@ use Rattle.replies.proofs.Stores.{row-length}
 use Rattle.replies.proofs.Storing.{store-held, store-cleared}
 use Rattle.client.specs.declared.Client.{Client}
 use Rattle.client.specs.State as inner
-use Rattle.client.specs.Memory.{codeOf, counterIn, phaseIn, readsIn, loaded, headOf, stored, view, store}
+use Rattle.client.specs.Memory.{codeOf, counterIn, phaseIn, readsIn, loaded, headOf, stored, view}
+use Rattle.client.specs.Memory.{store}
 use Rattle.client.specs.Sound.{stores, isSoundEntry, isSoundCounter, isSound, isSoundMemory}
 use Rattle.client.proofs.Facts.{client-facts, client-sound, of-client, of-memory, of-both}
 use Rattle.client.proofs.Heads.{Head, head-facts, head-sound, counter-fits, mod-small, phase-again}
@@ -46,7 +49,8 @@ rest-whole m = take-all (length m - 4) (drop 4 m) (omega (arith, length-drop 4 m
 pub rest-put : (m r : List ℕ) → length m ≡ 95 → drop 4 (putMid 4 (length m - 4) m r) ≡ r
 rest-put m r long =
     drop-at (take 4 m) (r ++ drop (length m - 4) (drop 4 m)) 4 (length-take-le 4 m (omega arith))
-    ∙ ap (λ (n : ℕ). r ++ drop n (drop 4 m)) (sym (length-drop 4 m)) ∙ ap (λ (l : List ℕ). r ++ l) (drop-length (drop 4 m))
+    ∙ ap (λ (n : ℕ). r ++ drop n (drop 4 m)) (sym (length-drop 4 m))
+    ∙ ap (λ (l : List ℕ). r ++ l) (drop-length (drop 4 m))
     ∙ append-nil r
 
 pub head-put : (m : List ℕ) (a b c d : ℕ) → length m ≡ 95
@@ -176,7 +180,8 @@ module _ (f : ℕ) (m : List ℕ) (h : isSoundMemory f m ≡ true) where
   head-same : headOf (phaseIn m) (readsIn m) ++ drop 4 m ≡ m
   head-same =
       let s = memory-facts f m h in
-      let reads : getD m 0 0 % 2 ^ 32 ≡ getD m 0 0 = mod-small (getD m 0 0) (let small = s .reads in omega arith) in
+      let reads : getD m 0 0 % 2 ^ 32 ≡ getD m 0 0 =
+      mod-small (getD m 0 0) (let small = s .reads in omega arith) in
       rw (reads, s .head .same-code, s .head .same-entry, s .head .same-counter) (head-rest m (s .long))
 
   pub store-load : (d : ℕ) → stored m (loaded d f m) ≡ m
@@ -211,6 +216,7 @@ module _ (c : Client) (m : List ℕ) (e : c ≡ loaded (c .number) (c .f) m) whe
   loaded-view = ap (λ (x : Client). held (x .phase) (x .reads) (drop 4 m)) e
 
   -- and is sound with its replies
-  pub loaded-sound : isSoundMemory (c .f) m ≡ true → 1 ≤ c .number → c .number ≤ 6 → isSound c (drop 4 m) ≡ true
+  pub loaded-sound : isSoundMemory (c .f) m ≡ true → 1 ≤ c .number → c .number ≤ 6 → isSound c (drop 4 m)
+      ≡ true
   loaded-sound h low high =
       ap (λ (x : Client). isSound x (drop 4 m)) e ∙ sound-parts (c .number) (c .f) m low high h

@@ -9,6 +9,7 @@ use denote.Enum.Declared.{tagOf}
 use Rattle.basics.proofs.Cases.{true-or-false}
 use Rattle.message.specs.declared.Message.{Message}
 use Rattle.message.specs.declared.Message.the-variants.{GetInfo, Info, Done, WriteInfo, Fwd, WriteAck}
+use Rattle.message.specs.declared.Unpacked.the-variants.{Good}
 use Rattle.message.specs.declared.WriteCounter.{WriteCounter}
 use Rattle.message.proofs.Message as M
 use Rattle.register.specs.declared.Phase.{Phase}
@@ -16,6 +17,7 @@ use Rattle.register.specs.declared.Phase.the-variants.{Idle, Reading, ReadingFo
 use Rattle.register.proofs.Phase as P
 use Rattle.register.specs.Client as model
 use Rattle.register.specs.Client.{isStoring}
+use Rattle.register.specs.Steps.{isReply}
 use Rattle.client.specs.declared.Client.{Client}
 use Rattle.client.specs.Memory.{counterIn}
 use Rattle.client.specs.Collecting.{isInfo, isAck, isCollected}
@@ -52,7 +54,8 @@ no-pair c r k (WriteAck a) o i = refl
 
 -- a message that is neither INFO nor FWD nor WRITE_ACK is not taken
 pub no-reply : (x : model.Client) (k : ℕ) (m : Message) → OneOf (0 ∷ 1 ∷ 2 ∷ 3 ∷ 5 ∷ []) (tagOf M.the-type m)
-    → OneOf (0 ∷ 1 ∷ 2 ∷ 3 ∷ 4 ∷ []) (tagOf M.the-type m) → OneOf (0 ∷ 2 ∷ 3 ∷ 4 ∷ 5 ∷ []) (tagOf M.the-type m)
+    → OneOf (0 ∷ 1 ∷ 2 ∷ 3 ∷ 4 ∷ []) (tagOf M.the-type m)
+    → OneOf (0 ∷ 2 ∷ 3 ∷ 4 ∷ 5 ∷ []) (tagOf M.the-type m)
     → isTaken x k m ≡ false
 unfolding isTaken
 no-reply x k (GetInfo t) f a i = refl
@@ -61,6 +64,19 @@ no-reply x k Done f a i = refl
 no-reply x k (WriteInfo p) f a i = refl
 no-reply x k (Fwd p) f a i = absurd (miss (0 ∷ 1 ∷ 2 ∷ 3 ∷ 5 ∷ []) 4 tt f)
 no-reply x k (WriteAck w) f a i = absurd (miss (0 ∷ 1 ∷ 2 ∷ 3 ∷ 4 ∷ []) 5 tt a)
+
+-- nor is it a reply
+pub not-reply : (m : Message) → OneOf (0 ∷ 1 ∷ 2 ∷ 3 ∷ 5 ∷ []) (tagOf M.the-type m)
+    → OneOf (0 ∷ 1 ∷ 2 ∷ 3 ∷ 4 ∷ []) (tagOf M.the-type m)
+    → OneOf (0 ∷ 2 ∷ 3 ∷ 4 ∷ 5 ∷ []) (tagOf M.the-type m)
+    → isReply (Good m) ≡ false
+unfolding isReply
+not-reply (GetInfo t) f a i = refl
+not-reply (Info t p) f a i = absurd (miss (0 ∷ 2 ∷ 3 ∷ 4 ∷ 5 ∷ []) 1 tt i)
+not-reply Done f a i = refl
+not-reply (WriteInfo p) f a i = refl
+not-reply (Fwd p) f a i = absurd (miss (0 ∷ 1 ∷ 2 ∷ 3 ∷ 5 ∷ []) 4 tt f)
+not-reply (WriteAck w) f a i = absurd (miss (0 ∷ 1 ∷ 2 ∷ 3 ∷ 4 ∷ []) 5 tt a)
 
 pub not-storing : (ph : Phase) (c : WriteCounter) → OneOf (0 ∷ 1 ∷ 2 ∷ []) (tagOf P.the-type ph)
     → isStoring ph c ≡ false

@@ -1,5 +1,5 @@
--- What a step took and left is what the model's step comes to: where nothing follows, where the memory is emptied,
--- and where a chosen pair leads to the next phase.
+-- What a step took and left is what the model's step comes to: where nothing follows, where the memory is
+-- emptied, and where a chosen pair leads to the next phase.
 -- Assumes nothing.
 use mathlib.Core.Path.{_≡_, refl, sym, ap, _∙_}
 use mathlib.Core.Bool.{true, false}
@@ -37,18 +37,21 @@ use Rattle.client.proofs.Facts.{of-memory}
 -- a sound state is the state of what it shows
 pub store-view : (c : Client) (r : List ℕ) → isSound c r ≡ true → storeReplies (view c r) ≡ r
 store-view c r h =
-    store-held (size (c .f)) (isReading (c .phase)) (stores (c .phase)) r (of-memory c r h) (c .phase) (c .reads)
+    store-held (size (c .f)) (isReading (c .phase)) (stores (c .phase)) r (of-memory c r h) (c .phase)
+    (c .reads)
 
 -- nothing follows
 abbrev pub stays : Client → Took
 stays c = record { client = c; sends = Nothing; answer = Went }
 
-pub goes-on : (c : Client) (r : List ℕ) → isSound c r ≡ true → after (stays c) r ≡ stored c (goesOn (view c r))
+pub goes-on : (c : Client) (r : List ℕ) → isSound c r ≡ true → after (stays c) r
+    ≡ stored c (goesOn (view c r))
 goes-on c r h = λ q. record { client = c; replies = sym (store-view c r h) q; sends = []; answer = Went }
 
 -- the memory is emptied
 pub empties : (c : Client) (ph : Phase) (s : Sends) (a : Answer)
-    → after (record { client = storeClient (c .number) (c .f) (cleared ph (c .reads)); sends = s; answer = a })
+    → after
+    (record { client = storeClient (c .number) (c .f) (cleared ph (c .reads)); sends = s; answer = a })
     (replicate 91 0)
     ≡ stored c (record { client = cleared ph (c .reads); sends = messagesOf s; answer = a })
 empties c ph s a =
@@ -111,7 +114,8 @@ module _ (c : Client) (e : Entry) (p : Pair) where
       ≡ stored c (concluded (size (c .f)) (c .f) (c .number) (view c (replicate 91 0)) (ReadingForWrite e) p)
   unfolding concluded
   stores-next w q x ew eq ex h =
-      let h′ : eqb (counter p .0) 1048575 ≡ false = ap (λ (v : WriteCounter). eqb (v .0) 1048575) (sym ew) ∙ h in
+      let h′ : eqb (counter p .0) 1048575 ≡ false = ap (λ (v : WriteCounter). eqb (v .0) 1048575) (sym ew)
+      ∙ h in
       let next : WriteCounter = record { 0 = counter p .0 + 1 } in
       let ew′ : _≡_ {A = WriteCounter} (record { 0 = w .0 + 1 }) next = λ i. record { 0 = ew i .0 + 1 } in
       let ex′ : x ≡ storeClient (c .number) (c .f) (cleared (Storing e next) (c .reads)) =

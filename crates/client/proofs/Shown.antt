@@ -1,4 +1,5 @@
--- What a client's memory shows after each change of it: the model's change. And every change keeps the state sound.
+-- What a client's memory shows after each change of it: the model's change. And every change keeps the state
+-- sound.
 -- Assumes nothing.
 use mathlib.Core.Path.{_≡_, ap, _∙_}
 use mathlib.Core.Bool.{true}
@@ -57,7 +58,8 @@ module _ (c : Client) (r : List ℕ) (i : ℕ) (long : length r ≡ 91) (ih : i 
         reads = c .reads;
         noted = (set-noted s i l ls ih few ∙ note-noted r i (stamp p) long ih) q;
         sets = (set-sets s i l ls ih few
-            ∙ ap (λ (g : ℕ → List Pair). update g (suc i) (add 4 p (g (suc i)))) (note-sets r i (stamp p) long ih)) q;
+            ∙ ap (λ (g : ℕ → List Pair). update g (suc i) (add 4 p (g (suc i))))
+            (note-sets r i (stamp p) long ih)) q;
         acks = (set-acks s i l ls ih few ∙ note-acks r i (stamp p) long ih) q;
       }
 
@@ -81,7 +83,8 @@ module _ (c : Client) (r : List ℕ) (i : ℕ) (h : isSound c r ≡ true) (insid
   pub pair-sound : isReading (c .phase) ≡ true → (p : Pair) → isSound c (paired r i p) ≡ true
   pair-sound reading p =
       of-both c (paired r i p) (of-client c r h)
-      (rw reading (set-sound (size (c .f)) r i inside place (stores (c .phase)) p (rw reading at (of-memory c r h))))
+      (rw reading (set-sound (size (c .f)) r i inside place (stores (c .phase)) p
+      (rw reading at (of-memory c r h))))
 
   pub note-keeps : isReading (c .phase) ≡ true → (t : ℕ) → t < 2 ^ 24 → isSound c (putNote r i t) ≡ true
   note-keeps reading t fits =
@@ -92,12 +95,14 @@ module _ (c : Client) (r : List ℕ) (i : ℕ) (h : isSound c r ≡ true) (insid
   pub ack-keeps : stores (c .phase) ≡ true → isSound c (putAck r i) ≡ true
   ack-keeps storing =
       of-both c (putAck r i) (of-client c r h)
-      (rw storing (ack-sound (size (c .f)) r i inside place (isReading (c .phase)) (rw storing at (of-memory c r h))))
+      (rw storing (ack-sound (size (c .f)) r i inside place (isReading (c .phase))
+      (rw storing at (of-memory c r h))))
 
 pub info-sound : (c : Client) (r : List ℕ) (i : ℕ) (p : Pair) → isSound c r ≡ true → i < size (c .f)
     → isReading (c .phase) ≡ true → p .0 < 2 ^ 64 → isSound c (informed r i p) ≡ true
 info-sound c r i p h inside reading fits =
-    pair-sound c (putNote r i (stamp p)) i (note-keeps c r i h inside reading (stamp p) (stamp-fits p fits)) inside
+    pair-sound c (putNote r i (stamp p)) i (note-keeps c r i h inside reading (stamp p) (stamp-fits p fits))
+    inside
     reading p
 
 pub empty-keeps : (c : Client) → Rattle.client.specs.Sound.isSoundClient c ≡ true

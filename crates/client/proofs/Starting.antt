@@ -63,7 +63,7 @@ started-is f m ph h idle =
 abbrev nextOf : Client → ReadNumber
 nextOf c = record { 0 = c .reads .0 + 1 }
 
-abbrev begun : List ℕ → ReadNumber → After
+abbrev pub begun : List ℕ → ReadNumber → After
 begun m t = after (record { sends = GetInfo t; answer = Went }) m
 
 -- so that is what a start comes to

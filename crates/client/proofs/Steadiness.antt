@@ -1,7 +1,8 @@
--- Whatever is asked of a client in a sound memory, and whatever bytes a server sends, the memory is sound after it.
+-- Whatever is asked of a client in a sound memory, and whatever bytes a server sends, the memory is sound
+-- after it.
 --
--- The setup is sound (`new-sound`). A refusal changes nothing. Otherwise the next client is kept (`Keeping`), since
--- what a ladder does not refuse is in range.
+-- The setup is sound (`new-sound`). A refusal changes nothing. Otherwise the next client is kept (`Keeping`),
+-- since what a ladder does not refuse is in range.
 -- Assumes nothing.
 use mathlib.Core.Path.{_≡_, refl, sym, ap, _∙_}
 use mathlib.Core.Bool.{true}
@@ -24,7 +25,8 @@ use Rattle.client.specs.State.{storeClient}
 use Rattle.client.specs.Memory.{readsIn, loaded, view}
 use Rattle.client.specs.Sound.{isSoundPhase, isSound, isSoundMemory}
 use Rattle.client.specs.Outcome.{After, startedOf}
-use Rattle.client.specs.Entry.{isClient, isServer, readRefusals, writeRefusals, takeRefusals, takesIt, readOf}
+use Rattle.client.specs.Entry.{isClient, isServer, readRefusals, writeRefusals, takeRefusals}
+use Rattle.client.specs.Entry.{takesIt, readOf}
 use Rattle.client.specs.Entry.{writeOf, takeOf}
 use Rattle.client.proofs.Facts.{of-client, client-sound}
 use Rattle.client.proofs.Fitting.{Words, drop-words}
@@ -65,7 +67,8 @@ module _ (d f : ℕ) (m : List ℕ) (h : isSoundMemory f m ≡ true) where
       let room = leb-false 1048575 (readsIn m .0) (passed .1 .1 .1 .0) in
       let s = sound-client (not-false (isClient d) (passed .1 .0)) in
       kept-memory (loaded d f m) (started (view m) Reading)
-      (kept-started (loaded d f m) (drop 4 m) Reading (of-client (loaded d f m) (drop 4 m) s) room refl) .sound)
+      (kept-started (loaded d f m) (drop 4 m) Reading (of-client (loaded d f m) (drop 4 m) s) room
+      refl) .sound)
 
   pub write-sound : (w : Entry) → Steady f (writeOf d f m w)
   unfolding writeOf isSoundPhase
@@ -90,4 +93,4 @@ module _ (d f : ℕ) (m : List ℕ) (h : isSoundMemory f m ≡ true) where
       (kept-memory (loaded d f m) (clientTakes (size f) f d (view m) k x .client)
       (kept-taken (loaded d f m) (drop 4 m) k (sound-client (there .0)) (leb-true 1 k (server .0))
       (leb-true k (size f) (server .1)) (drop-words 4 m words) x (pack-unpack bytes x u .within)) .sound))
-      (λ u. rw u h))
+      (λ r u. rw u h))

@@ -1,7 +1,8 @@
--- INFO and FWD, the replies that bring a pair: whether a client takes one, and what it then holds. No choice is
--- made here: `lookedOf` of `Sends` says what follows.
+-- INFO and FWD, the replies that bring a pair: whether a client takes one, and what it then holds. No choice
+-- is made here: `lookedOf` of `Sends` says what follows.
 --
 -- In order: kinds that are ruled out; a reply taken; the outcome.
+-- A reader of the public contracts needs none of it.
 -- Assumes nothing.
 use Prim.Native.Nat.{ℕ}
 use mathlib.Core.Path.{_≡_}

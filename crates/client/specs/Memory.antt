@@ -1,10 +1,10 @@
 -- A client in the memory that it is lent (01, 'Desk'): 95 numbers.
 --
--- They are its read number, its phase as a number, the entry and the counter of its write, and what the servers
--- replied (`replies`). What a phase does not have is zero, and all zero is the setup.
+-- They are its read number, its phase as a number, the entry and the counter of its write, and what the
+-- servers replied (`replies`). What a phase does not have is zero, and all zero is the setup.
 --
--- In order: the places; a phase as numbers; the client that a step loads, and its head stored again; what a memory
--- shows, and the memory of what a model's client holds.
+-- In order: the places; a phase as numbers; the client that a step loads, and its head stored again; what a
+-- memory shows, and the memory of what a model's client holds.
 -- Assumes nothing.
 use Prim.Native.Nat.{ℕ, _^_, _%_}
 use mathlib.Core.Bool.{cond}

@@ -1,4 +1,5 @@
--- What one step of a client comes to: the memory after it, what it puts on the channels to all servers, its answer.
+-- What one step of a client comes to: the memory after it, what it puts on the channels to all servers, its
+-- answer.
 --
 -- In order: an outcome, of the code and of the model; a start; one message taken.
 -- Assumes nothing.

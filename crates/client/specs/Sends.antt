@@ -1,8 +1,8 @@
--- What one step of a client comes to, while the client goes by value beside its replies: the next state, what it puts on
--- the channels to all servers, its answer. In its memory that is `Outcome`.
+-- What one step of a client comes to, while the client goes by value beside its replies: the next state, what
+-- it puts on the channels to all servers, its answer. In its memory that is `Outcome`.
 --
--- In order: the messages that a step puts; a step's outcome, of the code and of the model; the choice and what it
--- leads to; one message taken.
+-- In order: the messages that a step puts; a step's outcome, of the code and of the model; the choice and
+-- what it leads to; one message taken.
 -- Assumes nothing.
 use Prim.Native.Nat.{ℕ}
 use mathlib.Core.List.{List, [], _∷_}

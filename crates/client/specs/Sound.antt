@@ -1,14 +1,14 @@
 -- When a client and its memory are sound (01, 'Rehearsal': 'A state is sound when ..').
 --
--- In order: its phase; the client; the client and its replies; its memory. The conditions on the replies stand in
--- `replies`.
+-- In order: its phase; the client; the client and its replies; its memory. The conditions on the replies
+-- stand in `replies`.
 -- Assumes nothing.
 use Prim.Native.Nat.{ℕ, _^_}
 use mathlib.Core.Bool.{Bool, true, false, cond, _&&_}
 use mathlib.Core.List.{List, [], _∷_}
 use lib.Dec.{eqb, leb, ltb}
 use lib.ListN.{length, getD, drop}
-use Rattle.basics.specs.Tests.{all}
+use Rattle.basics.specs.Tests.{allPass}
 use Rattle.licence.specs.Entry.{isLicence}
 use Rattle.register.specs.declared.Phase.{Phase}
 use Rattle.register.specs.declared.Phase.the-variants.{Idle, Reading, ReadingForWrite, Storing}
@@ -36,7 +36,7 @@ stores (Storing e c) = true
 -- the client: its number, f and its read number are in range
 unfoldable pub isSoundClient : Client → Bool
 isSoundClient c =
-    all
+    allPass
     (leb 1 (c .number)
     ∷ leb (c .number) mostClients
     ∷ leb (c .f) 4
@@ -65,7 +65,7 @@ areSoundReplies f m = areSound (size f) (isReading (phaseIn m)) (stores (phaseIn
 -- the whole memory of a client, where f servers may be faulty
 unfoldable pub isSoundMemory : ℕ → List ℕ → Bool
 isSoundMemory f m =
-    all
+    allPass
     (leb f 4
     ∷ eqb (length m) words
     ∷ ltb (getD m readsAt 0) (2 ^ 20)

@@ -1,9 +1,10 @@
--- The client end's state inside a step (01: desk): the client by value and its replies, and the model's client that
--- the two show. Between steps both stand in one memory (`Memory`).
+-- The client end's state inside a step (01: desk): the client by value and its replies, and the model's
+-- client that the two show. Between steps both stand in one memory (`Memory`).
 --
--- In order: what a state shows; the state of what a model's client holds. That a sound state is the state of what
--- it shows, and that the model's client is shown again by its state, is proved in proofs/Outcomes
+-- In order: what a state shows; the state of what a model's client holds. That a sound state is the state of
+-- what it shows, and that the model's client is shown again by its state, is proved in proofs/Outcomes
 -- (`store-view`) and proofs/Keeping (`shows`).
+-- A reader of the public contracts needs none of it.
 -- Assumes nothing.
 use Prim.Native.Nat.{ℕ}
 use mathlib.Core.List.{List}
@@ -15,6 +16,7 @@ use Rattle.client.specs.declared.Client.{Client}
 abbrev pub view : Client → List ℕ → model.Client
 view c r = held (c .phase) (c .reads) r
 
--- the client, with a number and for f, of what the model's client holds; its replies are `storeReplies` of the same
+-- the client, with a number and for f, of what the model's client holds; its replies are `storeReplies` of
+-- the same
 abbrev pub storeClient : ℕ → ℕ → model.Client → Client
 storeClient d f x = record { number = d; f = f; phase = x .phase; reads = x .reads }

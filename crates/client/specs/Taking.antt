@@ -1,4 +1,5 @@
--- Which messages of a server a client takes, by what it shows: the model's tests, without what follows from them.
+-- Which messages of a server a client takes, by what it shows: the model's tests, without what follows from
+-- them. A reader of the public contracts needs none of it.
 -- Assumes nothing.
 use Prim.Native.Nat.{ℕ}
 use mathlib.Core.Bool.{Bool, false}
@@ -7,8 +8,8 @@ use Rattle.message.specs.declared.Message.the-variants.{GetInfo, Info, Done, Wr
 use Rattle.register.specs.Client as model
 use Rattle.register.specs.Client.{isReading, isStoring, takesInfo}
 
--- INFO of this read and of a server that is not noted, FWD while reading, WRITE_ACK of the counter that is stored
--- (the number of servers, f and the client's number do not matter)
+-- INFO of this read and of a server that is not noted, FWD while reading, WRITE_ACK of the counter that is
+-- stored (the number of servers, f and the client's number do not matter)
 unfoldable pub isTaken : model.Client → ℕ → Message → Bool
 isTaken x k (GetInfo t) = false
 isTaken x k (Info t p) = takesInfo 0 0 0 x k t

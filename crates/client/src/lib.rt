@@ -1,13 +1,14 @@
-// The client end (01: desk): how it starts, and what it does with one message of a server. All of it stands in
-// memory that it is lent (specs/Memory). Inside a step the client is loaded, goes by value, and its head is stored
-// again. The inner functions ask for a sound client; the entry points, at the end, ask for nothing and refuse.
-// The memory has neither the client's number nor f: a caller gives the same ones at each call.
+// The client end (01: desk): how it starts, and what it does with one message of a server. All of it stands
+// in memory that it is lent (specs/Memory). Inside a step the client is loaded, goes by value, and its head
+// is stored again. The inner functions ask for a sound client; the entry points, at the end, ask for nothing
+// and refuse. The memory has neither the client's number nor f: a caller gives the same ones at each call.
 ghost use mathlib.Core.Path.{_≡_};
 ghost use mathlib.Core.Bool.{true, false};
 ghost use Prim.Native.Nat.{_+_, _<_, _≤_};
 ghost use lib.ListN.{length, replicate};
+ghost use Rattle.message.specs.Layout.{lastRead};
 ghost use Rattle.register.specs.Thresholds.{size};
-ghost use Rattle.register.specs.Client.{isIdle, isReading, isStoring, highest, cleared, entryOf};
+ghost use Rattle.register.specs.Client.{isIdle, isReading, isStoring, cleared, entryOf};
 ghost use Rattle.register.specs.Steps.{isReply};
 ghost use Rattle.client.specs.State.{storeClient};
 ghost use Rattle.client.specs.Memory.{phaseOf, codeOf, counterIn, loaded, stored, view};
@@ -29,12 +30,6 @@ use register::Answer;
 use register::Phase;
 use replies::Choice;
 
-// The highest read number, and the highest counter.
-const HIGHEST: u32 = 1048575;
-
-// Read numbers and counters have 20 bits.
-const NUMBERS: u64 = 1048576;
-
 // The numbers of a client's memory.
 pub const WORDS: usize = 95;
 
@@ -53,9 +48,6 @@ const REPLIES: usize = 4;
 const WRITES: u64 = 2;
 
 const STORES: u64 = 3;
-
-// A number of 32 bits is below this.
-const OVER_32: u64 = 4294967296;
 
 const MOST_CLIENTS: u8 = 6;
 
@@ -166,10 +158,10 @@ fn store_next(c: Client, e: Entry, p: Pair) -> Took
     ensures { λ t. ⌜ after t (replicate 91 0) ≡ concludedOf c (Phase.ReadingForWrite e) p ⌝ }
 {
     let w = message::counter_of(p);
-    if w.0 == HIGHEST {
+    if message::is_last_counter(w) {
         return ends(c, Sends::Done, Answer::Spent);
     }
-    let next = WriteCounter(w.0 + 1);
+    let next = message::next_counter(w);
     let q = message::pair_of(next, c.number, e);
     let x = in_phase(c, Phase::Storing(e, next));
     Took {
@@ -216,7 +208,7 @@ fn info(c: Client, k: u8, t: ReadNumber, p: Pair, r: &mut [u64]) -> bool
     if !is_reading(ph) {
         return false;
     }
-    if t.0 != c.reads.0 {
+    if !message::same_read(t, c.reads) {
         return false;
     }
     let i = (k - 1) as usize;
@@ -270,7 +262,7 @@ fn acknowledged(c: Client, k: u8, a: WriteCounter, r: &mut [u64]) -> Took
     let Phase::Storing(e, w) = ph else {
         return goes_on(c);
     };
-    if w.0 != a.0 {
+    if !message::same_counter(w, a) {
         return goes_on(c);
     }
     replies::acknowledge(r, (k - 1) as usize);
@@ -307,7 +299,8 @@ fn taken(c: Client, k: u8, m: Message, r: &mut [u64]) -> Took
     acknowledged(c, k, a, r)
 }
 
-// What the message would have the client send. The replies are not touched: the message is collected in a copy.
+// What the message would have the client send. The replies are not touched: the message is collected in a
+// copy.
 fn foreseen(c: Client, k: u8, m: Message, r: &[u64]) -> Sends
     requires { ⌜ (isSound c (now r) ≡ true) × (1 ≤ k) × (k ≤ size (c .f)) ⌝ }
     ensures { λ s. ⌜ messagesOf s ≡ takenOf c (now (r .entry)) k m .sends ⌝ }
@@ -345,9 +338,9 @@ pub fn load(m: &[u64], number: u8, f: u8) -> Client
     requires { ⌜ length (now m) ≡ 95 ⌝ }
     ensures { λ c. ⌜ c ≡ loaded number f (now (m .entry)) ⌝ }
 {
-    let w = WriteCounter((m[COUNTER] % OVER_32) as u32);
+    let w = message::counter_from(m[COUNTER]);
     let ph = phase_of(m[PHASE], Entry(m[ENTRY]), w);
-    let t = ReadNumber((m[READS] % OVER_32) as u32);
+    let t = message::read_from(m[READS]);
     Client {
         number,
         f,
@@ -384,7 +377,7 @@ fn counter_in(ph: Phase) -> u64
     let Phase::Storing(_, w) = ph else {
         return 0;
     };
-    w.0 as u64
+    message::counter_word(w)
 }
 
 // The head of a memory, from the client of a step. The replies stay.
@@ -393,7 +386,7 @@ pub fn store(m: &mut [u64], c: Client)
     ensures { λ u. ⌜ now (m .exit) ≡ stored (now (m .entry)) c ⌝ }
 {
     let ph = c.phase;
-    m[READS] = c.reads.0 as u64;
+    m[READS] = message::read_word(c.reads);
     m[PHASE] = code_of(ph);
     m[ENTRY] = entry_of(ph);
     m[COUNTER] = counter_in(ph);
@@ -405,7 +398,7 @@ fn is_storing_with(ph: Phase, a: WriteCounter) -> bool
     let Phase::Storing(_, w) = ph else {
         return false;
     };
-    w.0 == a.0
+    message::same_counter(w, a)
 }
 
 // Whether a client takes a message of server k. One that it does not take changes nothing.
@@ -426,7 +419,7 @@ pub fn is_taken(c: Client, k: u8, x: Message, m: &[u64]) -> bool
     if !is_reading(ph) {
         return false;
     }
-    if tag.0 != c.reads.0 {
+    if !message::same_read(tag, c.reads) {
         return false;
     }
     !replies::is_noted(&m[REPLIES..], (k - 1) as usize)
@@ -436,7 +429,8 @@ pub fn is_taken(c: Client, k: u8, x: Message, m: &[u64]) -> bool
 pub fn take_message(c: Client, k: u8, x: Message, m: &mut [u64]) -> Outcome
     requires { ⌜ (c ≡ loaded (c .number) (c .f) (now m)) × (isSoundMemory (c .f) (now m) ≡ true)
         × (1 ≤ c .number) × (c .number ≤ 6) × (1 ≤ k) × (k ≤ size (c .f)) ⌝ }
-    ensures { λ o. ⌜ outcome.after o (now (m .exit)) ≡ outcome.takenOf (c .number) (c .f) (now (m .entry)) k x ⌝ }
+    ensures { λ o. ⌜ outcome.after o (now (m .exit))
+        ≡ outcome.takenOf (c .number) (c .f) (now (m .entry)) k x ⌝ }
 {
     let t = taken(c, k, x, &mut m[REPLIES..]);
     let next = t.client;
@@ -460,10 +454,10 @@ pub fn would_send(c: Client, k: u8, x: Message, m: &[u64]) -> Sends
 // An idle client starts in a phase. What the servers replied to it is empty, so only the head is stored.
 fn start(c: Client, ph: Phase, m: &mut [u64]) -> Outcome
     requires { ⌜ (c ≡ loaded (c .number) (c .f) (now m)) × (isSoundMemory (c .f) (now m) ≡ true)
-        × (isIdle (c .phase) ≡ true) × (c .reads .0 < highest) ⌝ }
+        × (isIdle (c .phase) ≡ true) × (c .reads .0 < lastRead) ⌝ }
     ensures { λ o. ⌜ outcome.after o (now (m .exit)) ≡ outcome.startedOf (now (m .entry)) ph ⌝ }
 {
-    let next = ReadNumber(c.reads.0 + 1);
+    let next = message::next_read(c.reads);
     let x = Client {
         number: c.number,
         f: c.f,
@@ -492,7 +486,7 @@ fn is_sound_counter(code: u64, w: u64) -> bool
     ensures { λ b. ⌜ b ≡ isSoundCounter code w ⌝ }
 {
     if code == STORES {
-        return w < NUMBERS;
+        return message::fits_counter(w);
     }
     w < 1
 }
@@ -517,7 +511,7 @@ pub fn is_sound(f: u8, m: &[u64]) -> bool
     if m.len() != WORDS {
         return false;
     }
-    if NUMBERS <= m[READS] {
+    if !message::fits_read(m[READS]) {
         return false;
     }
     let code = m[PHASE];
@@ -577,7 +571,7 @@ pub fn read(number: u8, f: u8, m: &mut [u64]) -> Outcome
     if !is_idle(ph) {
         return refuse(Refusal::Busy);
     }
-    if HIGHEST <= c.reads.0 {
+    if message::is_last_read(c.reads) {
         return refuse(Refusal::Exhausted);
     }
     start(c, Phase::Reading, m)
@@ -601,7 +595,7 @@ pub fn write(number: u8, f: u8, e: Entry, m: &mut [u64]) -> Outcome
     if !licence::is_licence(e.0) {
         return refuse(Refusal::NoEntry);
     }
-    if HIGHEST <= c.reads.0 {
+    if message::is_last_read(c.reads) {
         return refuse(Refusal::Exhausted);
     }
     start(c, Phase::ReadingForWrite(e), m)
@@ -611,19 +605,22 @@ pub fn write(number: u8, f: u8, e: Entry, m: &mut [u64]) -> Outcome
 pub fn is_reply(m: Message) -> bool
     ensures { λ b. ⌜ b ≡ isReply (Unpacked.Good m) ⌝ }
 {
-    match m {
-        Message::GetInfo(_) => false,
-        Message::Info(_, _) => true,
-        Message::Done => false,
-        Message::WriteInfo(_) => false,
-        Message::Fwd(_) => true,
-        Message::WriteAck(_) => true,
+    if let Message::Info(_, _) = m {
+        return true;
     }
+    if let Message::Fwd(_) = m {
+        return true;
+    }
+    let Message::WriteAck(_) = m else {
+        return false;
+    };
+    true
 }
 
 // Client `number` takes bytes from server k.
 pub fn take(number: u8, f: u8, k: u8, bytes: &[u8], m: &mut [u64]) -> Outcome
-    ensures { λ o. ⌜ outcome.after o (now (m .exit)) ≡ takeOf number f (now (m .entry)) k (now (bytes .entry)) ⌝ }
+    ensures { λ o. ⌜ outcome.after o (now (m .exit))
+        ≡ takeOf number f (now (m .entry)) k (now (bytes .entry)) ⌝ }
 {
     if !is_sound(f, m) {
         return refuse(Refusal::Unsound);

@@ -1,3 +1,4 @@
+-- A reader of the public contracts needs none of it.
 -- Upper-case hexadecimal digits.
 use Prim.Native.Nat.{ℕ, _+_}
 use mathlib.Core.Bool.{cond}

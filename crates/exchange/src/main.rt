@@ -1,9 +1,10 @@
-// Drives client 1 and 3f + 1 servers, and then clients 1 and 2, each with f = 0 and f = 1, through writes and reads with the
-// proved ends alone, and prints each message as it is sent and each outcome. With two clients and f = 1 server 4 takes
-// nothing, so that n - f have to be enough.
+// Drives client 1 and 3f + 1 servers, and then clients 1 and 2, each with f = 0 and f = 1, through writes and
+// reads with the proved ends alone, and prints each message as it is sent and each outcome. With two clients
+// and f = 1 server 4 takes nothing, so that n - f have to be enough.
 //
-// `tests/exchange_oracle.py` works the same lines out from 01, and `stdout` is what it wrote. That comparison says that the
-// lines are right; what is proved here is only that the program never stops short: its contracts are what its places ask.
+// `tests/exchange_oracle.py` works the same lines out from 01, and `stdout` is what it wrote. That comparison
+// says that the lines are right; what is proved here is only that the program never stops short: its
+// contracts are what its places ask.
 ghost use Prim.Native.Nat.{_+_, _<_, _≤_};
 
 mod print;
@@ -27,8 +28,9 @@ const FIRST: u64 = 0x7E_82E8_0141;
 
 const SECOND: u64 = 0x7E_C2E8_0141;
 
-// Four servers and two clients: the memory that they are lent, and the messages that each client sent, which are the same for
-// every server. With f = 0 only the first server is there. Clients, servers and messages are counted from 0.
+// Four servers and two clients: the memory that they are lent, and the messages that each client sent, which
+// are the same for every server. With f = 0 only the first server is there. Clients, servers and messages are
+// counted from 0.
 struct Group {
     servers: [u64; 8],
     clients: [u64; 190],
@@ -227,8 +229,8 @@ fn serve_each(g: Group, i: usize, j: usize, a: usize, b: usize) -> Group
     h
 }
 
-// ---- who reads and writes when, and which servers take which message. A client never has its own write forwarded: on each
-// channel its WRITE_INFO comes behind its DONE. So client 2 reads while client 1 writes.
+// ---- who reads and writes when, and which servers take which message. A client never has its own write
+// forwarded: on each channel its WRITE_INFO comes behind its DONE. So client 2 reads while client 1 writes.
 
 // Client 1 writes: GET_INFO, which is its message j, DONE and WRITE_INFO reach the servers that work.
 fn whole_write(g: Group, entry: u64, j: usize, live: usize) -> Group
@@ -267,8 +269,8 @@ fn other_read(g: Group, live: usize) -> Group
     serve_each(a, 1, 0, 0, live)
 }
 
-// Client 1 writes again, and client 2 starts to read before server 1 takes the WRITE_INFO. The server still has client 2 as a
-// reader: the forward is taken before any INFO.
+// Client 1 writes again, and client 2 starts to read before server 1 takes the WRITE_INFO. The server still
+// has client 2 as a reader: the forward is taken before any INFO.
 fn second_write(g: Group, live: usize) -> Group
     requires { ⌜ live ≤ 4 ⌝ }
 {
@@ -279,7 +281,8 @@ fn second_write(g: Group, live: usize) -> Group
     serve_each(d, 0, 7, 0, 1)
 }
 
-// The read goes on. With f = 1 no pair counts until server 2 forwards the write, and what server 3 forwards is dropped.
+// The read goes on. With f = 1 no pair counts until server 2 forwards the write, and what server 3 forwards
+// is dropped.
 fn last_read(g: Group, live: usize)
     requires { ⌜ live ≤ 4 ⌝ }
 {

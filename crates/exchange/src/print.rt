@@ -67,7 +67,7 @@ fn print_entry(e: u64) {
 }
 
 fn print_pair(word: &[u8], p: Pair) {
-    print_name(word, message::counter_of(p).0 as u64);
+    print_name(word, message::counter_word(message::counter_of(p)));
     print_name(b" ", message::client_of(p) as u64);
     io::write_all(1, b" ");
     print_entry(message::entry_of(p).0);

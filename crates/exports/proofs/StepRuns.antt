@@ -18,9 +18,10 @@ use Rattle.steps.specs.Inner.{After}
 use Rattle.system.specs.declared.setup.Setup.{Setup}
 use Rattle.system.specs.declared.setup.Setup.the-variants.{Set, Refused}
 use Rattle.system.specs.Run.{stepIn, stepsIn, putAnswer, Run, Outcome}
-use Rattle.system.specs.Step.{stepped, storedBy, eventIn}
+use Rattle.system.specs.Step.{stepped, storedBy}
 use Rattle.system.proofs.Histories.{stored-stepped}
 use Rattle.system.proofs.RunLaws.{run-more, well-at}
+use Rattle.system.proofs.Turn.{eventIn}
 use Rattle.exports.specs.Runs.{answersOf}
 
 module _ (t : Settings) (allowed : Allowed t) (xs : List ℕ) (n : ℕ) (out : List ℕ) (i : ℕ) (h : i < n) where
@@ -31,7 +32,8 @@ module _ (t : Settings) (allowed : Allowed t) (xs : List ℕ) (n : ℕ) (out : L
     step-stored : stepped t s c b x ≡ storedBy t w (eventIn t w (stepIn xs i))
     step-stored =
         (λ q. stepped t (run .stored .servers q) (run .stored .clients q) (run .stored .slots q) (is q))
-        ∙ stored-stepped t allowed w (well-at (settingsOf t) (allowed .accepted) (stepsIn xs n) i) (stepIn xs i)
+        ∙ stored-stepped t allowed w
+        (well-at (settingsOf t) (allowed .accepted) (stepsIn xs n) i) (stepIn xs i)
 
     pub step-more : (o : After) (new : List ℕ) → o ≡ stepped t s c b x → new ≡ putAnswer old i (o .answer)
         → Run t xs out n (i + 1) (o .servers) (o .clients) (o .slots) new

@@ -1,23 +1,24 @@
--- A message in five numbers, kind, tag, counter, client and entry, and what packing and unpacking answer in numbers.
+-- A message in five numbers, kind, tag, counter, client and entry, and what packing and unpacking answer in
+-- numbers.
 --
--- In order: the message of five numbers; the five numbers of a message; packing; unpacking. An answer is 0, or the refusal's
--- number, and what is refused leaves lent memory as it was.
+-- In order: the message of five numbers; the five numbers of a message; packing; unpacking. An answer is 0,
+-- or the refusal's number, and what is refused leaves lent memory as it was.
 -- Assumes nothing.
 use Prim.Native.Nat.{ℕ, _^_}
 use mathlib.Core.Bool.{Bool, cond}
 use mathlib.Core.List.{List, [], _∷_}
 use lib.Dec.{ltb}
 use lib.ListN.{getD}
-use Rattle.basics.specs.Tests.{all}
-use Rattle.refusal.specs.declared.Refusal.the-variants.{Malformed}
+use Rattle.basics.specs.Tests.{allPass}
 use Rattle.refusal.specs.Numbers.{numberOf}
 use Rattle.message.specs.declared.Message.{Message}
 use Rattle.message.specs.declared.Message.the-variants as kinds
 use Rattle.message.specs.declared.Packed.{Packed}
 use Rattle.message.specs.declared.Packed.the-variants as packed
 use Rattle.message.specs.declared.Unpacked.{Unpacked}
-use Rattle.message.specs.declared.Unpacked.the-variants.{Good, Bad}
-use Rattle.message.specs.Layout.{kindBits, tagBits, counterBits, clientBits, entryBits, joined, messageOf}
+use Rattle.message.specs.declared.Unpacked.the-variants.{Good, Refused}
+use Rattle.message.specs.Layout.{kindBits, tagBits, counterBits, clientBits, entryBits, joined, misprint}
+use Rattle.message.specs.Layout.{messageOf}
 use Rattle.message.specs.Packing.{packAnswer, packLeaves}
 use Rattle.message.specs.Pair.{counter, client, entry}
 
@@ -33,7 +34,7 @@ widthTests k t c d e =
     ∷ []
 
 unfoldable pub messageBy : ℕ → ℕ → ℕ → ℕ → ℕ → Unpacked
-messageBy k t c d e = cond (all (widthTests k t c d e)) (messageOf (joined k t c d e)) Bad
+messageBy k t c d e = cond (allPass (widthTests k t c d e)) (messageOf (joined k t c d e)) misprint
 
 abbrev pub messageIn : List ℕ → Unpacked
 messageIn l = messageBy (getD l 0 0) (getD l 1 0) (getD l 2 0) (getD l 3 0) (getD l 4 0)
@@ -56,18 +57,18 @@ packNumber (packed.Refused n) = numberOf n
 
 abbrev pub packedNumber : Unpacked → List ℕ → ℕ
 packedNumber (Good m) out = packNumber (packAnswer m out)
-packedNumber Bad out = numberOf Malformed
+packedNumber (Refused r) out = numberOf r
 
 abbrev pub packedBytes : Unpacked → List ℕ → List ℕ
 packedBytes (Good m) out = packLeaves m out
-packedBytes Bad out = out
+packedBytes (Refused r) out = out
 
 -- ---- unpacking
 
 abbrev pub unpackedNumber : Unpacked → ℕ
 unpackedNumber (Good m) = 0
-unpackedNumber Bad = numberOf Malformed
+unpackedNumber (Refused r) = numberOf r
 
 abbrev pub unpackedFields : Unpacked → List ℕ → List ℕ
 unpackedFields (Good m) fields = fieldsOf m
-unpackedFields Bad fields = fields
+unpackedFields (Refused r) fields = fields

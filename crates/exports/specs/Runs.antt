@@ -20,7 +20,8 @@ setupNumber (Refused n) = numberOf n
 abbrev pub answersBy : Settings → List ℕ → ℕ → List ℕ → List ℕ
 answersBy t xs n out = answered (answerAt (settingsOf t) formats (stepsIn xs n)) out n
 
--- after an accepted setup the answers of all steps that both have room for; a refused one leaves memory as it was
+-- after an accepted setup the answers of all steps that both have room for; a refused one leaves memory as it
+-- was
 abbrev pub answersOf : Setup → List ℕ → List ℕ → List ℕ
 answersOf (Set t) xs out = answersBy t xs (howMany xs out) out
 answersOf (Refused n) xs out = out

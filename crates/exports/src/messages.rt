@@ -1,23 +1,23 @@
-// Packing and unpacking. A message is five numbers: kind, tag, counter, client, entry (01, section 'Message').
+// Packing and unpacking. A message is five numbers: kind, tag, counter, client, entry (01, section
+// 'Message').
 ghost use mathlib.Core.Path.{_≡_};
 ghost use Rattle.message.specs.Layout.{unpackOf};
-ghost use Rattle.exports.specs.Fields.{messageBy, messageIn, fieldsOf, packNumber, packedNumber, packedBytes};
+ghost use Rattle.exports.specs.Fields.{messageBy, messageIn, fieldsOf, packNumber, packedNumber};
+ghost use Rattle.exports.specs.Fields.{packedBytes};
 ghost use Rattle.exports.specs.Fields.{unpackedNumber, unpackedFields};
 use message::Entry;
 use message::Message;
 use message::Packed;
 use message::Unpacked;
 use message::Words;
-use message::WriteCounter;
 use message::client_of;
 use message::counter_of;
+use message::counter_word;
 use message::entry_of;
 use refusal::Refusal;
 
 // The first numbers over the widths of the fields.
 const OVER_KIND: u64 = 16;
-
-const OVER_TWENTY: u64 = 0x10_0000;
 
 const OVER_CLIENT: u64 = 16;
 
@@ -31,21 +31,21 @@ fn message_of(kind: u64, tag: u64, counter: u64, client: u64, entry: u64) -> Unp
     ensures { λ r. ⌜ r ≡ messageBy kind tag counter client entry ⌝ }
 {
     if OVER_KIND <= kind {
-        return Unpacked::Bad;
+        return Unpacked::Refused(Refusal::Malformed);
     }
-    if OVER_TWENTY <= tag {
-        return Unpacked::Bad;
+    if !message::fits_read(tag) {
+        return Unpacked::Refused(Refusal::Malformed);
     }
-    if OVER_TWENTY <= counter {
-        return Unpacked::Bad;
+    if !message::fits_counter(counter) {
+        return Unpacked::Refused(Refusal::Malformed);
     }
     if OVER_CLIENT <= client {
-        return Unpacked::Bad;
+        return Unpacked::Refused(Refusal::Malformed);
     }
     if OVER_ENTRY <= entry {
-        return Unpacked::Bad;
+        return Unpacked::Refused(Refusal::Malformed);
     }
-    let p = message::pair_of(WriteCounter(counter as u32), client as u8, Entry(entry));
+    let p = message::pair_of(message::counter_from(counter), client as u8, Entry(entry));
     message::of_words(Words(((kind as u32) << KIND_AT) | (tag as u32), p.0))
 }
 
@@ -54,11 +54,11 @@ fn fields_of(m: Message) -> [u64; 5]
     ensures { λ r. ⌜ r ≡ fieldsOf m ⌝ }
 {
     match m {
-        Message::GetInfo(n) => [1, n.0 as u64, 0, 0, 0],
+        Message::GetInfo(n) => [1, message::read_word(n), 0, 0, 0],
         Message::Info(n, p) => [
             2,
-            n.0 as u64,
-            counter_of(p).0 as u64,
+            message::read_word(n),
+            counter_word(counter_of(p)),
             client_of(p) as u64,
             entry_of(p).0,
         ],
@@ -66,18 +66,18 @@ fn fields_of(m: Message) -> [u64; 5]
         Message::WriteInfo(p) => [
             4,
             0,
-            counter_of(p).0 as u64,
+            counter_word(counter_of(p)),
             client_of(p) as u64,
             entry_of(p).0,
         ],
         Message::Fwd(p) => [
             5,
             0,
-            counter_of(p).0 as u64,
+            counter_word(counter_of(p)),
             client_of(p) as u64,
             entry_of(p).0,
         ],
-        Message::WriteAck(c) => [6, 0, c.0 as u64, 0, 0],
+        Message::WriteAck(c) => [6, 0, counter_word(c), 0, 0],
     }
 }
 
@@ -91,28 +91,32 @@ fn pack_number(p: Packed) -> u32
     }
 }
 
-// Packs five numbers into the first eleven bytes of out. Answers 0, or the refusal's number (9, then 13) and leaves out as it is.
+// Packs five numbers into the first eleven bytes of out. Answers 0, or the refusal's number (9, then 13) and
+// leaves out as it is.
 #[no_mangle]
 pub extern "C" fn exports_pack(fields: &[u64; 5], out: &mut [u8]) -> u32
     ensures answer { λ r. ⌜ r ≡ packedNumber (messageIn (now (fields .entry))) (now (out .entry)) ⌝ }
-    ensures bytes { λ r. ⌜ now (out .exit) ≡ packedBytes (messageIn (now (fields .entry))) (now (out .entry)) ⌝ }
+    ensures bytes { λ r. ⌜ now (out .exit)
+        ≡ packedBytes (messageIn (now (fields .entry))) (now (out .entry)) ⌝ }
 {
     let u = message_of(fields[0], fields[1], fields[2], fields[3], fields[4]);
     match u {
-        Unpacked::Bad => refusal::number(Refusal::Malformed) as u32,
+        Unpacked::Refused(r) => refusal::number(r) as u32,
         Unpacked::Good(m) => pack_number(message::pack(m, out)),
     }
 }
 
-// Unpacks eleven bytes into five numbers. Answers 0, or the refusal's number (9) and leaves fields as they were.
+// Unpacks eleven bytes into five numbers. Answers 0, or the refusal's number (9) and leaves fields as they
+// were.
 #[no_mangle]
 pub extern "C" fn exports_unpack(bytes: &[u8], fields: &mut [u64; 5]) -> u32
     ensures answer { λ r. ⌜ r ≡ unpackedNumber (unpackOf (now (bytes .entry))) ⌝ }
-    ensures fields { λ r. ⌜ now (fields .exit) ≡ unpackedFields (unpackOf (now (bytes .entry))) (now (fields .entry)) ⌝ }
+    ensures fields { λ r. ⌜ now (fields .exit)
+        ≡ unpackedFields (unpackOf (now (bytes .entry))) (now (fields .entry)) ⌝ }
 {
     let u = message::unpack(bytes);
     match u {
-        Unpacked::Bad => refusal::number(Refusal::Malformed) as u32,
+        Unpacked::Refused(r) => refusal::number(r) as u32,
         Unpacked::Good(m) => {
             *fields = fields_of(m);
             0

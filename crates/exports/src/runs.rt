@@ -3,17 +3,22 @@ ghost use mathlib.Core.Path.{_≡_};
 ghost use mathlib.Core.Bool.{true};
 ghost use lib.ListN.{length};
 ghost use Prim.Native.Nat.{_*_, _≤_};
+ghost use Rattle.register.specs.World.{newWorld};
 ghost use Rattle.state.specs.Sound.{areAllowed};
+ghost use Rattle.system.specs.Run.{Run};
 ghost use Rattle.system.specs.Setup.{setupOf};
-ghost use Rattle.exports.specs.Runs.{setupNumber, answersBy, answersOf};
+ghost use Rattle.system.specs.Stored.{Stored};
+ghost use Rattle.exports.specs.Runs.{setupNumber, answersOf};
 use basics::least;
+use channel::Slots;
+use state::Clients;
+use state::Servers;
 use state::Settings;
 use system::run::run;
 use system::run::step_in;
 use system::run::write_answer;
 use system::setup::Setup;
 use system::setup::set_up;
-use system::setup::settings_of;
 use system::step::step;
 
 // The numbers of a step, and of an answer.
@@ -32,23 +37,30 @@ fn setup_number(setup: Setup) -> u32
 }
 
 // The steps one after the other through `step`, which tests the whole state each time.
-fn step_through(t: Settings, steps: &[u64], n: usize, out: &mut [u64])
-    requires { ⌜ (areAllowed t ≡ true) × (n * 5 ≤ length (now steps)) × (n * 2 ≤ length (now out)) ⌝ }
-    ensures { λ z. ⌜ now (out .exit) ≡ answersBy t (now (steps .entry)) n (now (out .entry)) ⌝ }
+fn step_through(
+    t: Settings,
+    steps: &[u64],
+    n: usize,
+    out: &mut [u64],
+    s: &mut Servers,
+    c: &mut Clients,
+    b: &mut Slots,
+)
+    requires { ⌜ (areAllowed t ≡ true) × Stored newWorld (now s) (now c) (now b)
+        × (n * 5 ≤ length (now steps)) × (n * 2 ≤ length (now out)) ⌝ }
+    ensures { λ _. ⌜ Run t (now (steps .entry)) (now (out .entry)) n n
+        (now (s .exit)) (now (c .exit)) (now (b .exit)) (now (out .exit)) ⌝ }
 {
-    let mut s = [0u64; 26];
-    let mut c = [0u64; 571];
-    let mut b = channel::empty_slots();
-    set_up(&mut s, &mut c, &mut b);
     let mut i = 0;
     while i < n {
-        let a = step(t, step_in(steps, i), &mut s, &mut c, &mut b);
+        let a = step(t, step_in(steps, i), s, c, b);
         write_answer(out, i, a);
         i += 1;
     }
 }
 
-// A run by `run`: its state stays its own, so that no step needs to test it. Answers 0, or the number of the setup's refusal.
+// A run by `run`: its state stays its own, so that no step needs to test it. Answers 0, or the number of the
+// setup's refusal.
 #[no_mangle]
 pub extern "C" fn exports_run(
     f: u32,
@@ -58,7 +70,8 @@ pub extern "C" fn exports_run(
     out: &mut [u64],
 ) -> u32
     ensures answer { λ z. ⌜ z ≡ setupNumber (setupOf f clients faulty) ⌝ }
-    ensures answers { λ z. ⌜ now (out .exit) ≡ answersOf (setupOf f clients faulty) (now (steps .entry)) (now (out .entry)) ⌝ }
+    ensures answers { λ z. ⌜ now (out .exit)
+        ≡ answersOf (setupOf f clients faulty) (now (steps .entry)) (now (out .entry)) ⌝ }
 {
     let mut s = [0u64; 26];
     let mut c = [0u64; 571];
@@ -76,14 +89,18 @@ pub extern "C" fn exports_run_by_steps(
     out: &mut [u64],
 ) -> u32
     ensures answer { λ z. ⌜ z ≡ setupNumber (setupOf f clients faulty) ⌝ }
-    ensures answers { λ z. ⌜ now (out .exit) ≡ answersOf (setupOf f clients faulty) (now (steps .entry)) (now (out .entry)) ⌝ }
+    ensures answers { λ z. ⌜ now (out .exit)
+        ≡ answersOf (setupOf f clients faulty) (now (steps .entry)) (now (out .entry)) ⌝ }
 {
-    let setup = settings_of(f, clients, faulty);
+    let mut s = [0u64; 26];
+    let mut c = [0u64; 571];
+    let mut b = channel::empty_slots();
+    let setup = set_up(f, clients, faulty, &mut s, &mut c, &mut b);
     match setup {
         Setup::Refused(n) => refusal::number(n) as u32,
         Setup::Set(t) => {
             let n = least(steps.len() / STEP, out.len() / ANSWER);
-            step_through(t, steps, n, out);
+            step_through(t, steps, n, out, &mut s, &mut c, &mut b);
             0
         }
     }

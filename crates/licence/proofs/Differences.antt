@@ -1,7 +1,7 @@
 -- The difference of two natural numbers as a signed number.
 --
--- Its sign is their order (`diff-negative`, `diff-positive`, `diff-same`, `diff-zero`). Where both are below 2 ^ 31 it lies
--- between −2 ^ 31 and 2 ^ 31, so it fits 32 bits (`diff-fits`) and is kept whole (`diff-is`).
+-- Its sign is their order (`diff-negative`, `diff-positive`, `diff-same`, `diff-zero`). Where both are below
+-- 2 ^ 31 it lies between −2 ^ 31 and 2 ^ 31, so it fits 32 bits (`diff-fits`) and is kept whole (`diff-is`).
 -- Assumes nothing.
 use mathlib.Core.Path.{_≡_, _∙_, ap}
 use mathlib.Core.Bool.{Bool, true, false, cond}

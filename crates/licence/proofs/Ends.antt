@@ -1,5 +1,5 @@
--- The end of a licence is a real date (`end-real`), so the calendar numbers it; and where the calendar gives no number, there is
--- no real date (`not-numbered`).
+-- The end of a licence is a real date (`end-real`), so the calendar numbers it; and where the calendar gives
+-- no number, there is no real date (`not-numbered`).
 -- Assumes nothing.
 use mathlib.Core.Path.{_≡_}
 use mathlib.Core.Bool.{true, false}
@@ -20,7 +20,9 @@ use Rattle.licence.proofs.Entries.{entry-fields}
 pub end-real : (e : ℕ) → isLicence e ≡ true → isReal (endOf (fieldsOf e)) ≡ true
 end-real e p = real-date (licensed (fieldsOf e) (entry-fields e p) .date)
 
-pub not-numbered : (year month day : ℕ) (r : Refusal) → dayNumber year month day ≡ Refused r → isDate year month day ≡ false
+pub not-numbered : (year month day : ℕ) (r : Refusal) → dayNumber year month day ≡ Refused r
+    → isDate year month day ≡ false
 not-numbered year month day r e =
     by-test (isDate year month day)
-    (λ yes. absurd (let n = day-given year month day yes in let z : _≡_ {A = ℕ} 0 1 = cc in omega arith)) (λ no. no)
+    (λ yes. absurd (let n = day-given year month day yes in let z : _≡_ {A = ℕ} 0 1 = cc in omega arith))
+    (λ no. no)

@@ -1,8 +1,9 @@
--- What a licence entry is: forty bits with the fields of a licence; and joining and splitting are inverse on entries.
+-- What a licence entry is: forty bits with the fields of a licence; and joining and splitting are inverse on
+-- entries.
 --
--- An entry is below 2 ^ 40 (`is-licence-small`) and its fields are a licence's (`entry-fields`), and both make it one
--- (`is-licence-of`). So splitting an entry and joining gives it back (`join-of-split`), and joining gives a licence entry whose
--- fields are those joined (`split-of-join`).
+-- An entry is below 2 ^ 40 (`is-licence-small`) and its fields are a licence's (`entry-fields`), and both
+-- make it one (`is-licence-of`). So splitting an entry and joining gives it back (`join-of-split`), and
+-- joining gives a licence entry whose fields are those joined (`split-of-join`).
 -- Assumes nothing.
 use mathlib.Core.Path.{_≡_, _∙_, ap, sym}
 use mathlib.Core.Bool.{true}
@@ -11,7 +12,7 @@ use native.Mathlib.Omega.{arith}
 use lib.Dec.{ltb}
 use borrow.Author.Tests.{ltb-true, lt-ltb}
 use Rattle.basics.proofs.Cases.{by-test, both, both-of}
-use Rattle.refusal.specs.declared.Refusal.the-variants.{NoEntry}
+use Rattle.refusal.specs.Numbers.{numbered}
 use Rattle.licence.specs.declared.Fields.{Fields}
 use Rattle.licence.specs.declared.Joined.{Joined}
 use Rattle.licence.specs.Entry.{fieldsOf, joined, isLicensed, isLicence, joinedOf}
@@ -47,7 +48,9 @@ unfolding joinedOf
 split-of-join f e h p =
     by-test (isLicensed f)
     (λ yes. let q : Joined.Entry (joined f) ≡ Joined.Entry e = rw yes at p in
-    let same : joined f ≡ e = cc in
-    (sym (ap isLicence same) ∙ joined-licence f yes h, sym (ap fieldsOf same) ∙ split-join f (narrow f yes h)))
-    (λ no. let q : Joined.Refused NoEntry ≡ Joined.Entry e = rw no at p in
+    let same : joined f ≡ e = cc in (
+      sym (ap isLicence same) ∙ joined-licence f yes h,
+      sym (ap fieldsOf same) ∙ split-join f (narrow f yes h),
+    ))
+    (λ no. let q : Joined.Refused (numbered 8) ≡ Joined.Entry e = rw no at p in
     absurd (let z : _≡_ {A = ℕ} 0 1 = cc in omega arith))

@@ -1,7 +1,8 @@
 -- The rules of renewal that C-12 and C-16 change: which day is kept, and how many years 0 means.
 --
--- The end's day stays (`day-stays`), but 29 February becomes the 28th in a year without it (`day-falls`); either way it is a day
--- of its month in the new year, since only February's length depends on the year (`kept-real`).
+-- The end's day stays (`day-stays`), but 29 February becomes the 28th in a year without it (`day-falls`);
+-- either way it is a day of its month in the new year, since only February's length depends on the year
+-- (`kept-real`).
 -- Assumes nothing.
 use mathlib.Core.Path.{_≡_, refl, _∙_, ap}
 use mathlib.Core.Bool.{Bool, true, false, cond, _&&_}
@@ -47,7 +48,8 @@ module _ (f : Fields) (y : ℕ) where
   unfolding keptDay
   day-stays h =
       by-test (eqb (f .month) 2)
-      (λ m. by-test (eqb (f .day) 29) (λ d. absurd (h (eqb-true _ _ m) (eqb-true _ _ d))) (λ d. rw (m, d))) (λ m. rw m)
+      (λ m. by-test (eqb (f .day) 29) (λ d. absurd (h (eqb-true _ _ m) (eqb-true _ _ d))) (λ d. rw (m, d)))
+      (λ m. rw m)
 
   -- and 29 February stays where the year has one
   pub day-stays-leap : leap y ≡ true → keptDay f y ≡ f .day

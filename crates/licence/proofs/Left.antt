@@ -1,9 +1,9 @@
 -- Days left by the order of dates: 0 on the last day, positive before it, negative after it.
 --
--- Where there is an answer, the entry is a licence and the day a date, and the answer is the difference of the two day numbers
--- (`left-of`). The sign of a difference is the order of the two numbers (`Differences`), and day numbers keep the order of dates
--- both ways and are one to one (crate `calendar`). So the sign is the order of the dates (`on-last-day`, `before-end`,
--- `after-end`).
+-- Where there is an answer, the entry is a licence and the day a date, and the answer is the difference of
+-- the two day numbers (`left-of`). The sign of a difference is the order of the two numbers (`Differences`),
+-- and day numbers keep the order of dates both ways and are one to one (crate `calendar`). So the sign is the
+-- order of the dates (`on-last-day`, `before-end`, `after-end`).
 -- Assumes nothing.
 use mathlib.Core.Path.{_≡_, _∙_, ap, sym}
 use mathlib.Core.Bool.{true, false, _&&_}
@@ -14,7 +14,7 @@ use lib.IntN.{ℤ, pos, _-ℤ_}
 use lib.Signed.{ltZ}
 use borrow.Author.Tests.{ltb-true, lt-ltb}
 use Rattle.basics.proofs.Cases.{by-test, both}
-use Rattle.refusal.specs.declared.Refusal.the-variants.{NoEntry}
+use Rattle.refusal.specs.Numbers.{numbered}
 use Rattle.calendar.specs.Calendar.{isDate}
 use Rattle.calendar.specs.Order.{Date, date, isReal, number, earlier}
 use Rattle.calendar.proofs.Order.{order-kept, order-back, one-to-one}
@@ -37,7 +37,8 @@ module _ (e year month day : ℕ) where
   unfolding daysLeft
   left-given p q = rw (p, q)
 
-  pub left-refused : isLicence e && isDate year month day ≡ false → daysLeft e year month day ≡ DaysLeft.Refused NoEntry
+  pub left-refused : isLicence e && isDate year month day ≡ false
+      → daysLeft e year month day ≡ DaysLeft.Refused (numbered 8)
   unfolding daysLeft
   left-refused f = rw f
 
@@ -71,14 +72,16 @@ module _ (e year month day : ℕ) where
 
     pub before-end : ltZ (pos 0) n ≡ true ↔ earlier today end ≡ true
     before-end =
-        let sign = ap (λ (z : ℤ). ltZ (pos 0) z) (left-of n a .is) ∙ diff-positive (number end) (number today) in (
+        let is = ap (λ (z : ℤ). ltZ (pos 0) z) (left-of n a .is) in
+        let sign = is ∙ diff-positive (number end) (number today) in (
           λ h. order-back today end today-is-real end-is-real (ltb-true _ _ (sym sign ∙ h)),
           λ o. sign ∙ lt-ltb _ _ (order-kept today end today-is-real end-is-real o),
         )
 
     pub after-end : ltZ n (pos 0) ≡ true ↔ earlier end today ≡ true
     after-end =
-        let sign = ap (λ (z : ℤ). ltZ z (pos 0)) (left-of n a .is) ∙ diff-negative (number end) (number today) in (
+        let is = ap (λ (z : ℤ). ltZ z (pos 0)) (left-of n a .is) in
+        let sign = is ∙ diff-negative (number end) (number today) in (
           λ h. order-back end today end-is-real today-is-real (ltb-true _ _ (sym sign ∙ h)),
           λ o. sign ∙ lt-ltb _ _ (order-kept end today end-is-real today-is-real o),
         )

@@ -1,7 +1,8 @@
 -- What the fields of a licence are, by their bounds.
 --
--- The tests of `isLicensed` all pass exactly when the date is real and the state is one of the three (`licensed`, `licensed-of`).
--- So every field but the copies is within its width, and the copies are if they have 16 bits (`narrow`).
+-- The tests of `isLicensed` all pass exactly when the date is real and the state is one of the three
+-- (`licensed`, `licensed-of`). So every field but the copies is within its width, and the copies are if they
+-- have 16 bits (`narrow`).
 -- Assumes nothing.
 use mathlib.Core.Path.{_≡_}
 use mathlib.Core.Bool.{true, _&&_}

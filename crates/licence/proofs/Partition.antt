@@ -1,7 +1,8 @@
 -- Every number is exactly one of a licence entry, the empty entry, and no entry.
 --
--- The empty entry has no real date, so it is no licence (`empty-is-none`); hence the three answers of `kindOf` are given exactly
--- to the licence entries (`licence-kind`), to the empty entry (`empty-kind`) and to all that are neither (`nothing-kind`).
+-- The empty entry has no real date, so it is no licence (`empty-is-none`); hence the three answers of
+-- `kindOf` are given exactly to the licence entries (`licence-kind`), to the empty entry (`empty-kind`) and
+-- to all that are neither (`nothing-kind`).
 -- Assumes nothing.
 use mathlib.Core.Path.{_≡_, refl, _∙_, ap}
 use mathlib.Core.Bool.{true, false}

@@ -1,8 +1,9 @@
 -- The laws of renewal that callers go by.
 --
--- A licence's fields, moved to a year of the calendar, are a licence's (`later-licensed`): the date stays real (`Kept`) and the
--- state is kept. So a renewed licence is a licence entry whose year is later by the span, with month, copies and state kept and
--- the day by the rule (`renewed`). What may not be renewed is refused, and nothing else (`renewed-when`, `refused-when`).
+-- A licence's fields, moved to a year of the calendar, are a licence's (`later-licensed`): the date stays
+-- real (`Kept`) and the state is kept. So a renewed licence is a licence entry whose year is later by the
+-- span, with month, copies and state kept and the day by the rule (`renewed`). What may not be renewed is
+-- refused, and nothing else (`renewed-when`, `refused-when`).
 -- Assumes nothing.
 use mathlib.Core.Path.{_≡_, _∙_, ap, subst}
 use mathlib.Core.Bool.{true, false, _&&_}
@@ -11,7 +12,7 @@ use native.Mathlib.Omega.{arith}
 use lib.Dec.{leb}
 use borrow.Author.Tests.{le-leb, leb-true}
 use Rattle.basics.proofs.Cases.{by-test, both, both-of}
-use Rattle.refusal.specs.declared.Refusal.the-variants.{NoEntry}
+use Rattle.refusal.specs.Numbers.{numbered}
 use Rattle.licence.specs.declared.Fields.{Fields}
 use Rattle.licence.specs.declared.Renewal.{Renewal}
 use Rattle.licence.specs.Entry.{fieldsOf, joined, isLicensed, isLicence, Narrow}
@@ -75,7 +76,7 @@ module _ (e years : ℕ) where
   unfolding renewedOf
   renewed-when t = rw t
 
-  pub refused-when : isRenewable e years ≡ false → renewedOf e years ≡ Renewal.Refused NoEntry
+  pub refused-when : isRenewable e years ≡ false → renewedOf e years ≡ Renewal.Refused (numbered 8)
   unfolding renewedOf
   refused-when f = rw f
 
@@ -112,6 +113,7 @@ module _ (e years : ℕ) where
       (λ f. let b = refused-when f in absurd (let z : _≡_ {A = ℕ} 0 1 = cc in omega arith))
 
 -- the day stays, but for 29 February
-pub renewed-day : (e years r : ℕ) → renewedOf e years ≡ Renewal.Entry r → (fieldsOf e .month ≡ 2 → fieldsOf e .day ≡ 29 → ⊥)
+pub renewed-day : (e years r : ℕ) → renewedOf e years ≡ Renewal.Entry r
+    → (fieldsOf e .month ≡ 2 → fieldsOf e .day ≡ 29 → ⊥)
     → fieldsOf r .day ≡ fieldsOf e .day
 renewed-day e years r a other = renewed e years r a .day ∙ day-stays (fieldsOf e) _ other

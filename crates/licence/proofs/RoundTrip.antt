@@ -1,8 +1,8 @@
 -- Joining and splitting undo each other on numbers of forty bits and on fields within their widths.
 --
--- The five fields of a number below 2 ^ 40 are its digits in a mixed base, so they give it back (`join-split`), and fields within
--- their widths are the digits of what they are joined to (`split-join`). What is split is within its widths (`fields-narrow`),
--- and what is joined has forty bits (`joined-small`).
+-- The five fields of a number below 2 ^ 40 are its digits in a mixed base, so they give it back
+-- (`join-split`), and fields within their widths are the digits of what they are joined to (`split-join`).
+-- What is split is within its widths (`fields-narrow`), and what is joined has forty bits (`joined-small`).
 -- Assumes nothing.
 use mathlib.Core.Path.{_≡_}
 use Prim.Native.Nat.{ℕ, _+_, _*_, _%_, _^_, _<_}
@@ -43,7 +43,8 @@ module _ (f : Fields) (n : Narrow f) where
       }
 
 -- omega takes each quotient and remainder apart by itself, so here they are variables
-chain : (n y m d c s r₁ r₂ r₃ : ℕ) → y * 2 ^ 28 + r₁ ≡ n → r₁ ≡ m * 2 ^ 24 + r₂ → r₂ ≡ d * 2 ^ 19 + r₃ → r₃ ≡ c * 2 ^ 3 + s
+chain : (n y m d c s r₁ r₂ r₃ : ℕ) → y * 2 ^ 28 + r₁ ≡ n → r₁ ≡ m * 2 ^ 24 + r₂ → r₂ ≡ d * 2 ^ 19 + r₃
+    → r₃ ≡ c * 2 ^ 3 + s
     → y * 2 ^ 28 + m * 2 ^ 24 + d * 2 ^ 19 + c * 2 ^ 3 + s * 2 ^ 0 ≡ n
 chain n y m d c s r₁ r₂ r₃ p q r t = omega arith
 

@@ -1,9 +1,10 @@
 -- The verdict is pulp, hold or print exactly when 01 says.
 --
--- Where days left have an answer, pulp is given exactly when they are negative or the state is withdrawn (`pulp-when`). The state
--- of the rest is suspended or open, since the entry is a licence's: hold is given exactly to the suspended (`hold-when`), print
--- exactly to the open (`print-when`). By the order of dates, pulp is given exactly after the end or to the withdrawn
--- (`pulp-by-date`). Without an answer of days left the verdict is refused alike (`verdict-refused`).
+-- Where days left have an answer, pulp is given exactly when they are negative or the state is withdrawn
+-- (`pulp-when`). The state of the rest is suspended or open, since the entry is a licence's: hold is given
+-- exactly to the suspended (`hold-when`), print exactly to the open (`print-when`). By the order of dates,
+-- pulp is given exactly after the end or to the withdrawn (`pulp-by-date`). Without an answer of days left
+-- the verdict is refused alike (`verdict-refused`).
 -- Assumes nothing.
 use mathlib.Core.Path.{_≡_, _∙_, sym}
 use mathlib.Core.Bool.{true, false, _&&_}
@@ -15,7 +16,7 @@ use lib.IntN.{ℤ, pos}
 use lib.Signed.{ltZ}
 use borrow.Author.Tests.{eqb-true, eqb-false, eq-eqb, ne-eqb}
 use Rattle.basics.proofs.Cases.{by-test, by-either, true-or-false}
-use Rattle.refusal.specs.declared.Refusal.the-variants.{NoEntry}
+use Rattle.refusal.specs.Numbers.{numbered}
 use Rattle.calendar.specs.Calendar.{isDate}
 use Rattle.calendar.specs.Order.{date, earlier}
 use Rattle.licence.specs.declared.DaysLeft.the-variants.{Days}
@@ -81,7 +82,7 @@ module _ (e year month day : ℕ) where
   abbrev verdict : Verdict
   verdict = verdictOf e year month day
 
-  pub verdict-refused : isLicence e && isDate year month day ≡ false → verdict ≡ Verdict.Refused NoEntry
+  pub verdict-refused : isLicence e && isDate year month day ≡ false → verdict ≡ Verdict.Refused (numbered 8)
   unfolding verdictOf
   verdict-refused f = rw (left-refused e year month day f)
 
@@ -102,9 +103,13 @@ module _ (e year month day : ℕ) where
     hold-when = (λ v. hold-only n state which (sym is-by ∙ v), λ h. is-by ∙ hold-given n state (h .0) (h .1))
 
     pub print-when : verdict ≡ Print ↔ ((ltZ n (pos 0) ≡ false) × (state ≡ opened))
-    print-when = (λ v. print-only n state which (sym is-by ∙ v), λ h. is-by ∙ print-given n state (h .0) (h .1))
+    print-when =
+        (λ v. print-only n state which (sym is-by ∙ v), λ h. is-by ∙ print-given n state (h .0) (h .1))
 
-    pub pulp-by-date : verdict ≡ Pulp ↔ ((earlier (endOf (fieldsOf e)) (date year month day) ≡ true) ⊎ (state ≡ withdrawn))
+    pub pulp-by-date : verdict ≡ Pulp
+        ↔ ((earlier (endOf (fieldsOf e)) (date year month day) ≡ true) ⊎ (state ≡ withdrawn))
     pulp-by-date =
-        let after = after-end e year month day n a in
-        (λ v. ⊎-elim (λ t. inl (after .0 t)) inr (pulp-when .0 v), λ h. pulp-when .1 (⊎-elim (λ t. inl (after .1 t)) inr h))
+        let after = after-end e year month day n a in (
+          λ v. ⊎-elim (λ t. inl (after .0 t)) inr (pulp-when .0 v),
+          λ h. pulp-when .1 (⊎-elim (λ t. inl (after .1 t)) inr h),
+        )

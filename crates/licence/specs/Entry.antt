@@ -1,14 +1,18 @@
 -- The entry of forty bits (01, section 'Entry and calendar').
 --
--- Most significant first: year 12 bits, month 4, day 5, copies 16, state 3. The year, month and day are the licence's last day.
+-- Most significant first: year 12 bits, month 4, day 5, copies 16, state 3. The year, month and day are the
+-- licence's last day.
 --
--- In order: the places of the fields; splitting and joining; the states; what is a licence entry, the empty entry, and no entry;
--- the answer of joining any fields.
+-- In order: the places of the fields; splitting and joining; the states; what is a licence entry, the empty
+-- entry, and no entry; the answer of joining any fields.
 -- Assumes nothing.
 use Prim.Native.Nat.{ℕ, _+_, _*_, _/_, _%_, _^_, _<_}
-use mathlib.Core.Bool.{Bool, cond, _&&_}
+use mathlib.Core.Bool.{Bool, cond, not, _&&_}
+use mathlib.Core.List.{[], _∷_}
+use mathlib.Core.Option.{Option, none, some}
 use lib.Dec.{eqb, leb, ltb}
-use Rattle.refusal.specs.declared.Refusal.the-variants.{NoEntry}
+use Rattle.refusal.specs.declared.Refusal.{Refusal}
+use Rattle.refusal.specs.Ladder.{_whenever_, lowest}
 use Rattle.calendar.specs.Calendar.{isDate}
 use Rattle.licence.specs.declared.Fields.{Fields}
 use Rattle.licence.specs.declared.Kind.{Kind}
@@ -55,8 +59,8 @@ fieldsOf e =
 
 abbrev pub joined : Fields → ℕ
 joined f =
-    placed yearPlace (f .year) + placed monthPlace (f .month) + placed dayPlace (f .day) + placed copiesPlace (f .copies)
-    + placed statePlace (f .state)
+    placed yearPlace (f .year) + placed monthPlace (f .month) + placed dayPlace (f .day)
+    + placed copiesPlace (f .copies) + placed statePlace (f .state)
 
 -- each field is within its width
 pub record Narrow (f : Fields) : Type 0 where
@@ -92,6 +96,11 @@ empty = 0
 unfoldable pub kindOf : ℕ → Kind
 kindOf e = cond (isLicence e) Licence (cond (eqb e empty) Empty Nothing)
 
--- the entry of any fields, refused (8, no such entry) where they are not a licence's
+-- 01's answer: the 'entry' of 40 bits, or refused 8, 'no such entry'
+abbrev pub joinedAnswer : Option Refusal → ℕ → Joined
+joinedAnswer none e = Joined.Entry e
+joinedAnswer (some r) e = Joined.Refused r
+
+-- the entry of any fields, refused where they are not a licence's
 unfoldable pub joinedOf : Fields → Joined
-joinedOf f = cond (isLicensed f) (Joined.Entry (joined f)) (Joined.Refused NoEntry)
+joinedOf f = joinedAnswer (lowest (8 whenever not (isLicensed f) ∷ [])) (joined f)

@@ -1,12 +1,16 @@
 -- Renewal by a number of years (01: 'Renewal by 0 to 10 years; 0 means 1').
 --
--- In order: the years that are added; the day that the end falls on in another year; the fields with their end in another year;
--- what may be renewed; the answer. Callers go by its laws (proofs/Renewed.antt), since C-12 and C-16 change `keptDay` and `span`.
+-- In order: the years that are added; the day that the end falls on in another year; the fields with their
+-- end in another year; what may be renewed; the answer. Callers go by its laws (proofs/Renewed.antt), since
+-- C-12 and C-16 change `keptDay` and `span`.
 -- Assumes nothing.
 use Prim.Native.Nat.{ℕ, _+_}
 use mathlib.Core.Bool.{Bool, cond, not, _&&_}
+use mathlib.Core.List.{[], _∷_}
+use mathlib.Core.Option.{Option, none, some}
 use lib.Dec.{eqb, leb}
-use Rattle.refusal.specs.declared.Refusal.the-variants.{NoEntry}
+use Rattle.refusal.specs.declared.Refusal.{Refusal}
+use Rattle.refusal.specs.Ladder.{_whenever_, lowest}
 use Rattle.calendar.specs.Calendar.{leap}
 use Rattle.licence.specs.declared.Fields.{Fields}
 use Rattle.licence.specs.declared.Renewal.{Renewal}
@@ -28,9 +32,13 @@ later f y = record { year = y; month = f .month; day = keptDay f y; copies = f .
 unfoldable pub isRenewable : ℕ → ℕ → Bool
 isRenewable e years = isLicence e && leb years 10 && leb (fieldsOf e .year + span years) 2199
 
--- the entry renewed, refused (8) where it may not be
+-- 01's answer: the 'entry' renewed, or refused 8, 'no such entry'
+abbrev pub renewalAnswer : Option Refusal → ℕ → Renewal
+renewalAnswer none e = Renewal.Entry e
+renewalAnswer (some r) e = Renewal.Refused r
+
+-- the entry renewed, refused where it may not be
 unfoldable pub renewedOf : ℕ → ℕ → Renewal
 renewedOf e years =
-    cond (isRenewable e years)
-    (Renewal.Entry (joined (later (fieldsOf e) (fieldsOf e .year + span years))))
-    (Renewal.Refused NoEntry)
+    renewalAnswer (lowest (8 whenever not (isRenewable e years) ∷ []))
+    (joined (later (fieldsOf e) (fieldsOf e .year + span years)))

@@ -3,11 +3,14 @@
 -- In order: the last day; days left; the verdict by days left and state; the verdict on a day.
 -- Assumes nothing.
 use Prim.Native.Nat.{ℕ}
-use mathlib.Core.Bool.{cond, _&&_, _||_}
+use mathlib.Core.Bool.{cond, not, _&&_, _||_}
+use mathlib.Core.List.{[], _∷_}
+use mathlib.Core.Option.{Option, none, some}
 use lib.Dec.{eqb}
 use lib.IntN.{ℤ, pos, _-ℤ_}
 use lib.Signed.{ltZ}
-use Rattle.refusal.specs.declared.Refusal.the-variants.{NoEntry}
+use Rattle.refusal.specs.declared.Refusal.{Refusal}
+use Rattle.refusal.specs.Ladder.{_whenever_, lowest}
 use Rattle.calendar.specs.Calendar.{isDate}
 use Rattle.calendar.specs.Order.{Date, date, number}
 use Rattle.licence.specs.declared.Fields.{Fields}
@@ -21,19 +24,23 @@ use Rattle.licence.specs.Entry.{fieldsOf, isLicence, suspended, withdraw
 abbrev pub endOf : Fields → Date
 endOf f = date (f .year) (f .month) (f .day)
 
--- the end's day number minus the day's, refused (8) where e is no licence entry or the day no real date
+-- 01's answer: the 'days left', or refused 8, 'no such entry'
+abbrev pub daysAnswer : Option Refusal → ℤ → DaysLeft
+daysAnswer none left = Days left
+daysAnswer (some r) left = DaysLeft.Refused r
+
+-- the end's day number minus the day's, refused where e is no licence entry or the day no real date
 unfoldable pub daysLeft : ℕ → ℕ → ℕ → ℕ → DaysLeft
 daysLeft e year month day =
-    cond (isLicence e && isDate year month day)
-    (Days (pos (number (endOf (fieldsOf e))) -ℤ pos (number (date year month day))))
-    (DaysLeft.Refused NoEntry)
+    daysAnswer (lowest (8 whenever not (isLicence e && isDate year month day) ∷ []))
+    (pos (number (endOf (fieldsOf e))) -ℤ pos (number (date year month day)))
 
 -- pulp when days left are negative or the state is withdrawn; otherwise hold when suspended, print when open
 unfoldable pub verdictBy : ℤ → ℕ → Verdict
 verdictBy left state =
     cond (ltZ left (pos 0) || eqb state withdrawn) Pulp (cond (eqb state suspended) Hold Print)
 
--- the same, or the refusal of days left
+-- 01's answer: 'pulp', 'hold' or 'print', or refused 8, 'no such entry', as days left are
 abbrev pub judged : DaysLeft → ℕ → Verdict
 judged (Days left) state = verdictBy left state
 judged (DaysLeft.Refused r) state = Verdict.Refused r

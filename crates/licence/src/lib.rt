@@ -1,8 +1,10 @@
-// A licence entry of forty bits: its fields, its kind, renewal, days left and verdict (01, section 'Entry and calendar').
+// A licence entry of forty bits: its fields, its kind, renewal, days left and verdict (01, section 'Entry and
+// calendar').
 ghost use mathlib.Core.Path.{_≡_};
 ghost use Prim.Native.Nat.{_^_, _<_};
 ghost use lib.IntN.{pos, _-ℤ_};
-ghost use Rattle.licence.specs.Entry.{fieldsOf, joined, Narrow, isLicensed, isLicence, kindOf, joinedOf};
+ghost use Rattle.licence.specs.Entry.{fieldsOf, joined, Narrow, isLicensed, isLicence, kindOf};
+ghost use Rattle.licence.specs.Entry.{joinedOf};
 ghost use Rattle.licence.specs.Renewal.{span, keptDay, later, renewedOf};
 ghost use Rattle.licence.specs.Verdict.{daysLeft, verdictBy, verdictOf};
 use calendar::DayNumber;

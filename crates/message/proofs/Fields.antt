@@ -1,7 +1,8 @@
 -- The message of a number, by its words: kind and tag in front of 64 low bits.
 --
--- A number is h * 2 ^ 64 + l with l below 2 ^ 64, and h is kind * 2 ^ 20 + tag. The fields behind the tag are those of l alone,
--- and they are all zero exactly when l is. So `messageOf` asks of l and the tag what `byWords` says, which is what the code asks.
+-- A number is h * 2 ^ 64 + l with l below 2 ^ 64, and h is kind * 2 ^ 20 + tag. The fields behind the tag are
+-- those of l alone, and they are all zero exactly when l is. So `messageOf` asks of l and the tag what
+-- `byWords` says, which is what the code asks.
 -- Assumes nothing.
 use mathlib.Core.Path.{_≡_, refl, sym, ap, _∙_}
 use mathlib.Core.Bool.{Bool, true, cond, _&&_}
@@ -15,10 +16,11 @@ use Rattle.basics.proofs.Cases.{by-test, both, both-of, true-or-false}
 use Rattle.message.specs.declared.Message.{Message}
 use Rattle.message.specs.declared.Message.the-variants.{GetInfo, Info, Done, WriteInfo, Fwd, WriteAck}
 use Rattle.message.specs.declared.Unpacked.{Unpacked}
-use Rattle.message.specs.declared.Unpacked.the-variants.{Good, Bad}
+use Rattle.message.specs.declared.Unpacked.the-variants.{Good}
 use Rattle.message.specs.declared.Words.{Words}
 use Rattle.message.specs.Pair.{pairOf}
-use Rattle.message.specs.Layout.{kindOf, tagOf, counterOf, clientOf, entryOf, pairIn, zeros, messageOf, wordsNumber}
+use Rattle.message.specs.Layout.{kindOf, tagOf, counterOf, clientOf, entryOf, pairIn, zeros, misprint}
+use Rattle.message.specs.Layout.{messageOf, wordsNumber}
 
 -- ---- the fields of a number in two words
 
@@ -49,7 +51,8 @@ module _ (h l : ℕ) (small : l < 2 ^ 64) where
 
 same-test : (a b : Bool) → (a ≡ true → b ≡ true) → (b ≡ true → a ≡ true) → a ≡ b
 same-test a b f g =
-    by-test a (λ e. e ∙ sym (f e)) (λ e. by-test b (λ e′. absurd (true-or-false a (g e′) e)) (λ e′. e ∙ sym e′))
+    by-test a (λ e. e ∙ sym (f e))
+    (λ e. by-test b (λ e′. absurd (true-or-false a (g e′) e)) (λ e′. e ∙ sym e′))
 
 zero-test : (x : ℕ) → x ≡ 0 → eqb x 0 ≡ true
 zero-test x h = eq-eqb x 0 h
@@ -83,7 +86,7 @@ zero-low l =
 
 -- as `kind` of Layout, with one test
 abbrev pub case : ℕ → ℕ → Bool → Message → Unpacked → Unpacked
-case k j fine m other = cond (eqb k j) (cond fine (Good m) Bad) other
+case k j fine m other = cond (eqb k j) (cond fine (Good m) misprint) other
 
 -- kind k, tag t, low bits l
 unfoldable pub byWords : ℕ → ℕ → ℕ → Unpacked
@@ -93,7 +96,7 @@ byWords k t l =
     (case k 3 (eqb t 0 && eqb l 0) Done
     (case k 4 (eqb t 0 && true) (WriteInfo (record { 0 = l }))
     (case k 5 (eqb t 0 && true) (Fwd (record { 0 = l }))
-    (case k 6 (eqb t 0 && eqb (l % 2 ^ 44) 0) (WriteAck (record { 0 = l / 2 ^ 44 })) Bad)))))
+    (case k 6 (eqb t 0 && eqb (l % 2 ^ 44) 0) (WriteAck (record { 0 = l / 2 ^ 44 })) misprint)))))
 
 pub by-words : (h l : ℕ) → l < 2 ^ 64 → messageOf (h * 2 ^ 64 + l) ≡ byWords (h / 2 ^ 20) (h % 2 ^ 20) l
 unfolding messageOf byWords

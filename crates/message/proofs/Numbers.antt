@@ -1,8 +1,9 @@
 -- The number of a message, by its words, and that it is the message's alone.
 --
--- The number is head * 2 ^ 64 + low: the head is kind * 2 ^ 20 + tag, and low is the pair, or a counter in the pair's place, or 0
--- (`number-words`). With a tag and a counter within their widths, `messageOf` finds the message again (`found`). Conversely each
--- case of `messageOf` takes only numbers whose unused fields are zero, so the message found has that very number (`only`).
+-- The number is head * 2 ^ 64 + low: the head is kind * 2 ^ 20 + tag, and low is the pair, or a counter in
+-- the pair's place, or 0 (`number-words`). With a tag and a counter within their widths, `messageOf` finds
+-- the message again (`found`). Conversely each case of `messageOf` takes only numbers whose unused fields are
+-- zero, so the message found has that very number (`only`).
 -- Assumes nothing.
 use mathlib.Core.Path.{_≡_, refl, sym, ap, _∙_, subst}
 use mathlib.Core.Bool.{Bool, true, cond, _&&_}
@@ -16,10 +17,10 @@ use Rattle.basics.proofs.Cases.{by-test, both, both-of}
 use Rattle.message.specs.declared.Message.{Message}
 use Rattle.message.specs.declared.Message.the-variants.{GetInfo, Info, Done, WriteInfo, Fwd, WriteAck}
 use Rattle.message.specs.declared.Unpacked.{Unpacked}
-use Rattle.message.specs.declared.Unpacked.the-variants.{Good, Bad}
+use Rattle.message.specs.declared.Unpacked.the-variants.{Good}
 use Rattle.message.specs.declared.Words.{Words}
 use Rattle.message.specs.Pair.{counter, client, entry}
-use Rattle.message.specs.Layout.{numberOf, messageOf, wellFormed, words, wordsNumber, wordsOf}
+use Rattle.message.specs.Layout.{numberOf, misprint, messageOf, wellFormed, words, wordsNumber, wordsOf}
 use Rattle.message.proofs.Fields.{case, byWords, by-words}
 
 -- ---- the words of a message
@@ -42,7 +43,8 @@ lowOf (WriteAck c) = c .0 % 2 ^ 20 * 2 ^ 44
 
 -- the fields of a pair, each in its place, are the pair's last 64 bits
 pair-bits : (x : ℕ)
-    → x / 2 ^ 44 % 2 ^ 20 * 2 ^ 44 + x / 2 ^ 40 % 2 ^ 4 % 2 ^ 4 * 2 ^ 40 + x % 2 ^ 40 % 2 ^ 40 * 2 ^ 0 ≡ x % 2 ^ 64
+    → x / 2 ^ 44 % 2 ^ 20 * 2 ^ 44 + x / 2 ^ 40 % 2 ^ 4 % 2 ^ 4 * 2 ^ 40 + x % 2 ^ 40 % 2 ^ 40 * 2 ^ 0
+    ≡ x % 2 ^ 64
 pair-bits x = rw (mod-mod (x / 2 ^ 40) (2 ^ 4), mod-mod x (2 ^ 40)) (omega arith)
 
 pub number-words : (m : Message) → numberOf m ≡ headOf m * 2 ^ 64 + lowOf m
@@ -73,25 +75,31 @@ low-lt (WriteAck c) = omega arith
 -- ---- a message within its widths is found again
 
 -- a head of kind k and tag t
-of-head : (k t l : ℕ) → t < 2 ^ 20 → byWords ((k * 2 ^ 20 + t) / 2 ^ 20) ((k * 2 ^ 20 + t) % 2 ^ 20) l ≡ byWords k t l
+of-head : (k t l : ℕ) → t < 2 ^ 20
+    → byWords ((k * 2 ^ 20 + t) / 2 ^ 20) ((k * 2 ^ 20 + t) % 2 ^ 20) l ≡ byWords k t l
 of-head k t l h = rw (high k 20 h, low k 20 h)
 
-by-head : (m : Message) → wellFormed m ≡ true → byWords (headOf m / 2 ^ 20) (headOf m % 2 ^ 20) (lowOf m) ≡ Good m
+-- what is tested to be below a number is its own remainder
+whole : (x n : ℕ) → ltb x n ≡ true → x % n ≡ x
+whole x n w = mod-eq-of-lt (ltb-true x n w)
+
+by-head : (m : Message) → wellFormed m ≡ true
+    → byWords (headOf m / 2 ^ 20) (headOf m % 2 ^ 20) (lowOf m) ≡ Good m
 unfolding wellFormed byWords
 by-head (GetInfo r) w =
     of-head 1 (r .0 % 2 ^ 20) 0 (mod-lt (r .0) (pow-pos 20))
-    ∙ ap (λ (t : ℕ). Good (GetInfo (record { 0 = t }))) (mod-eq-of-lt (ltb-true (r .0) (2 ^ 20) w))
+    ∙ ap (λ (t : ℕ). Good (GetInfo (record { 0 = t }))) (whole (r .0) (2 ^ 20) w)
 by-head (Info r p) w =
     let b = both (ltb (r .0) (2 ^ 20)) (ltb (p .0) (2 ^ 64)) w in
     let l = p .0 % 2 ^ 64 in
     of-head 2 (r .0 % 2 ^ 20) (p .0 % 2 ^ 64) (mod-lt (r .0) (pow-pos 20))
-    ∙ ap (λ (t : ℕ). Good (Info (record { 0 = t }) (record { 0 = l }))) (mod-eq-of-lt (ltb-true (r .0) (2 ^ 20) (b .0)))
-    ∙ ap (λ (l : ℕ). Good (Info r (record { 0 = l }))) (mod-eq-of-lt (ltb-true (p .0) (2 ^ 64) (b .1)))
+    ∙ ap (λ (t : ℕ). Good (Info (record { 0 = t }) (record { 0 = l }))) (whole (r .0) (2 ^ 20) (b .0))
+    ∙ ap (λ (l : ℕ). Good (Info r (record { 0 = l }))) (whole (p .0) (2 ^ 64) (b .1))
 by-head Done w = refl
-by-head (WriteInfo p) w = ap (λ (l : ℕ). Good (WriteInfo (record { 0 = l }))) (mod-eq-of-lt (ltb-true (p .0) (2 ^ 64) w))
-by-head (Fwd p) w = ap (λ (l : ℕ). Good (Fwd (record { 0 = l }))) (mod-eq-of-lt (ltb-true (p .0) (2 ^ 64) w))
+by-head (WriteInfo p) w = ap (λ (l : ℕ). Good (WriteInfo (record { 0 = l }))) (whole (p .0) (2 ^ 64) w)
+by-head (Fwd p) w = ap (λ (l : ℕ). Good (Fwd (record { 0 = l }))) (whole (p .0) (2 ^ 64) w)
 by-head (WriteAck c) w =
-    rw (mod-eq-of-lt (ltb-true (c .0) (2 ^ 20) w), eq-eqb (c .0 * 2 ^ 44 % 2 ^ 44) 0 (omega arith))
+    rw (whole (c .0) (2 ^ 20) w, eq-eqb (c .0 * 2 ^ 44 % 2 ^ 44) 0 (omega arith))
     (ap (λ (n : ℕ). Good (WriteAck (record { 0 = n }))) (shl-shr (c .0) 44))
 
 pub found : (m : Message) → wellFormed m ≡ true → messageOf (numberOf m) ≡ Good m
@@ -99,14 +107,15 @@ found m w = ap messageOf (number-words m) ∙ by-words (headOf m) (lowOf m) (low
 
 -- ---- the message found has that number
 
-pub no-message : (m : Message) → Bad ≡ Good m → ⊥
+pub no-message : (m : Message) → misprint ≡ Good m → ⊥
 no-message m e = let z : _≡_ {A = ℕ} 0 1 = cc in omega arith
 
-by-case : {C : Type 0} (k j : ℕ) (fine : Bool) (x : Message) (other : Unpacked) (m : Message) → case k j fine x other ≡ Good m
+by-case : {C : Type 0} (k j : ℕ) (fine : Bool) (x : Message) (other : Unpacked) (m : Message)
+    → case k j fine x other ≡ Good m
     → (k ≡ j → fine ≡ true → x ≡ m → C) → (other ≡ Good m → C) → C
 by-case k j fine x other m e this next =
     by-test (eqb k j)
-    (λ same. let e′ : cond fine (Good x) Bad ≡ Good m = rw same at e in
+    (λ same. let e′ : cond fine (Good x) misprint ≡ Good m = rw same at e in
     by-test fine (λ f. let g : Good x ≡ Good m = rw f at e′ in this (eqb-true k j same) f (cc))
     (λ f. absurd (no-message m (rw f at e′))))
     (λ differ. next (rw differ at e))
@@ -145,7 +154,8 @@ module _ (k t l : ℕ) (th : t < 2 ^ 20) (lh : l < 2 ^ 64) where
   unfolding wellFormed
   write-info a z =
       let tz = eqb-true t 0 (both (eqb t 0) true z .0) in
-      record { number = number-words (WriteInfo (record { 0 = l })) ∙ omega arith; within = lt-ltb l (2 ^ 64) lh }
+      let n = number-words (WriteInfo (record { 0 = l })) in
+      record { number = n ∙ omega arith; within = lt-ltb l (2 ^ 64) lh }
 
   fwd : k ≡ 5 → eqb t 0 && true ≡ true → Found (three k t l) (Fwd (record { 0 = l }))
   unfolding wellFormed
@@ -153,7 +163,8 @@ module _ (k t l : ℕ) (th : t < 2 ^ 20) (lh : l < 2 ^ 64) where
       let tz = eqb-true t 0 (both (eqb t 0) true z .0) in
       record { number = number-words (Fwd (record { 0 = l })) ∙ omega arith; within = lt-ltb l (2 ^ 64) lh }
 
-  write-ack : k ≡ 6 → eqb t 0 && eqb (l % 2 ^ 44) 0 ≡ true → Found (three k t l) (WriteAck (record { 0 = l / 2 ^ 44 }))
+  write-ack : k ≡ 6 → eqb t 0 && eqb (l % 2 ^ 44) 0 ≡ true
+      → Found (three k t l) (WriteAck (record { 0 = l / 2 ^ 44 }))
   unfolding wellFormed
   write-ack a z =
       let p = both (eqb t 0) (eqb (l % 2 ^ 44) 0) z in
@@ -182,7 +193,8 @@ only n m e =
     let h = n / 2 ^ 64 in
     let l = n % 2 ^ 64 in
     let lh : l < 2 ^ 64 = mod-lt n (pow-pos 64) in
-    let back : three (h / 2 ^ 20) (h % 2 ^ 20) l ≡ n = ap (λ (x : ℕ). x * 2 ^ 64 + l) (split h 20) ∙ split n 64 in
+    let back : three (h / 2 ^ 20) (h % 2 ^ 20) l ≡ n =
+    ap (λ (x : ℕ). x * 2 ^ 64 + l) (split h 20) ∙ split n 64 in
     subst (λ (x : ℕ). Found x m) back
     (by-kind (h / 2 ^ 20) (h % 2 ^ 20) l (mod-lt h (pow-pos 20)) lh m
     (sym (by-words h l lh) ∙ ap messageOf (split n 64) ∙ e))
@@ -190,9 +202,13 @@ only n m e =
 -- ---- the words
 
 pub words-back : (h l : ℕ) → l < 2 ^ 64 → _≡_ {A = Words} (record { 0 = h; 1 = l }) (words (h * 2 ^ 64 + l))
-words-back h l small = let a = sym (high h 64 small) in let b = sym (low h 64 small) in λ i. record { 0 = a i; 1 = b i }
+words-back h l small =
+    let a = sym (high h 64 small) in
+    let b = sym (low h 64 small) in
+    λ i. record { 0 = a i; 1 = b i }
 
-pub words-are : (m : Message) (h l : ℕ) → h ≡ headOf m → l ≡ lowOf m → _≡_ {A = Words} (record { 0 = h; 1 = l }) (wordsOf m)
+pub words-are : (m : Message) (h l : ℕ) → h ≡ headOf m → l ≡ lowOf m
+    → _≡_ {A = Words} (record { 0 = h; 1 = l }) (wordsOf m)
 unfolding wordsOf
 words-are m h l p q =
     ap (λ (x : ℕ). record { 0 = x; 1 = l }) p ∙ ap (λ (x : ℕ). record { 0 = headOf m; 1 = x }) q

@@ -1,7 +1,7 @@
 -- The three answers of packing, with what each leaves in the buffer.
 --
--- In the table's order: a field over its width (9), a short buffer (13), packed. Eleven bytes stored from the front stand before
--- what was behind them.
+-- In the table's order: a field over its width (9), a short buffer (13), packed. Eleven bytes stored from the
+-- front stand before what was behind them.
 -- Assumes nothing.
 use mathlib.Core.Path.{_≡_, refl, ap, _∙_}
 use mathlib.Core.Bool.{true, false}
@@ -12,7 +12,7 @@ use native.Mathlib.Omega.{arith}
 use lib.ListN.{length, drop}
 use lib.Seq.{sets, sets-eq}
 use borrow.Author.Tests.{lt-ltb, le-ltb}
-use Rattle.refusal.specs.declared.Refusal.the-variants.{Malformed, ShortBuffer}
+use Rattle.refusal.specs.Numbers.{numbered}
 use Rattle.refusal.specs.Ladder.{rising}
 use Rattle.message.specs.declared.Message.{Message}
 use Rattle.message.specs.declared.Packed.{Packed}
@@ -29,11 +29,11 @@ abbrev pub Packs : Message → List ℕ → Packed → List ℕ → Type 0
 Packs m s answer after = (answer ≡ packAnswer m s) × (after ≡ packLeaves m s)
 
 module _ (m : Message) (s : List ℕ) where
-  pub malformed : wellFormed m ≡ false → Packs m s (Packed.Refused Malformed) s
+  pub malformed : wellFormed m ≡ false → Packs m s (Packed.Refused (numbered 9)) s
   unfolding packAnswer packLeaves
   malformed w = (rw w, rw w)
 
-  pub short : wellFormed m ≡ true → length s < 11 → Packs m s (Packed.Refused ShortBuffer) s
+  pub short : wellFormed m ≡ true → length s < 11 → Packs m s (Packed.Refused (numbered 13)) s
   unfolding packAnswer packLeaves
   short w l = let t = lt-ltb (length s) 11 l in (rw (w, t), rw (w, t))
 

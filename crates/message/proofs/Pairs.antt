@@ -1,8 +1,10 @@
--- The laws of pairs: a pair is its parts, its timestamp is counter * 16 + client, and its order is the order of its number.
+-- The laws of pairs: a pair is its parts, its timestamp is counter * 16 + client, and its order is the order
+-- of its number.
 --
--- A pair is a number in three digits, counter, client and entry, of which the last two have a base, 2 ^ 4 and 2 ^ 40. So the
--- parts of a pair of parts are these parts (`counter-of`, `client-of`, `entry-of`, `stamp-of`), a pair is the pair of its parts
--- (`parts`), and of two numbers the one with the lower first digit is lower, whatever the rest (`digits-order`).
+-- A pair is a number in three digits, counter, client and entry, of which the last two have a base, 2 ^ 4 and
+-- 2 ^ 40. So the parts of a pair of parts are these parts (`counter-of`, `client-of`, `entry-of`,
+-- `stamp-of`), a pair is the pair of its parts (`parts`), and of two numbers the one with the lower first
+-- digit is lower, whatever the rest (`digits-order`).
 -- Assumes nothing.
 use mathlib.Core.Path.{_≡_, refl, sym, ap, _∙_}
 use mathlib.Core.Bool.{Bool}
@@ -25,7 +27,8 @@ use Rattle.message.specs.Order.{firstThen, earlier, lower}
 module _ (c : WriteCounter) (d : ℕ) (e : Entry) (dh : d < 2 ^ 4) (eh : e .0 < 2 ^ 40) where
   pub counter-of : counter (pairOf c d e) ≡ c
   unfolding counter pairOf
-  counter-of = let h : (c .0 * 2 ^ 44 + d * 2 ^ 40 + e .0) / 2 ^ 44 ≡ c .0 = omega arith in λ i. record { 0 = h i }
+  counter-of =
+      let h : (c .0 * 2 ^ 44 + d * 2 ^ 40 + e .0) / 2 ^ 44 ≡ c .0 = omega arith in λ i. record { 0 = h i }
 
   pub client-of : client (pairOf c d e) ≡ d
   unfolding client pairOf
@@ -33,7 +36,8 @@ module _ (c : WriteCounter) (d : ℕ) (e : Entry) (dh : d < 2 ^ 4) (eh : e .0 < 
 
   pub entry-of : entry (pairOf c d e) ≡ e
   unfolding entry pairOf
-  entry-of = let h : (c .0 * 2 ^ 44 + d * 2 ^ 40 + e .0) % 2 ^ 40 ≡ e .0 = omega arith in λ i. record { 0 = h i }
+  entry-of =
+      let h : (c .0 * 2 ^ 44 + d * 2 ^ 40 + e .0) % 2 ^ 40 ≡ e .0 = omega arith in λ i. record { 0 = h i }
 
   pub stamp-of : stamp (pairOf c d e) ≡ c .0 * 16 + d
   unfolding stamp pairOf
@@ -139,7 +143,8 @@ pub earlier-is : (p q : Pair) → earlier p q ≡ ltb (stamp p) (stamp q)
 unfolding earlier
 earlier-is p q =
     rw (stamp-is p, stamp-is q)
-    (sym (digits-order (counter p .0) (counter q .0) (client p) (client q) 16 (client-fits p) (client-fits q)))
+    (sym (digits-order (counter p .0) (counter q .0) (client p) (client q) 16
+    (client-fits p) (client-fits q)))
 
 -- pairs by counter, then client, then entry: the order of their numbers
 rest-fits : (p : Pair) → client p * 2 ^ 40 + entry p .0 < 2 ^ 44
@@ -153,9 +158,10 @@ pub lower-is : (p q : Pair) → lower p q ≡ below p q
 unfolding lower
 lower-is p q =
     let first =
-    digits-order (counter p .0) (counter q .0) (client p * 2 ^ 40 + entry p .0) (client q * 2 ^ 40 + entry q .0) (2 ^ 44)
-    (rest-fits p) (rest-fits q) in
-    let second = digits-order (client p) (client q) (entry p .0) (entry q .0) (2 ^ 40) (entry-fits p) (entry-fits q) in
+    digits-order (counter p .0) (counter q .0) (client p * 2 ^ 40 + entry p .0)
+    (client q * 2 ^ 40 + entry q .0) (2 ^ 44) (rest-fits p) (rest-fits q) in
+    let second =
+    digits-order (client p) (client q) (entry p .0) (entry q .0) (2 ^ 40) (entry-fits p) (entry-fits q) in
     ap (λ (t : Bool). firstThen (counter p .0) (counter q .0) t) (sym second) ∙ sym first
     ∙ ap (λ (n : ℕ). ltb n (counter q .0 * 2 ^ 44 + (client q * 2 ^ 40 + entry q .0))) (three-parts p)
     ∙ ap (λ (n : ℕ). ltb (p .0) n) (three-parts q)

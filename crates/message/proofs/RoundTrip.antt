@@ -1,8 +1,9 @@
 -- Packing and unpacking undo each other: no bytes but a message's own are taken for it.
 --
--- A message within its widths is found again in its number (`Numbers.found`), and eleven bytes spell that number, so its bytes
--- unpack to it (`unpack-pack`). Conversely bytes are those of the number that they spell, and a message found in a number has
--- that very number (`Numbers.only`), so what is unpacked packs into the bytes that it was unpacked from (`pack-unpack`).
+-- A message within its widths is found again in its number (`Numbers.found`), and eleven bytes spell that
+-- number, so its bytes unpack to it (`unpack-pack`). Conversely bytes are those of the number that they
+-- spell, and a message found in a number has that very number (`Numbers.only`), so what is unpacked packs
+-- into the bytes that it was unpacked from (`pack-unpack`).
 -- Assumes nothing.
 use mathlib.Core.Path.{_≡_, sym, ap, _∙_}
 use mathlib.Core.Bool.{true, _&&_}
@@ -17,10 +18,12 @@ use Rattle.basics.specs.Bytes.{bigEndian, spelt}
 use Rattle.basics.proofs.Bytes.{bytes-length, bytes-are, spelt-is, bytes-back}
 use Rattle.basics.proofs.Cases.{by-test, both}
 use Rattle.message.specs.declared.Message.{Message}
-use Rattle.message.specs.declared.Unpacked.the-variants.{Good, Bad}
+use Rattle.message.specs.declared.Unpacked.the-variants.{Good}
 use Rattle.message.specs.declared.Words.{Words}
-use Rattle.message.specs.Layout.{numberOf, messageOf, wellFormed, bytesOf, unpackOf, words, wordsNumber, wordsOf}
-use Rattle.message.proofs.Numbers.{number-words, head-lt, low-lt, found, only, no-message, words-number}
+use Rattle.message.specs.Layout.{numberOf, misprint, messageOf, wellFormed, bytesOf, unpackOf, words}
+use Rattle.message.specs.Layout.{wordsNumber, wordsOf}
+use Rattle.message.proofs.Numbers.{number-words, head-lt, low-lt, found, only, no-message}
+use Rattle.message.proofs.Numbers.{words-number}
 
 -- every message's number has 88 bits
 pub number-lt : (m : Message) → numberOf m < 256 ^ 11
@@ -66,7 +69,8 @@ pub one-packing : (s t : List ℕ) (m : Message) → unpackOf s ≡ Good m → u
 one-packing s t m p q = sym (pack-unpack s m p .packing) ∙ pack-unpack t m q .packing
 
 -- what is refused is no message's packing
-pub refused-none : (s : List ℕ) (m : Message) → unpackOf s ≡ Bad → wellFormed m ≡ true → bytesOf m ≡ s → ⊥
+pub refused-none : (s : List ℕ) (m : Message) → unpackOf s ≡ misprint → wellFormed m ≡ true
+    → bytesOf m ≡ s → ⊥
 refused-none s m b w e = no-message m (sym b ∙ ap unpackOf (sym e) ∙ unpack-pack m w)
 
 -- ---- by words: what `words_of`, `store`, `load` and `of_words` do one after the other
@@ -84,9 +88,11 @@ pub of-words-of : (m : Message) → wellFormed m ≡ true → messageOf (wordsNu
 of-words-of m w = ap messageOf (words-number m) ∙ found m w
 
 -- the words of eleven bytes hold the message that the bytes unpack to
-pub of-words-unpacks : (s : List ℕ) → length s ≡ 11 → areBytes s ≡ true → messageOf (wordsNumber (words (spelt 0 s))) ≡ unpackOf s
+pub of-words-unpacks : (s : List ℕ) → length s ≡ 11 → areBytes s ≡ true
+    → messageOf (wordsNumber (words (spelt 0 s))) ≡ unpackOf s
 of-words-unpacks s l b = ap messageOf (split (spelt 0 s) 64) ∙ sym (unpack-bytes s l b)
 
 -- no other words are taken for a message
-pub words-of-only : (w : Words) (m : Message) → messageOf (wordsNumber w) ≡ Good m → wordsNumber w ≡ wordsNumber (wordsOf m)
+pub words-of-only : (w : Words) (m : Message) → messageOf (wordsNumber w) ≡ Good m
+    → wordsNumber w ≡ wordsNumber (wordsOf m)
 words-of-only w m e = sym (words-number m ∙ only (wordsNumber w) m e .number)

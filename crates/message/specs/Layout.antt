@@ -2,8 +2,9 @@
 --
 -- They are one number of 88 bits, most significant first: kind 4, tag 20, counter 20, client 4, entry 40.
 --
--- In order: the fields and their places; the number of a message; the message of a number; which messages keep to their widths;
--- the bytes, packed and unpacked; the number in two words. What packing answers is in `Packing`.
+-- In order: the fields and their places; the number of a message; the message of a number; which messages
+-- keep to their widths; the bytes, packed and unpacked; the number in two words. What packing answers is in
+-- `Packing`.
 -- Assumes nothing.
 use Prim.Native.Nat.{ℕ, _+_, _*_, _/_, _%_, _^_}
 use mathlib.Core.Bool.{Bool, true, cond, _&&_}
@@ -12,12 +13,13 @@ use lib.Dec.{eqb, ltb}
 use lib.ListN.{length}
 use lib.Pow.{areBytes}
 use Rattle.basics.specs.Bytes.{bigEndian, spelt}
+use Rattle.refusal.specs.Numbers.{numbered}
 use Rattle.message.specs.declared.Message.{Message}
 use Rattle.message.specs.declared.Message.the-variants.{GetInfo, Info, Done, WriteInfo, Fwd, WriteAck}
 use Rattle.message.specs.declared.Pair.{Pair}
 use Rattle.message.specs.declared.ReadNumber.{ReadNumber}
 use Rattle.message.specs.declared.Unpacked.{Unpacked}
-use Rattle.message.specs.declared.Unpacked.the-variants.{Good, Bad}
+use Rattle.message.specs.declared.Unpacked.the-variants.{Good, Refused}
 use Rattle.message.specs.declared.Words.{Words}
 use Rattle.message.specs.declared.WriteCounter.{WriteCounter}
 use Rattle.message.specs.Pair.{counter, client, entry, pairOf}
@@ -39,6 +41,13 @@ clientBits = 4
 
 abbrev pub entryBits : ℕ
 entryBits = 40
+
+-- the highest read number (the tag is one), and the highest write counter
+abbrev pub lastRead : ℕ
+lastRead = 1048575
+
+abbrev pub lastCounter : ℕ
+lastCounter = 1048575
 
 -- how many bits stand behind each field; behind the tag stands the pair
 abbrev pub entryAt : ℕ
@@ -112,14 +121,19 @@ writeCounterOf n = record { 0 = counterOf n }
 abbrev pub pairIn : ℕ → Pair
 pairIn n = pairOf (writeCounterOf n) (clientOf n) (record { 0 = entryOf n })
 
+-- what is no message is refused 9
+abbrev pub misprint : Unpacked
+misprint = Refused (numbered 9)
+
 -- every number of the list is zero
 abbrev pub zeros : List ℕ → Bool
 zeros [] = true
 zeros (x ∷ xs) = eqb x 0 && zeros xs
 
--- a number of kind k is the message m if the fields that the kind does not use are zero; a number of another kind is `other`
+-- a number of kind k is the message m if the fields that the kind does not use are zero; a number of another
+-- kind is `other`
 abbrev pub kind : ℕ → ℕ → List ℕ → Message → Unpacked → Unpacked
-kind n k unused m other = cond (eqb (kindOf n) k) (cond (zeros unused) (Good m) Bad) other
+kind n k unused m other = cond (eqb (kindOf n) k) (cond (zeros unused) (Good m) misprint) other
 
 -- kind, unused fields, and the message of the used ones
 unfoldable pub messageOf : ℕ → Unpacked
@@ -129,7 +143,7 @@ messageOf n =
     (kind n 3 (tagOf n ∷ counterOf n ∷ clientOf n ∷ entryOf n ∷ []) Done
     (kind n 4 (tagOf n ∷ []) (WriteInfo (pairIn n))
     (kind n 5 (tagOf n ∷ []) (Fwd (pairIn n))
-    (kind n 6 (tagOf n ∷ clientOf n ∷ entryOf n ∷ []) (WriteAck (writeCounterOf n)) Bad)))))
+    (kind n 6 (tagOf n ∷ clientOf n ∷ entryOf n ∷ []) (WriteAck (writeCounterOf n)) misprint)))))
 
 -- ---- widths
 
@@ -150,7 +164,7 @@ bytesOf m = bigEndian messageBytes (numberOf m)
 
 -- numbers unpacked: those that are not eleven bytes are no message
 unfoldable pub unpackOf : List ℕ → Unpacked
-unpackOf s = cond (eqb (length s) messageBytes && areBytes s) (messageOf (spelt 0 s)) Bad
+unpackOf s = cond (eqb (length s) messageBytes && areBytes s) (messageOf (spelt 0 s)) misprint
 
 -- a number in two words, the last 64 bits and those before, and back
 abbrev pub words : ℕ → Words

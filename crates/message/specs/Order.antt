@@ -1,7 +1,8 @@
 -- The order of timestamps and of pairs, part by part (01, section 'Message').
 --
--- The parts are compared one after the other, the later ones only where the earlier are equal. That this is the order of the
--- packed numbers is the law of proofs/Pairs.
+-- The parts are compared one after the other, the later ones only where the earlier are equal. That this is
+-- the order of the packed numbers is the law of proofs/Pairs.
+-- A reader of the public contracts needs none of it.
 -- Assumes nothing.
 use Prim.Native.Nat.{ℕ}
 use mathlib.Core.Bool.{Bool, _&&_, _||_}

@@ -1,5 +1,5 @@
--- Packing into a lent buffer: what it answers and what it leaves there (01: refusals 9 and 13; 'Packing writes only the first 11
--- bytes').
+-- Packing into a lent buffer: what it answers and what it leaves there (01: refusals 9 and 13; 'Packing
+-- writes only the first 11 bytes').
 --
 -- In order: the ladder of refusals; the answer; the buffer.
 -- Assumes nothing.
@@ -10,17 +10,16 @@ use mathlib.Core.Option.{Option, none, some}
 use lib.Dec.{ltb}
 use lib.ListN.{length, drop}
 use Rattle.refusal.specs.declared.Refusal.{Refusal}
-use Rattle.refusal.specs.declared.Refusal.the-variants.{Malformed, ShortBuffer}
-use Rattle.refusal.specs.Ladder.{Rung, _when_, lowest}
+use Rattle.refusal.specs.Ladder.{Rung, _whenever_, lowest}
 use Rattle.message.specs.declared.Message.{Message}
 use Rattle.message.specs.declared.Packed.{Packed}
 use Rattle.message.specs.Layout.{messageBytes, wellFormed, bytesOf}
 
 -- 9 a field over its width, then 13 a buffer of fewer bytes
 abbrev pub packLadder : Message → List ℕ → List Rung
-packLadder m s = Malformed when not (wellFormed m) ∷ ShortBuffer when ltb (length s) messageBytes ∷ []
+packLadder m s = 9 whenever not (wellFormed m) ∷ 13 whenever ltb (length s) messageBytes ∷ []
 
--- the answer
+-- 01's answer: packed, or refused 9, 'misprint', or 13, 'short sheet'
 abbrev pub answered : Option Refusal → Packed
 answered none = Packed.Done
 answered (some r) = Packed.Refused r

@@ -1,7 +1,8 @@
 -- Timestamps and pairs (01, section 'Message').
 --
--- A pair is one number of 64 bits: counter 20, client 4, entry 40, most significant first. So the order of pairs, by counter,
--- then client, then entry, is the order of their numbers, and that of timestamps is the order of the first 24 bits.
+-- A pair is one number of 64 bits: counter 20, client 4, entry 40, most significant first. So the order of
+-- pairs, by counter, then client, then entry, is the order of their numbers, and that of timestamps is the
+-- order of the first 24 bits.
 --
 -- In order: the parts of a pair; a pair of its parts; the initial pair; the orders.
 -- Assumes nothing.

@@ -2,25 +2,28 @@
 ghost use mathlib.Core.Path.{_≡_};
 ghost use mathlib.Core.Bool.{cond, _&&_};
 ghost use Prim.Native.Nat.{_<_, _≤_, _+_, _*_, _%_, _^_};
-ghost use lib.Dec.{eqb, ltb};
+ghost use lib.Dec.{eqb, leb, ltb};
 ghost use lib.ListN.{length, take, drop};
 ghost use lib.Seq.{sets};
 ghost use Rattle.basics.specs.Bytes.{bigEndian, spelt};
-ghost use Rattle.message.specs.Layout.{messageOf, wellFormed, unpackOf, words, wordsNumber, wordsOf};
+ghost use Rattle.message.specs.Layout.{lastRead, lastCounter, misprint, messageOf, wellFormed};
+ghost use Rattle.message.specs.Layout.{unpackOf, words, wordsNumber, wordsOf};
 ghost use Rattle.message.specs.Packing.{packAnswer, packLeaves};
 ghost use Rattle.message.specs.Pair.{counter, client, entry, stamp, pairOf, below};
 use refusal::Refusal;
 
-// The number of a client's read (01: the tag). Never a write counter, although document 001 calls both my_ctr.
-pub struct ReadNumber(pub u32);
+// The number of a client's read (01: the tag). Never a write counter, although document 001 calls both
+// my_ctr: only the functions below look inside, and none takes both.
+pub struct ReadNumber(u32);
 
 // The counter of a write, half of its timestamp.
-pub struct WriteCounter(pub u32);
+pub struct WriteCounter(u32);
 
 // The forty bits of a licence's end, whatever they say.
 pub struct Entry(pub u64);
 
-// Counter and client in 24 bits, counter * 16 + client, so that the order of timestamps is the order of numbers.
+// Counter and client in 24 bits, counter * 16 + client, so that the order of timestamps is the order of
+// numbers.
 pub struct Timestamp(pub u32);
 
 // Timestamp and entry in 64 bits: counter 20, client 4, entry 40.
@@ -36,10 +39,10 @@ pub enum Message {
     WriteAck(WriteCounter), // 6
 }
 
-// The bytes of a message, or that they are none.
+// The message of bytes, or the refusal of those that are none: always 9.
 pub enum Unpacked {
     Good(Message),
-    Bad,
+    Refused(Refusal),
 }
 
 // The eleven bytes as two numbers: the first three, and the last eight.
@@ -76,6 +79,98 @@ const CLIENT_BITS: u64 = 0xF;
 const ENTRY_BITS: u64 = 0xFF_FFFF_FFFF;
 
 const BEHIND_COUNTER: u64 = 0xFFF_FFFF_FFFF;
+
+// The highest read number, and the highest write counter.
+const LAST_READ: u32 = 0xF_FFFF;
+
+const LAST_COUNTER: u32 = 0xF_FFFF;
+
+// A number of 32 bits is below this.
+const OVER_32: u64 = 0x1_0000_0000;
+
+// ---- read numbers
+
+pub fn same_read(a: ReadNumber, b: ReadNumber) -> bool
+    ensures { λ r. ⌜ r ≡ eqb (a .0) (b .0) ⌝ }
+{
+    a.0 == b.0
+}
+
+// No higher one follows.
+pub fn is_last_read(n: ReadNumber) -> bool
+    ensures { λ r. ⌜ r ≡ leb lastRead (n .0) ⌝ }
+{
+    LAST_READ <= n.0
+}
+
+pub fn next_read(n: ReadNumber) -> ReadNumber
+    requires { ⌜ n .0 < lastRead ⌝ }
+    ensures { λ r. ⌜ r ≡ record { 0 = n .0 + 1 } ⌝ }
+{
+    ReadNumber(n.0 + 1)
+}
+
+// A word of memory has no more than a read number's twenty bits.
+pub fn fits_read(x: u64) -> bool
+    ensures { λ r. ⌜ r ≡ ltb x (2 ^ 20) ⌝ }
+{
+    x < OVER_TWENTY as u64
+}
+
+// The read number of a word, of which the low 32 bits count, and its word.
+pub fn read_from(x: u64) -> ReadNumber
+    ensures { λ r. ⌜ r ≡ record { 0 = x % 2 ^ 32 } ⌝ }
+{
+    ReadNumber((x % OVER_32) as u32)
+}
+
+pub fn read_word(n: ReadNumber) -> u64
+    ensures { λ r. ⌜ r ≡ n .0 ⌝ }
+{
+    n.0 as u64
+}
+
+// ---- write counters
+
+pub fn same_counter(a: WriteCounter, b: WriteCounter) -> bool
+    ensures { λ r. ⌜ r ≡ eqb (a .0) (b .0) ⌝ }
+{
+    a.0 == b.0
+}
+
+// It is the highest.
+pub fn is_last_counter(c: WriteCounter) -> bool
+    ensures { λ r. ⌜ r ≡ eqb (c .0) lastCounter ⌝ }
+{
+    c.0 == LAST_COUNTER
+}
+
+pub fn next_counter(c: WriteCounter) -> WriteCounter
+    requires { ⌜ c .0 < lastCounter ⌝ }
+    ensures { λ r. ⌜ r ≡ record { 0 = c .0 + 1 } ⌝ }
+{
+    WriteCounter(c.0 + 1)
+}
+
+// A word of memory has no more than a counter's twenty bits.
+pub fn fits_counter(x: u64) -> bool
+    ensures { λ r. ⌜ r ≡ ltb x (2 ^ 20) ⌝ }
+{
+    x < OVER_TWENTY as u64
+}
+
+// The counter of a word, of which the low 32 bits count, and its word.
+pub fn counter_from(x: u64) -> WriteCounter
+    ensures { λ r. ⌜ r ≡ record { 0 = x % 2 ^ 32 } ⌝ }
+{
+    WriteCounter((x % OVER_32) as u32)
+}
+
+pub fn counter_word(c: WriteCounter) -> u64
+    ensures { λ r. ⌜ r ≡ c .0 ⌝ }
+{
+    c.0 as u64
+}
 
 // ---- pairs
 
@@ -151,13 +246,13 @@ pub fn words_of(m: Message) -> Words
 
 // The message m, if what it does not use of the tag and the low bits is zero.
 fn if_zero(tag: u32, low: u64, m: Message) -> Unpacked
-    ensures { λ r. ⌜ r ≡ cond (eqb tag 0 && eqb low 0) (Unpacked.Good m) Unpacked.Bad ⌝ }
+    ensures { λ r. ⌜ r ≡ cond (eqb tag 0 && eqb low 0) (Unpacked.Good m) misprint ⌝ }
 {
     if tag != 0 {
-        return Unpacked::Bad;
+        return Unpacked::Refused(Refusal::Malformed);
     }
     if low != 0 {
-        return Unpacked::Bad;
+        return Unpacked::Refused(Refusal::Malformed);
     }
     Unpacked::Good(m)
 }
@@ -180,7 +275,7 @@ pub fn of_words(w: Words) -> Unpacked
             low & BEHIND_COUNTER,
             Message::WriteAck(WriteCounter((low >> COUNTER_AT) as u32)),
         ),
-        _ => Unpacked::Bad,
+        _ => Unpacked::Refused(Refusal::Malformed),
     }
 }
 
@@ -266,12 +361,12 @@ pub fn pack(m: Message, out: &mut [u8]) -> Packed
     Packed::Done
 }
 
-// The message of a slice of any length, or that it is none (9).
+// The message of a slice of any length, or a refusal (9).
 pub fn unpack(s: &[u8]) -> Unpacked
     ensures { λ r. ⌜ r ≡ unpackOf (now (s .entry)) ⌝ }
 {
     if s.len() != MESSAGE_BYTES {
-        return Unpacked::Bad;
+        return Unpacked::Refused(Refusal::Malformed);
     }
     of_words(load(s, 0))
 }

@@ -16,7 +16,8 @@ use mathlib.Core.List.{List, [], _∷_}
 use mathlib.Core.Option.{Option, none, some}
 use native.Mathlib.Omega.{arith}
 use Rattle.refusal.specs.declared.Refusal.{Refusal}
-use Rattle.refusal.specs.Ladder.{Rung, _when_, lowest}
+use Rattle.refusal.specs.Numbers.{numbered}
+use Rattle.refusal.specs.Ladder.{Rung, _whenever_, lowest}
 
 -- ---- a ladder that refuses nothing
 
@@ -32,16 +33,16 @@ passed false r o rest e = (refl, rest e)
 
 pub none-applies : (xs : List Rung) → lowest xs ≡ none → NoneApplies xs
 none-applies [] e = tt
-none-applies (x ∷ xs) e = passed (x .applies) (x .refusal) (lowest xs) (none-applies xs) e
+none-applies (x ∷ xs) e = passed (x .applies) (numbered (x .number)) (lowest xs) (none-applies xs) e
 
 -- ---- a ladder climbed, as code does it
 
 -- one test after the other: `next` where it does not apply, `stop` where it does, `end` where none is left
 pub data Climbs : List Rung → Option Refusal → Type 0 where
   end : Climbs [] none
-  stop : {r : Refusal} {a : Bool} {xs : List Rung} → a ≡ true → Climbs (r when a ∷ xs) (some r)
-  next : {r : Refusal} {a : Bool} {xs : List Rung} {o : Option Refusal} → a ≡ false → Climbs xs o
-      → Climbs (r when a ∷ xs) o
+  stop : {n : ℕ} {a : Bool} {xs : List Rung} → a ≡ true → Climbs (n whenever a ∷ xs) (some (numbered n))
+  next : {n : ℕ} {a : Bool} {xs : List Rung} {o : Option Refusal} → a ≡ false → Climbs xs o
+      → Climbs (n whenever a ∷ xs) o
 
 pub climbs : (xs : List Rung) {o : Option Refusal} → Climbs xs o → o ≡ lowest xs
 climbs _ end = refl
@@ -53,8 +54,8 @@ climbs _ (next {xs = xs} e rest) = rw e (climbs xs rest)
 -- the same refusals, and each test agrees where no rung before it applies
 pub data Agree : List Rung → List Rung → Type 0 where
   done : Agree [] []
-  same : {r : Refusal} {a b : Bool} {xs ys : List Rung} → a ≡ b → (b ≡ false → Agree xs ys)
-      → Agree (r when a ∷ xs) (r when b ∷ ys)
+  same : {n : ℕ} {a b : Bool} {xs ys : List Rung} → a ≡ b → (b ≡ false → Agree xs ys)
+      → Agree (n whenever a ∷ xs) (n whenever b ∷ ys)
 
 pub lowest-same : (xs ys : List Rung) → Agree xs ys → lowest xs ≡ lowest ys
 lowest-same _ _ done = refl

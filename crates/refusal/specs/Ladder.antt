@@ -8,23 +8,23 @@ use mathlib.Core.List.{List, [], _∷_}
 use mathlib.Core.Option.{Option, none, some}
 use lib.Dec.{ltb}
 use Rattle.refusal.specs.declared.Refusal.{Refusal}
-use Rattle.refusal.specs.Numbers.{numberOf}
+use Rattle.refusal.specs.Numbers.{numbered}
 
--- a refusal, and whether it applies
+-- the number of a refusal, and whether it applies
 pub record Rung : Type 0 where
-  pub refusal : Refusal
+  pub number : ℕ
   pub applies : Bool
 
-infix 70 _when_
-abbrev pub _when_ : Refusal → Bool → Rung
-r when b = record { refusal = r; applies = b }
+infix 70 _whenever_
+abbrev pub _whenever_ : ℕ → Bool → Rung
+n whenever b = record { number = n; applies = b }
 
 -- the first refusal of the ladder that applies
 abbrev pub lowest : List Rung → Option Refusal
 lowest [] = none
-lowest (r ∷ rs) = cond (r .applies) (some (r .refusal)) (lowest rs)
+lowest (r ∷ rs) = cond (r .applies) (some (numbered (r .number))) (lowest rs)
 
 -- every rung has a higher number than n and than those before it
 abbrev pub rising : ℕ → List Rung → Bool
 rising n [] = true
-rising n (r ∷ rs) = ltb n (numberOf (r .refusal)) && rising (numberOf (r .refusal)) rs
+rising n (r ∷ rs) = ltb n (r .number) && rising (r .number) rs

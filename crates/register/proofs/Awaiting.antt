@@ -34,6 +34,7 @@ use Rattle.register.specs.World.{World, Event, refuses, begins, serves, 
 use Rattle.register.specs.World.{nextStopped, apply}
 use Rattle.register.specs.Steps.{Formats}
 use Rattle.register.specs.History.{worldAt}
+use Rattle.register.specs.WellFormed.{WellPhase}
 use Rattle.register.proofs.Bounds.{client-small}
 use Rattle.register.proofs.Enabled.{Enabled, Starts}
 use Rattle.register.proofs.Run.{Run, world, event, enabled-at}
@@ -43,7 +44,6 @@ use Rattle.register.proofs.Outcomes.{grown-phase}
 use Rattle.register.proofs.Outcomes.{nextCounter}
 use Rattle.register.proofs.Frames.{ClientNext, same, starts, took, client-next, Puts, up-stays, up-new}
 use Rattle.register.proofs.Frames.{down-stays, down-new}
-use Rattle.register.proofs.WellFormed.{WellPhase}
 use Rattle.register.proofs.Reachable.{well-formed}
 use Rattle.register.proofs.Live.{not-reading}
 

@@ -1,12 +1,13 @@
 -- What holds on the way to demand 3, in the words of the history, as later work needs it.
 --
--- In order: no two writes send one timestamp; a write that ended before another began has the lower timestamp
--- (001, lemma 5.4); a write that ended before a read began has none higher than the read shows (lemma 5.3);
--- every pair shown is initial, or the pair of exactly one write that began before the read ended; server
--- timestamps never fall; READ, WROTE and SPENT each end exactly one operation of their client.
+-- In order: no two writes send one timestamp, and none the initial pair; a write that ended before another
+-- began has the lower timestamp (001, lemma 5.4); a write that ended before a read began has none higher than
+-- the read shows (lemma 5.3); every pair shown is initial, or the pair of exactly one write that began before
+-- the read ended; server timestamps never fall; READ, WROTE and SPENT each end exactly one operation of their
+-- client. That an operation ends once is in `OneEnd`.
 -- Assumes nothing.
 use mathlib.Core.Path.{_≡_, refl}
-use mathlib.Core.Logic.{_⊎_, inl, inr}
+use mathlib.Core.Logic.{_⊎_, inl, inr, _≢_}
 use mathlib.Core.List.{List}
 use Prim.Native.Nat.{ℕ, _≤_, _<_}
 use native.Mathlib.Omega.{arith}
@@ -22,7 +23,7 @@ use Rattle.register.proofs.Run.{Run}
 use Rattle.register.proofs.Grows.{grows-on}
 use Rattle.register.proofs.ReadStatus.{WritesAt}
 use Rattle.register.proofs.NotOld.{stored-stays, not-old, chosen-known}
-use Rattle.register.proofs.Ordered.{Sending, stored-when-ended, ordered}
+use Rattle.register.proofs.Ordered.{Sending, not-initial, stored-when-ended, ordered}
 use Rattle.register.proofs.Unique.{unique, sends-once, sender}
 use Rattle.register.proofs.Translation.{write-begins, writes-in, writes-out, sends-in, sends-out}
 use Rattle.register.proofs.Regular.{showing}
@@ -57,6 +58,10 @@ module _ (S : Settings) (F : Formats) (accepted : Accepted S) (lawful : Lawful F
       → stamp p₁ ≡ stamp p₂ → b₁ ≡ b₂
   distinct-stamps b₁ d₁ j₁ b₂ d₂ j₂ p₁ p₂ s₁ s₂ e =
       unique run b₁ d₁ j₁ b₂ d₂ j₂ p₁ p₂ (sends-in run b₁ d₁ j₁ p₁ s₁) (sends-in run b₂ d₂ j₂ p₂ s₂) e
+
+  -- no write sends the initial pair
+  pub sends-other : (b d j : ℕ) (p : Pair) → Sends S F steps b d j p → p ≢ initial
+  sends-other b d j p s = not-initial run b d j p (sends-in run b d j p s)
 
   -- a write sends one pair, at one step
   pub one-pair : (b d₁ j₁ d₂ j₂ : ℕ) (p₁ p₂ : Pair) → Sends S F steps b d₁ j₁ p₁ → Sends S F steps b d₂ j₂ p₂

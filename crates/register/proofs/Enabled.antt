@@ -13,13 +13,14 @@ use lib.ListN.{length}
 use borrow.Author.Tests.{leb-false, not-false}
 use Rattle.basics.proofs.Cases.{by-option, both}
 use Rattle.refusal.proofs.Ladders.{none-applies}
+use Rattle.message.specs.Layout.{lastRead}
 use Rattle.message.specs.declared.Message.{Message}
 use Rattle.message.specs.declared.Unpacked.{Unpacked}
-use Rattle.message.specs.declared.Unpacked.the-variants.{Good, Bad}
+use Rattle.message.specs.declared.Unpacked.the-variants.{Good, Refused}
 use Rattle.register.specs.declared.Phase.{Phase}
 use Rattle.register.specs.declared.Phase.the-variants.{Idle, Reading, ReadingForWrite, Storing}
 use Rattle.register.specs.Settings.{Settings, isServer, isClient, isHonest}
-use Rattle.register.specs.Client.{isIdle, highest}
+use Rattle.register.specs.Client.{isIdle}
 use Rattle.register.specs.World.{World, Event, refuses, begins, serves, takes, stops, lies, takenBy}
 use Rattle.register.specs.Steps.{Step, R, W, K, D, C, L, Formats, oldest, hasRoom, isReply, roomUp}
 use Rattle.register.specs.Steps.{roomDown}
@@ -48,7 +49,7 @@ module _ (S : Settings) (F : Formats) (w : World) where
     client : isClient S d ≡ true;
     works : w .stopped d ≡ false;
     idle : isIdle (w .clients d .phase) ≡ true;
-    below : w .clients d .reads .0 < highest;
+    below : w .clients d .reads .0 < lastRead;
     phase : Starts F ph;
     room : roomUp S F w d (slotsFor ph) ≡ true;
   }
@@ -93,7 +94,7 @@ module _ (S : Settings) (F : Formats) (w : World) where
       → isServer S k ≡ true
       → S .faulty k ≡ true → isReply u ≡ true → w .stopped d || hasRoom (w .down d k) 1 ≡ true
       → Enabled (liesWith S F k d u)
-  lies-enabled k d bytes Bad e c s h r room = tt
+  lies-enabled k d bytes (Refused x) e c s h r room = tt
   lies-enabled k d bytes (Good m) e c s h r room =
       record { client = c; server = s; faulty = h; reply = r; bytes = bytes; message = e; room = room }
 

@@ -1,11 +1,9 @@
--- Demand 3, with this repository's formats: for every accepted setting and every list of steps.
+-- This repository's formats are lawful: they have the two laws that the proof asks of them.
 --
--- Why: the theorem asks two laws of the formats. A licence entry has 40 bits, and what unpacks is well formed, so its
--- fields are in their widths.
+-- Why: a licence entry has 40 bits, and what unpacks is well formed, so its fields are in their widths.
 -- Assumes nothing.
 use mathlib.Core.Path.{_≡_}
 use mathlib.Core.Bool.{true}
-use mathlib.Core.List.{List}
 use Prim.Native.Nat.{_^_}
 use lib.Dec.{ltb}
 use borrow.Author.Tests.{ltb-true}
@@ -15,11 +13,8 @@ use Rattle.message.specs.declared.Message.{Message}
 use Rattle.message.specs.declared.Message.the-variants.{GetInfo, Info, Done, WriteInfo, Fwd, WriteAck}
 use Rattle.message.specs.Layout.{wellFormed}
 use Rattle.message.proofs.RoundTrip.{pack-unpack}
-use Rattle.register.specs.Settings.{Settings, Accepted}
-use Rattle.register.specs.Steps.{Step}
-use Rattle.register.specs.Formats.{formats, DemandThree}
+use Rattle.register.specs.Formats.{formats}
 use Rattle.register.proofs.Lawful.{FieldsFit, Lawful}
-use Rattle.register.proofs.Theorem.{demand-three}
 
 fields-fit : (m : Message) → wellFormed m ≡ true → FieldsFit m
 unfolding wellFormed
@@ -39,6 +34,3 @@ lawful =
       fits = λ bytes m e. fields-fit m (pack-unpack bytes m
           e .within);
     }
-
-pub holds-always : (S : Settings) → Accepted S → (steps : List Step) → DemandThree S steps
-holds-always S accepted steps = demand-three formats lawful S accepted steps

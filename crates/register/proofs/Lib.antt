@@ -21,7 +21,6 @@ pub mod Turns
 pub mod PutCases
 pub mod Dropping
 -- Every reachable world is well formed, and no D is refused for want of room.
-pub mod WellFormed
 pub mod WellServer
 pub mod WellClient
 pub mod Rooms
@@ -49,6 +48,8 @@ pub mod OnePair
 pub mod SentWrites
 pub mod Rows
 pub mod Translation
+pub mod OneEnd
+pub mod Finished
 pub mod Regular
 -- Liveness: a quiet client has nothing open.
 pub mod Infos
@@ -60,9 +61,10 @@ pub mod Awaiting
 pub mod Still
 pub mod Quiet
 -- The theorem, what else it gives, uses of its statement, and runs that it speaks of.
-pub mod Theorem
 pub mod Formats
+pub mod Theorem
 pub mod WellAnswered
+pub mod OwnPair
 pub mod Consequences
 pub mod Uses
 pub mod Runs

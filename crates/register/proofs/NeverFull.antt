@@ -1,4 +1,4 @@
--- A step D of a run is never refused 12 (FullChannel).
+-- A step D of a run is never refused 12, 'full tray'.
 --
 -- Why: a start is accepted only where every channel to an honest server has room for all that the operation will put
 -- there (`slotsFor`: a read's GET_INFO and DONE, a write's WRITE_INFO too); only the client itself puts messages on its
@@ -19,7 +19,7 @@ use borrow.Author.Tests.{eqb-true, le-leb}
 use Rattle.basics.specs.Update.{update}
 use Rattle.basics.proofs.Cases.{by-test, both, clash}
 use Rattle.basics.proofs.Tests.{below-of}
-use Rattle.refusal.specs.declared.Refusal.the-variants.{FullChannel}
+use Rattle.refusal.specs.Numbers.{numbered}
 use Rattle.message.specs.declared.Message.{Message}
 use Rattle.register.specs.declared.Phase.{Phase}
 use Rattle.register.specs.declared.Phase.the-variants.{Idle, Reading, ReadingForWrite, Storing}
@@ -113,7 +113,7 @@ module _ (S : Settings) (F : Formats) (w : World)
           let room : length (w .up d (suc i)) + length (takenBy S w d k m .sends) ≤ slots = omega arith in
           le-leb _ _ room
 
-  not-full : (d k : ℕ) → refusalOf S F w (D d k) ≡ some FullChannel → ⊥
+  not-full : (d k : ℕ) → refusalOf S F w (D d k) ≡ some (numbered 12) → ⊥
   unfolding refusalOf ladder
   not-full d k h =
       by-test (isClient S d && isServer S k)
@@ -133,5 +133,5 @@ module _ (S : Settings) (F : Formats) (steps : List Step) where
       kept-next S F (worldAt S F steps i) (kept-at i) (eventOf S F (worldAt S F steps i) (stepAt S F steps i))
       (enabled S F (worldAt S F steps i) (stepAt S F steps i)) d k honest
 
-  pub never-full : (i d k : ℕ) → refusalOf S F (worldAt S F steps i) (D d k) ≡ some FullChannel → ⊥
+  pub never-full : (i d k : ℕ) → refusalOf S F (worldAt S F steps i) (D d k) ≡ some (numbered 12) → ⊥
   never-full i d k h = not-full S F (worldAt S F steps i) (kept-at i) d k h

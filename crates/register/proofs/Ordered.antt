@@ -5,6 +5,7 @@
 -- numbers.
 -- Assumes nothing.
 use mathlib.Core.Path.{_≡_, ap, _∙_, subst}
+use mathlib.Core.Logic.{_≢_}
 use Prim.Native.Nat.{ℕ, suc, _+_, _*_, _^_, _≤_, _<_}
 use native.Mathlib.Omega.{arith}
 use lib.Dec.{leb, ltb}
@@ -12,8 +13,8 @@ use borrow.Author.Tests.{leb-true, leb-false, ltb-true, ltb-false}
 use Rattle.basics.proofs.Cases.{by-test, by-either}
 use Rattle.message.specs.declared.Entry.{Entry}
 use Rattle.message.specs.declared.Pair.{Pair}
-use Rattle.message.specs.Pair.{stamp, counter, client, pairOf}
-use Rattle.message.proofs.Pairs.{stamp-is, stamp-of, client-fits}
+use Rattle.message.specs.Pair.{stamp, counter, client, pairOf, initial}
+use Rattle.message.proofs.Pairs.{stamp-is, stamp-of, client-fits, initial-stamp}
 use Rattle.register.specs.declared.Phase.the-variants.{ReadingForWrite}
 use Rattle.register.specs.Client.{entryOf}
 use Rattle.register.specs.World.{begins, takes}
@@ -75,6 +76,11 @@ module _ (r : Run) where
       (λ o. absurd (s .unended (o .at) (o .after) (let x = o .before in omega arith) (o .writes)))
 
   -- what was stored when the write began is older
+  -- what a write sends is not the initial pair
+  pub not-initial : (b d j : ℕ) (p : Pair) → Sending b d j p → p ≢ initial
+  not-initial b d j p s e =
+      let high = sent-facts b d j p s .stamp in let z : stamp p ≡ 0 = rw e initial-stamp in omega arith
+
   pub newer : (b d j : ℕ) (p : Pair) (v : ℕ) → Sending b d j p → Stored (r .S) (world r b) v → v < stamp p
   newer b d j p v s st =
       let f = sent-facts b d j p s in

@@ -22,10 +22,10 @@ use Rattle.register.specs.World.{takenBy}
 use Rattle.register.specs.World.{nextServers, nextClients, nextStopped, apply}
 use Rattle.register.specs.Steps.{Step, Formats, eventOf}
 use Rattle.register.specs.History.{stepAt, worldAt}
+use Rattle.register.specs.WellFormed.{FromClient, FromServer, WellPhase, WellServer, WellClient}
+use Rattle.register.specs.WellFormed.{WellFormed}
 use Rattle.register.proofs.Enabled.{Enabled, Starts, enabled}
 use Rattle.register.proofs.Lawful.{Lawful}
-use Rattle.register.proofs.WellFormed.{FromClient, FromServer, WellPhase, WellServer, WellClient}
-use Rattle.register.proofs.WellFormed.{WellFormed}
 use Rattle.register.proofs.WellServer.{well-after}
 use Rattle.register.proofs.WellClient.{well-cleared, well-started}
 use Rattle.register.proofs.WellChannels.{oldest-kind, well-empty, well-taken, up-next, down-next}

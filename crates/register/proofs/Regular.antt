@@ -1,12 +1,13 @@
 -- Multi-writer regularity of the history: each finished read has a row, and any two rows agree.
 --
--- The row is the sorted one of `Rows`. Its order follows from the keys; the read stands first, or right after
--- the write that it shows, since what it shows is initial or was sent, by exactly one write (`Genuine`,
--- `Unique`). Two rows agree on writes that began before both reads ended, since both have these by timestamp.
+-- The row is the sorted one of `Rows`, for the one end that the read has (`Finished`, `OneEnd`). Its order
+-- follows from the keys; the read stands first, or right after the write that it shows, since what it shows
+-- is initial or was sent, by exactly one write (`Genuine`, `Unique`). Two rows agree on writes that began
+-- before both reads ended, since both have these by timestamp.
 -- Assumes nothing.
 use mathlib.Core.Path.{_≡_, refl, sym, subst}
 use mathlib.Core.Logic.{_⊎_, inl, inr}
-use mathlib.Core.List.{List}
+use mathlib.Core.List.{List, []}
 use Prim.Native.Nat.{ℕ, suc, _<_}
 use native.Mathlib.Omega.{arith}
 use lib.Dec.{ltb}
@@ -17,13 +18,14 @@ use Rattle.basics.proofs.Sorting.{once}
 use Rattle.message.specs.declared.Pair.{Pair}
 use Rattle.message.specs.Pair.{stamp}
 use Rattle.register.specs.declared.Answer.the-variants.{Read}
-use Rattle.register.specs.History.{ReadEnds, AnswersRead, Ends, HasSent}
-use Rattle.register.specs.DemandThree.{Earlier, Legal, Row, Agree}
+use Rattle.register.specs.History.{ReadEnds, Ends, HasSent}
+use Rattle.register.specs.DemandThree.{Earlier, Legal, first, behind, Row, Agree}
 use Rattle.register.proofs.Run.{Run, answer}
 use Rattle.register.proofs.Since.{since}
 use Rattle.register.proofs.ReadStatus.{WritesAt, DecidesAt, read-status}
 use Rattle.register.proofs.Genuine.{Known}
 use Rattle.register.proofs.NotOld.{chosen-known}
+use Rattle.register.proofs.Ordered.{not-initial}
 use Rattle.register.proofs.Unique.{unique, sender}
 use Rattle.register.proofs.SentWrites.{SentBefore}
 use Rattle.register.proofs.Rows.{Showing, key, rowOf, row-rises, from-row, in-row, lower-earlier}
@@ -32,6 +34,8 @@ use Rattle.register.proofs.Rows.{write-write, write-read, read-write, s
 use Rattle.register.proofs.Rows.{stamp-of-key, key-of-stamp}
 use Rattle.register.proofs.Translation.{read-begins, write-begins, reads-in, reads-out, writes-in}
 use Rattle.register.proofs.Translation.{writes-out, sends-in, sends-out}
+use Rattle.register.proofs.OneEnd.{read-ends-once}
+use Rattle.register.proofs.Finished.{Finished, Unfinished, finished}
 
 module _ (r : Run) where
   -- the number of steps
@@ -84,8 +88,31 @@ module _ (r : Run) where
             (subst (λ (k : ℕ). DecidesAt r k d (o .pair)) e (o .decides));
       }))
 
-  pub row : ℕ → ℕ → Pair → List ℕ
-  row b j p = rowOf r N b j (stamp p)
+  -- the row of the read b; of what is no finished read, an empty one
+  rowBy : (b : ℕ) → Finished r b ⊎ Unfinished r b → List ℕ
+  rowBy b (inl e) = rowOf r N b (e .at) (stamp (e .pair))
+  rowBy b (inr h) = []
+
+  pub row : ℕ → List ℕ
+  row b = rowBy b (finished r b)
+
+  -- the sorted row of a read that ends at step j and shows p
+  abbrev sorted : ℕ → ℕ → Pair → List ℕ
+  sorted b j p = rowOf r N b j (stamp p)
+
+  by-end : (b d j : ℕ) (p : Pair) → ReadEnds (r .S) (r .F) (r .steps) b d j p
+      → (u : Finished r b ⊎ Unfinished r b)
+      → sorted b j p ≡ rowBy b u
+  unfolding rowBy
+  by-end b d j p x (inl e) =
+      let once =
+      read-ends-once (r .S) (r .F) (r .steps) b d j p (e .client) (e .at) (e .pair) x (e .ends) in
+      rw (once .1, once .2) refl
+  by-end b d j p x (inr h) = absurd (h d j p x)
+
+  row-is : (b d j : ℕ) (p : Pair) → ReadEnds (r .S) (r .F) (r .steps) b d j p → sorted b j p ≡ row b
+  unfolding row
+  row-is b d j p x = by-end b d j p x (finished r b)
 
   module _ (b d j : ℕ) (p : Pair) (x : ReadEnds (r .S) (r .F) (r .steps) b d j p) where
     s : Showing r b d j p
@@ -113,16 +140,7 @@ module _ (r : Run) where
 
     read-ended : (i : ℕ) → Ends (r .S) (r .F) (r .steps) b i → i ≡ j
     read-ended i (inl e) =
-        let q = read-begins r b (e .0) (e .2 .begins) in
-        let q′ = s .begins in
-        let z : e .0 ≡ d = cc in
-        let here : AnswersRead (r .S) (r .F) (r .steps) i d (e .1) =
-        subst (λ (k : ℕ). AnswersRead (r .S) (r .F) (r .steps) i k (e .1)) z (e .2 .ends) in
-        by-test (ltb i j) (λ t. absurd (x .next i (e .2 .later) (ltb-true i j t) (e .1) here))
-        (λ t. by-test (ltb j i)
-        (λ u. absurd (e .2 .next j (x .later) (ltb-true j i u) p
-        (subst (λ (k : ℕ). AnswersRead (r .S) (r .F) (r .steps) j k p) (sym z) (x .ends))))
-        (λ u. let a = ltb-false i j t in let c = ltb-false j i u in omega arith))
+        read-ends-once (r .S) (r .F) (r .steps) b (e .0) i (e .1) d j p (e .2) x .1
     read-ended i (inr e) = let q = write-begins r b (e .0) (e .1 .begins) in let q′ = s .begins in clash (cc)
 
     -- ---- the order of the row
@@ -144,7 +162,7 @@ module _ (r : Run) where
     -- ---- what the read shows
 
     legal : Known r j p → Legal (r .S) (r .F) (r .steps) b j p (rowOf r N b j (stamp p))
-    legal (inl e) = inl (e, stands-first r N b d j p s inList e)
+    legal (inl e) = first (record { shown = e; stands = stands-first r N b d j p s inList e })
     legal (inr k) =
         let w = sender r (k .at) (k .client) p (k .puts) in
         let lt = k .before in
@@ -152,25 +170,25 @@ module _ (r : Run) where
         let sent : SentBefore r N (w .begin) =
         record { client = k .client; at = k .at; before = omega arith; pair = p; sending = w .sending } in
         let f = right-after r N b d j p s inList (w .begin) sent (omega arith) refl in
-        inr (
-          w .begin,
-          f .place,
-          record {
+        behind (record {
+          shown = not-initial r (w .begin) (k .client) (k .at) p (w .sending);
+          write = w .begin;
+          only = record {
             client = k .client;
             at = k .at;
             sends = sends-out r (w .begin) (k .client) (k .at) p (omega arith) (w .sending);
             only = λ b′ d′ j′ z. unique r b′ d′ j′ (w .begin) (k .client) (k .at) p p (sends-in r b′ d′ j′ p
                 z)
                 (w .sending) refl;
-          },
-          omega arith,
-          f .here,
-          f .next,
-        )
+          };
+          sooner = omega arith;
+          place = f .place;
+          stands = f .here;
+          next = f .next;
+        })
 
-    pub is-row : Row (r .S) (r .F) (r .steps) b j p (row b j p)
-    unfolding row
-    is-row =
+    sorted-row : Row (r .S) (r .F) (r .steps) b j p (sorted b j p)
+    sorted-row =
         record {
           members = λ a. (
             (λ m. by-either (from-row r N b d j p s inList a m) (λ e. inl e) (λ w. inr (sent-out a w))),
@@ -184,14 +202,16 @@ module _ (r : Run) where
           legal = legal (chosen-known r j d p (s .decides));
         }
 
+    pub is-row : Row (r .S) (r .F) (r .steps) b j p (row b)
+    is-row = subst (λ (l : List ℕ). Row (r .S) (r .F) (r .steps) b j p l) (row-is b d j p x) sorted-row
+
   -- ---- agreement
 
   one-way : (b₁ d₁ j₁ : ℕ) (p₁ : Pair) (b₂ d₂ j₂ : ℕ) (p₂ : Pair)
       → ReadEnds (r .S) (r .F) (r .steps) b₁ d₁ j₁ p₁
       → ReadEnds (r .S) (r .F) (r .steps) b₂ d₂ j₂ p₂ → (a c : ℕ) → HasSent (r .S) (r .F) (r .steps) a
-      → HasSent (r .S) (r .F) (r .steps) c → a < j₁ → a < j₂ → c < j₁ → c < j₂ → Earlier (row b₁ j₁ p₁) a c
-      → Earlier (row b₂ j₂ p₂) a c
-  unfolding row
+      → HasSent (r .S) (r .F) (r .steps) c → a < j₁ → a < j₂ → c < j₁ → c < j₂ → Earlier (sorted b₁ j₁ p₁) a c
+      → Earlier (sorted b₂ j₂ p₂) a c
   one-way b₁ d₁ j₁ p₁ b₂ d₂ j₂ p₂ x₁ x₂ a c sa sc a₁ a₂ c₁ c₂ e =
       let s₁ = showing b₁ d₁ j₁ p₁ x₁ in
       let s₂ = showing b₂ d₂ j₂ p₂ x₂ in
@@ -210,8 +230,10 @@ module _ (r : Run) where
   pub agree : (b₁ d₁ j₁ : ℕ) (p₁ : Pair) (b₂ d₂ j₂ : ℕ) (p₂ : Pair)
       → ReadEnds (r .S) (r .F) (r .steps) b₁ d₁ j₁ p₁
       → ReadEnds (r .S) (r .F) (r .steps) b₂ d₂ j₂ p₂
-      → Agree (r .S) (r .F) (r .steps) j₁ j₂ (row b₁ j₁ p₁) (row b₂ j₂ p₂)
-  agree b₁ d₁ j₁ p₁ b₂ d₂ j₂ p₂ x₁ x₂ a c sa sc a₁ a₂ c₁ c₂ = (
-    one-way b₁ d₁ j₁ p₁ b₂ d₂ j₂ p₂ x₁ x₂ a c sa sc a₁ a₂ c₁ c₂,
-    one-way b₂ d₂ j₂ p₂ b₁ d₁ j₁ p₁ x₂ x₁ a c sa sc a₂ a₁ c₂ c₁,
-  )
+      → Agree (r .S) (r .F) (r .steps) j₁ j₂ (row b₁) (row b₂)
+  agree b₁ d₁ j₁ p₁ b₂ d₂ j₂ p₂ x₁ x₂ =
+      rw (← (row-is b₁ d₁ j₁ p₁ x₁), ← (row-is b₂ d₂ j₂ p₂ x₂))
+      (λ a c sa sc a₁ a₂ c₁ c₂. (
+        one-way b₁ d₁ j₁ p₁ b₂ d₂ j₂ p₂ x₁ x₂ a c sa sc a₁ a₂ c₁ c₂,
+        one-way b₂ d₂ j₂ p₂ b₁ d₁ j₁ p₁ x₂ x₁ a c sa sc a₂ a₁ c₂ c₁,
+      ))

@@ -10,7 +10,7 @@ use lib.ListN.{length}
 use Rattle.basics.specs.Bytes.{spelt}
 use Rattle.calendar.specs.Calendar.{isDate, monthLength, leap}
 use Rattle.licence.specs.Entry.{isLicence, isLicensed}
-use Rattle.basics.specs.Counting.{count}
+use Rattle.basics.specs.Counting.{countBelow}
 use Rattle.basics.specs.Tests.{allBelow}
 use Rattle.basics.specs.Update.{update}
 use Rattle.message.specs.declared.Entry.{Entry}
@@ -47,7 +47,7 @@ answersFrom S F steps i (suc n) = answerAt S F steps i ∷ answersFrom S F steps
 unfoldable pub answers : Settings → Formats → List Step → List Answer
 unfolding worldAt answerOf eventOf refusalOf ladder accepted apply nextServers nextClients nextStopped nextUp
     nextDown leavesUp leavesDown putsUp putsDown isEmpty oldest hasRoom roomUp roomDown isReply allBelow
-    count update
+    countBelow update
     isServer isClient isHonest stored serverAfter serverSends forwards sentTo insert add has isIdle isReading
     isStoring
     nextRead started withPair withInfo withAck entryOf isNoted isAtMost higher highestOf allPairs notOld

@@ -1,21 +1,21 @@
--- Demand 3 holds: for every accepted setup and every list of steps, with any lawful formats.
+-- Demand 3 holds: for every accepted setting and every list of steps. This is `demand-three`.
 --
 -- Rows and their agreement are `Regular`. A quiet client is idle at the end of the list (`Quiet`), and an
 -- operation that has not ended leaves its client in a phase that is not idle (`ReadStatus`, `WriteStatus`);
--- so it has nothing open.
+-- so it has nothing open. All of it is for any lawful formats; this repository's are lawful (`Formats`).
 -- Assumes nothing.
 use Prim.Native.Nat.{ℕ}
 use lib.ListN.{length}
 use Rattle.basics.proofs.Cases.{by-either, clash}
-use Rattle.register.specs.Steps.{Formats}
+use Rattle.register.specs.Formats.{formats}
 use Rattle.register.specs.History.{Quiet, NothingOpen}
-use Rattle.register.specs.DemandThree.{Holds, DemandThreeBy}
-use Rattle.register.proofs.Lawful.{Lawful}
+use Rattle.register.specs.DemandThree.{Holds, DemandThree}
 use Rattle.register.proofs.Run.{Run}
+use Rattle.register.proofs.Formats.{lawful}
 use Rattle.register.proofs.ReadStatus.{read-status}
 use Rattle.register.proofs.WriteStatus.{in-phase, write-status}
-use Rattle.register.proofs.Translation.{read-begins, write-begins, reads-in, reads-out, writes-in}
-use Rattle.register.proofs.Translation.{writes-out}
+use Rattle.register.proofs.Translation.{read-begins, write-begins, writes-in, writes-out}
+use Rattle.register.proofs.Finished.{read-ends}
 use Rattle.register.proofs.Regular.{row, is-row, agree}
 use Rattle.register.proofs.Quiet.{idle}
 
@@ -26,16 +26,7 @@ module _ (r : Run) where
       record {
         reads = λ b x. by-either (read-status r b d (read-begins r b d x) (length (r .steps)) (x .inList))
             (λ o. let h = o .phase in clash (cc))
-            (λ o. (
-              o .at,
-              o .pair,
-              record {
-                begins = x;
-                later = o .after;
-                ends = reads-out r (o .at) d (o .pair) (o .before) (o .reads);
-                next = λ i lo hi p y. o .first i lo hi p (reads-in r i d p y);
-              },
-            ));
+            (λ o. (o .at, o .pair, read-ends r b d x o));
         writes = λ b x. by-either (write-status r b d (x .entry) (write-begins r b d x) (length (r .steps))
             (x .inList))
             (λ o. in-phase r b d (x .entry) (length (r .steps)) o (λ h. clash (cc)) (λ c h. clash (cc)))
@@ -53,6 +44,6 @@ module _ (r : Run) where
   pub holds : Holds (r .S) (r .F) (r .steps)
   holds = record { row = row r; rows = is-row r; agree = agree r; quiet = nothing-open }
 
-pub demand-three : (F : Formats) → Lawful F → DemandThreeBy F
-demand-three F lawful S accepted steps =
-    holds (record { S = S; F = F; steps = steps; accepted = accepted; lawful = lawful })
+pub demand-three : DemandThree
+demand-three S accepted steps =
+    holds (record { S = S; F = formats; steps = steps; accepted = accepted; lawful = lawful })

@@ -17,7 +17,7 @@ use Rattle.message.specs.declared.Message.{Message}
 use Rattle.message.specs.declared.Message.the-variants.{WriteInfo}
 use Rattle.message.specs.declared.Pair.{Pair}
 use Rattle.message.specs.declared.Unpacked.{Unpacked}
-use Rattle.message.specs.declared.Unpacked.the-variants.{Good, Bad}
+use Rattle.message.specs.declared.Unpacked.the-variants.{Good, Refused}
 use Rattle.register.specs.declared.Answer.the-variants.{Went, Refused}
 use Rattle.register.specs.declared.Phase.{Phase}
 use Rattle.register.specs.declared.Phase.the-variants.{Reading, ReadingForWrite}
@@ -56,7 +56,7 @@ module _ (S : Settings) (F : Formats) (w : World) where
 
   lie-source : (k d : ℕ) (bytes : List ℕ) (u : Unpacked) → Source (L k d bytes) (liesWith S F k d u)
   lie-source k d bytes (Good m) = lie
-  lie-source k d bytes Bad = refused
+  lie-source k d bytes (Refused r) = refused
 
   accepted-source : (s : Step) → Source s (accepted S F w s)
   unfolding accepted

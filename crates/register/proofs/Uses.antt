@@ -4,6 +4,7 @@
 -- `not-overwritten` (Lamport's regularity): a read never shows a write after which another write began and
 -- ended before the read began. `no-return`: if one read shows a write b although a write a had ended before
 -- that read, then a read that begins after b has ended does not show a again; here two rows must agree.
+-- `not-the-start`: a read that begins after a write has ended does not show the initial pair.
 -- `read-finishes`, `write-finishes`: a quiet client's operations have ended.
 -- Assumes nothing.
 use mathlib.Core.Path.{_≡_, refl, sym, _∙_, subst, ap}
@@ -17,11 +18,12 @@ use borrow.Author.Tests.{eqb-true, eqb-false}
 use Rattle.basics.specs.Members.{Member, At}
 use Rattle.basics.proofs.Cases.{by-test, by-either}
 use Rattle.message.specs.declared.Pair.{Pair}
+use Rattle.message.specs.Pair.{initial}
 use Rattle.register.specs.Settings.{Settings}
 use Rattle.register.specs.Steps.{Step, Formats}
 use Rattle.register.specs.History.{ReadBegins, WriteBegins, ReadEnds, WriteEnds, Ends, HasSent, PairOf}
 use Rattle.register.specs.History.{Quiet}
-use Rattle.register.specs.DemandThree.{Earlier, Row, Holds}
+use Rattle.register.specs.DemandThree.{Earlier, Legal, first, behind, Row, Holds}
 
 module _ (S : Settings) (F : Formats) (steps : List Step) (H : Holds S F steps) where
   -- an operation ends after it began
@@ -41,7 +43,7 @@ module _ (S : Settings) (F : Formats) (steps : List Step) (H : Holds S F steps) 
 
   module _ (b d j : ℕ) (p : Pair) (x : ReadEnds S F steps b d j p) where
     abbrev row : List ℕ
-    row = H .row b j p
+    row = H .row b
 
     abbrev R : Row S F steps b j p row
     R = H .rows b d j p x
@@ -52,20 +54,26 @@ module _ (S : Settings) (F : Formats) (steps : List Step) (H : Holds S F steps) 
     written : (w : ℕ) → HasSent S F steps w → Member w row
     written w s = R .members w .1 (inr s)
 
+    -- a read that stands first has nothing earlier
+    nothing-earlier : (a : ℕ) → Earlier row a b → At row b 0 → ⊥
+    nothing-earlier a e at =
+        let same = R .once b (e .two) 0 (e .second) at in let lt = e .before in omega arith
+
     -- the shown write, where a member stands earlier than the read
     shows : (w a : ℕ) → PairOf S F steps p w → Earlier row a b → Shows b j w row
-    shows w a q e =
-        by-either (R .legal)
-        (λ l. let same = R .once b (e .two) 0 (e .second) (l .1) in let lt = e .before in absurd (omega
-        arith))
-        (λ l. let v = l .0 in
-        let same : v ≡ w = q .only v (l .2 .client) (l .2 .at) (l .2 .sends) in
-        record {
-          place = l .1;
-          write = subst (λ (z : ℕ). At row z (l .1)) same (l .4);
-          read = l .5;
-          sooner = subst (λ (z : ℕ). z < j) same (l .3);
-        })
+    shows w a q e = by-place (R .legal)
+      where
+        by-place : Legal S F steps b j p row → Shows b j w row
+        by-place (first l) = absurd (nothing-earlier a e (l .stands))
+        by-place (behind l) =
+            let same : l .write ≡ w =
+            q .only (l .write) (l .only .client) (l .only .at) (l .only .sends) in
+            record {
+              place = l .place;
+              write = subst (λ (z : ℕ). At row z (l .place)) same (l .stands);
+              read = l .next;
+              sooner = subst (λ (z : ℕ). z < j) same (l .sooner);
+            }
 
     -- a member that ended before the read began stands no later than the shown write
     at-or-before : (w a i : ℕ) → PairOf S F steps p w → HasSent S F steps a → Ends S F steps a i → i < b
@@ -105,6 +113,14 @@ module _ (S : Settings) (F : Formats) (steps : List Step) (H : Holds S F steps) 
         by-either (at-or-before w a i q s ea ab)
         (λ same. let lt = ends-later w k ew in omega arith)
         (λ after. not-both w a first after)
+
+    -- a read that begins after a write that sent has ended does not show the initial pair
+    pub not-the-start : (a i : ℕ) → HasSent S F steps a → Ends S F steps a i → i < b → p ≢ initial
+    not-the-start a i s ea ab e = by-place (R .legal)
+      where
+        by-place : Legal S F steps b j p row → ⊥
+        by-place (first l) = nothing-earlier a (R .order a b i (written a s) here ea ab) (l .stands)
+        by-place (behind l) = l .shown e
 
   -- agreement: what one read has passed, no read after it returns to
   pub no-return : (b₁ d₁ j₁ : ℕ) (p₁ : Pair) (b₂ d₂ j₂ : ℕ) (p₂ : Pair) → ReadEnds S F steps b₁ d₁ j₁ p₁

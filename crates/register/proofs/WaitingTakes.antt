@@ -24,10 +24,10 @@ use Rattle.message.specs.declared.Message.the-variants.{Info, Fwd}
 use Rattle.message.specs.declared.Pair.{Pair}
 use Rattle.message.specs.declared.ReadNumber.{ReadNumber}
 use Rattle.message.specs.Pair.{stamp}
-use Rattle.register.specs.PairSet.{add}
+use Rattle.register.specs.PairSet.{add, Ordered}
 use Rattle.register.specs.Server.{Server}
 use Rattle.register.specs.Client.{Client, setLimit, isReading, withInfo, withPair}
-use Rattle.register.proofs.PairSets.{Ordered, add-keeps}
+use Rattle.register.proofs.PairSets.{add-keeps}
 use Rattle.register.proofs.Outcomes.{Grown, noted, added, Untaken}
 use Rattle.register.proofs.Infos.{number, number-noted, number-none, infos-cons, info-one, info-none}
 use Rattle.register.proofs.Waiting.{Told, Waits}

@@ -10,9 +10,7 @@ use mathlib.Core.Path.{_≡_}
 use mathlib.Core.Logic.{inl, inr}
 use Prim.Native.Nat.{ℕ, _<_}
 use native.Mathlib.Omega.{arith}
-use lib.Dec.{ltb}
-use borrow.Author.Tests.{ltb-true, ltb-false}
-use Rattle.basics.proofs.Cases.{by-test, by-either, clash}
+use Rattle.basics.proofs.Cases.{by-either, clash}
 use Rattle.message.specs.declared.Pair.{Pair}
 use Rattle.register.specs.declared.Phase.the-variants.{Reading}
 use Rattle.register.specs.World.{begins}
@@ -23,13 +21,7 @@ use Rattle.register.proofs.WriteStatus.{in-phase, write-status}
 use Rattle.register.proofs.Open.{shows-open, open-read, ends-open}
 use Rattle.register.proofs.Translation.{read-began, write-began, read-begins, write-begins}
 use Rattle.register.proofs.Translation.{reads-in, reads-out, writes-in, writes-out}
-
--- of two numbers neither of which is below the other
-same-number : (a b : ℕ) → (a < b → ⊥) → (b < a → ⊥) → a ≡ b
-same-number a b p q =
-    by-test (ltb a b) (λ t. absurd (p (ltb-true a b t)))
-    (λ t. by-test (ltb b a) (λ u. absurd (q (ltb-true b a u)))
-    (λ u. let x = ltb-false a b t in let y = ltb-false b a u in omega arith))
+use Rattle.register.proofs.OneEnd.{same-number}
 
 module _ (r : Run) where
   -- the read that a READ ends

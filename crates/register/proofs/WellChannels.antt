@@ -19,6 +19,7 @@ use Rattle.basics.specs.Members.{Member}
 use Rattle.basics.proofs.Cases.{by-test, by-either, true-or-false, both, both-of}
 use Rattle.basics.proofs.Members.{member-cases}
 use Rattle.basics.proofs.Update.{update-other}
+use Rattle.message.specs.Layout.{lastRead}
 use Rattle.message.specs.declared.Message.{Message}
 use Rattle.message.specs.declared.Message.the-variants.{GetInfo, Info, Done, WriteInfo, Fwd, WriteAck}
 use Rattle.message.specs.declared.Unpacked.the-variants.{Good}
@@ -26,17 +27,17 @@ use Rattle.register.specs.declared.Phase.{Phase}
 use Rattle.register.specs.declared.Phase.the-variants.{Idle, Reading, ReadingForWrite, Storing}
 use Rattle.register.specs.Settings.{Settings, Accepted, isServer, isClient, isHonest}
 use Rattle.register.specs.Server.{Sent, serverSends, sentTo}
-use Rattle.register.specs.Client.{nextRead, highest}
+use Rattle.register.specs.Client.{nextRead}
 use Rattle.register.specs.World.{World, Event, refuses, begins, serves, takes, stops, lies, takenBy}
 use Rattle.register.specs.World.{putsUp}
 use Rattle.register.specs.World.{putsDown, leavesUp, leavesDown, nextUp, nextDown, nextStopped}
 use Rattle.register.specs.Steps.{Formats, slots, hasRoom, isReply, roomUp}
+use Rattle.register.specs.WellFormed.{FromClient, FromServer, WellChannel, WellFormed}
 use Rattle.register.proofs.Bounds.{client-small, honest-server, honest-of}
 use Rattle.register.proofs.Enabled.{Enabled, slotsFor, Starts}
 use Rattle.register.proofs.Dropping.{put-or-dropped, nothing-put}
 use Rattle.register.proofs.Rooms.{unless, room-up, room-down}
 use Rattle.register.proofs.Lawful.{Lawful, FieldsFit}
-use Rattle.register.proofs.WellFormed.{FromClient, FromServer, WellChannel, WellFormed}
 use Rattle.register.proofs.WellServer.{WellSent, well-sends, sent-there, none-there}
 use Rattle.register.proofs.WellClient.{WellTaken, well-takes}
 
@@ -167,7 +168,7 @@ reply-kind (WriteAck c) r f = f
 
 module _ (S : Settings) (F : Formats) (accepted : Accepted S) (lawful : Lawful F) (w : World) (well :
     WellFormed S F w) where
-  tag-only : (d : ℕ) → w .clients d .reads .0 < highest
+  tag-only : (d : ℕ) → w .clients d .reads .0 < lastRead
       → (m : Message) → Member m (GetInfo (nextRead (w .clients d)) ∷ []) → FromClient m
   unfolding nextRead
   tag-only d low m (inl e) = rw e (omega arith)

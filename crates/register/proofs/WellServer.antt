@@ -24,7 +24,7 @@ use Rattle.message.proofs.Pairs.{counter-fits}
 use Rattle.register.specs.Settings.{Settings, mostClients, isClient}
 use Rattle.register.specs.Server.{Server, stored, serverAfter, serverSends, forwards, Sent, sent}
 use Rattle.register.specs.Server.{sentTo}
-use Rattle.register.proofs.WellFormed.{FromClient, FromServer, WellServer}
+use Rattle.register.specs.WellFormed.{FromClient, FromServer, WellServer}
 
 stored-fits : (p q : Pair) → p .0 < 2 ^ 64 → q .0 < 2 ^ 64 → stored p q .0 < 2 ^ 64
 unfolding stored

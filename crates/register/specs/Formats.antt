@@ -1,16 +1,9 @@
--- How this repository judges entries and bytes, and demand 3 with it.
+-- How this repository judges entries and bytes.
 -- Assumes nothing.
-use mathlib.Core.List.{List}
 use Rattle.licence.specs.Entry.{isLicence}
 use Rattle.message.specs.Layout.{unpackOf}
-use Rattle.register.specs.Settings.{Settings}
-use Rattle.register.specs.Steps.{Step, Formats}
-use Rattle.register.specs.DemandThree.{Holds}
+use Rattle.register.specs.Steps.{Formats}
 
 -- a licence entry is `licence`'s, a message is eleven bytes that `message` unpacks
 abbrev pub formats : Formats
 formats = record { isLicence = λ e. isLicence (e .0); unpack = unpackOf }
-
--- demand 3 of one setting and one list of steps
-abbrev pub DemandThree : Settings → List Step → Type 0
-DemandThree S steps = Holds S formats steps

@@ -5,57 +5,56 @@
 -- Assumes nothing.
 use mathlib.Core.Bool.{Bool}
 use mathlib.Core.List.{List, [], _∷_}
-use Rattle.refusal.specs.declared.Refusal.the-variants as no
-use Rattle.refusal.specs.Ladder.{Rung, _when_}
+use Rattle.refusal.specs.Ladder.{Rung, _whenever_}
 
--- R: 4 6 7 11 12
+-- R
 abbrev pub readLadder : (absent stopped busy exhausted full : Bool) → List Rung
 readLadder absent stopped busy exhausted full =
-    no.NoSuchProcess when absent
-    ∷ no.Stopped when stopped
-    ∷ no.Busy when busy
-    ∷ no.Exhausted when exhausted
-    ∷ no.FullChannel when full
+    4 whenever absent
+    ∷ 6 whenever stopped
+    ∷ 7 whenever busy
+    ∷ 11 whenever exhausted
+    ∷ 12 whenever full
     ∷ []
 
--- W: 4 6 7 8 11 12
+-- W
 abbrev pub writeLadder : (absent stopped busy noEntry exhausted full : Bool) → List Rung
 writeLadder absent stopped busy noEntry exhausted full =
-    no.NoSuchProcess when absent
-    ∷ no.Stopped when stopped
-    ∷ no.Busy when busy
-    ∷ no.NoEntry when noEntry
-    ∷ no.Exhausted when exhausted
-    ∷ no.FullChannel when full
+    4 whenever absent
+    ∷ 6 whenever stopped
+    ∷ 7 whenever busy
+    ∷ 8 whenever noEntry
+    ∷ 11 whenever exhausted
+    ∷ 12 whenever full
     ∷ []
 
--- K: 4 5 10 12
+-- K
 abbrev pub serveLadder : (absent faulty empty full : Bool) → List Rung
 serveLadder absent faulty empty full =
-    no.NoSuchProcess when absent
-    ∷ no.WrongRole when faulty
-    ∷ no.EmptyChannel when empty
-    ∷ no.FullChannel when full
+    4 whenever absent
+    ∷ 5 whenever faulty
+    ∷ 10 whenever empty
+    ∷ 12 whenever full
     ∷ []
 
--- D: 4 6 10 12
+-- D
 abbrev pub takeLadder : (absent stopped empty full : Bool) → List Rung
 takeLadder absent stopped empty full =
-    no.NoSuchProcess when absent
-    ∷ no.Stopped when stopped
-    ∷ no.EmptyChannel when empty
-    ∷ no.FullChannel when full
+    4 whenever absent
+    ∷ 6 whenever stopped
+    ∷ 10 whenever empty
+    ∷ 12 whenever full
     ∷ []
 
--- C: 4 6
+-- C
 abbrev pub stopLadder : (absent stopped : Bool) → List Rung
-stopLadder absent stopped = no.NoSuchProcess when absent ∷ no.Stopped when stopped ∷ []
+stopLadder absent stopped = 4 whenever absent ∷ 6 whenever stopped ∷ []
 
--- L: 4 5 9 12
+-- L
 abbrev pub lieLadder : (absent honest malformed full : Bool) → List Rung
 lieLadder absent honest malformed full =
-    no.NoSuchProcess when absent
-    ∷ no.WrongRole when honest
-    ∷ no.Malformed when malformed
-    ∷ no.FullChannel when full
+    4 whenever absent
+    ∷ 5 whenever honest
+    ∷ 9 whenever malformed
+    ∷ 12 whenever full
     ∷ []

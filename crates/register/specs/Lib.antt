@@ -6,6 +6,7 @@ pub mod Client
 pub mod World
 pub mod Ladders
 pub mod Steps
+pub mod WellFormed
+pub mod Formats
 pub mod History
 pub mod DemandThree
-pub mod Formats

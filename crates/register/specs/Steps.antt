@@ -11,17 +11,18 @@ use lib.Dec.{leb}
 use lib.ListN.{length}
 use Rattle.basics.specs.Tests.{allBelow}
 use Rattle.refusal.specs.declared.Refusal.{Refusal}
-use Rattle.refusal.specs.declared.Refusal.the-variants as no
+use Rattle.refusal.specs.Numbers.{numbered}
 use Rattle.refusal.specs.Ladder.{Rung, lowest}
+use Rattle.message.specs.Layout.{lastRead}
 use Rattle.message.specs.declared.Entry.{Entry}
 use Rattle.message.specs.declared.Message.{Message}
 use Rattle.message.specs.declared.Message.the-variants.{GetInfo, Info, Done, WriteInfo, Fwd, WriteAck}
 use Rattle.message.specs.declared.Unpacked.{Unpacked}
-use Rattle.message.specs.declared.Unpacked.the-variants.{Good, Bad}
+use Rattle.message.specs.declared.Unpacked.the-variants.{Good, Refused}
 use Rattle.register.specs.declared.Phase.the-variants.{Reading, ReadingForWrite}
 use Rattle.register.specs.Settings.{Settings, servers, isServer, isClient, isHonest}
 use Rattle.register.specs.Server.{serverSends, sentTo}
-use Rattle.register.specs.Client.{isIdle, highest}
+use Rattle.register.specs.Client.{isIdle}
 use Rattle.register.specs.Ladders.{readLadder, writeLadder, serveLadder, takeLadder, stopLadder, lieLadder}
 use Rattle.register.specs.World.{World, Event, refuses, begins, serves, takes, stops, lies, takenBy}
 
@@ -64,7 +65,7 @@ isReply (Good (WriteAck c)) = true
 isReply (Good (GetInfo t)) = false
 isReply (Good Done) = false
 isReply (Good (WriteInfo p)) = false
-isReply Bad = false
+isReply (Refused r) = false
 
 module _ (S : Settings) (F : Formats) where
   -- every channel from client d that does not drop has room for more messages
@@ -82,10 +83,10 @@ module _ (S : Settings) (F : Formats) where
   unfoldable pub ladder : World → Step → List Rung
   ladder w (R d) =
       readLadder (not (isClient S d)) (w .stopped d) (not (isIdle (w .clients d .phase)))
-      (leb highest (w .clients d .reads .0)) (not (roomUp w d 2))
+      (leb lastRead (w .clients d .reads .0)) (not (roomUp w d 2))
   ladder w (W d e) =
       writeLadder (not (isClient S d)) (w .stopped d) (not (isIdle (w .clients d .phase))) (not (F .isLicence e))
-      (leb highest (w .clients d .reads .0)) (not (roomUp w d 3))
+      (leb lastRead (w .clients d .reads .0)) (not (roomUp w d 3))
   ladder w (K k d) =
       serveLadder (not (isClient S d && isServer S k)) (S .faulty k) (isEmpty (w .up d k))
       (not (roomDown w k d (oldest (w .up d k))))
@@ -104,16 +105,16 @@ module _ (S : Settings) (F : Formats) where
 
   -- the event of a step that is not refused
   abbrev pub servesOldest : ℕ → ℕ → List Message → Event
-  servesOldest k d [] = refuses no.EmptyChannel
+  servesOldest k d [] = refuses (numbered 10)
   servesOldest k d (m ∷ ms) = serves k d m ms
 
   abbrev pub takesOldest : ℕ → ℕ → List Message → Event
-  takesOldest d k [] = refuses no.EmptyChannel
+  takesOldest d k [] = refuses (numbered 10)
   takesOldest d k (m ∷ ms) = takes d k m ms
 
   abbrev pub liesWith : ℕ → ℕ → Unpacked → Event
   liesWith k d (Good m) = lies k d m
-  liesWith k d Bad = refuses no.Malformed
+  liesWith k d (Refused r) = refuses r
 
   unfoldable pub accepted : World → Step → Event
   accepted w (R d) = begins d Reading

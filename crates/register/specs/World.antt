@@ -131,7 +131,7 @@ module _ (S : Settings) where
         down = nextDown w e;
       }
 
-  -- what the step answers
+  -- 01's answer of a step: WENT, or what a taken message comes to (READ, WROTE, SPENT), or REFUSED 4 to 12
   unfoldable pub answerOf : World → Event → Answer
   answerOf w (refuses r) = Refused r
   answerOf w (begins c ph) = Went

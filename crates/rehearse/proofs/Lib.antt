@@ -6,3 +6,7 @@ pub mod Taking
 pub mod Closing
 pub mod Going
 pub mod Whole
+pub mod Outputs
+pub mod Answering
+pub mod Sessions
+pub mod DemandThree

@@ -37,10 +37,17 @@ module _ (isSet : Bool) (t : Settings) (s c b : List ℕ) (n : ℕ) where
         leaves = (λ i. stage true u (st .servers i) (st .clients i) (st .slots i) (nextNumber n)) ∙ ap (setUp known) (sym e);
       }
 
-  pub obeys-refused : (f d m : ℕ) (r : Refusal) → setupOf f d m ≡ setup.Refused r
-      → Obeys known (line.Setup f d m) (output.Answered (Refused r)) (stage isSet t s c b)
+  pub obeys-refused : (f d m : ℕ) (r : Refusal) (s′ c′ b′ : List ℕ) → setupOf f d m ≡ setup.Refused r
+      → (s′ ≡ s) × (c′ ≡ c) × (b′ ≡ b)
+      → Obeys known (line.Setup f d m) (output.Answered (Refused r)) (stage isSet t s′ c′ b′)
   unfolding says after
-  obeys-refused f d m r e = record { prints = ap setupSays (sym e); leaves = ap (setUp known) (sym e) }
+  obeys-refused f d m r s′ c′ b′ e kept =
+      record {
+        prints = ap setupSays (sym e);
+        leaves =
+            (λ i. stage isSet t (kept .0 i) (kept .1 i) (kept .2 i) (nextNumber n))
+            ∙ ap (setUp known) (sym e);
+      }
 
   pub obeys-step : (x : Step) (o : After) → isSet ≡ true → isSound t s c b ≡ true → o ≡ innerOf t s c b x
       → Obeys known (line.Take x) (output.Answered (o .answer)) (stage isSet t (o .servers) (o .clients) (o .slots))

@@ -8,7 +8,7 @@ use mathlib.Core.Bool.{Bool, true, cond}
 use mathlib.Core.List.{List, [], _∷_}
 use Prim.Native.Nat.{ℕ}
 use Rattle.basics.proofs.Cases.{by-test}
-use Rattle.basics.specs.Counting.{count}
+use Rattle.basics.specs.Counting.{countBelow}
 use Rattle.basics.specs.Tests.{allBelow}
 use Rattle.register.specs.Formats.{formats}
 use Rattle.register.specs.Settings.{setupRefusal, inRange}
@@ -41,7 +41,7 @@ new-sound t allowed = stored-state t allowed newWorld (well-new (settingsOf t) f
 
 -- that of the settings that the program starts with
 first-allowed : areAllowed (settingsBy 0 1 0) ≡ true
-unfolding areAllowed setupRefusal inRange settingsOf allBelow count contains
+unfolding areAllowed setupRefusal inRange settingsOf allBelow countBelow contains
 first-allowed = refl
 
 pub first-sound : Sound beginning

@@ -23,7 +23,6 @@ use state::Settings;
 use steps::step::take_step;
 use system::setup::Setup;
 use system::setup::set_up;
-use system::setup::settings_of;
 
 // What the lines of a block leave: the settings, whether a setup was accepted, the next line's number, where the line that is cut
 // begins, and how much output there is.
@@ -88,11 +87,8 @@ fn set_afresh(
     ensures { λ r. ⌜ ((n : ℕ) → Obeys (stage «is_set» t (now (s .entry)) (now (c .entry)) (now (b .entry)) n)
         (Line.Setup f clients faulty) (r .what) (stage (r .«is_set») (r .settings) (now (s .exit)) (now (c .exit)) (now (b .exit)))) ⌝ }
 {
-    match settings_of(f, clients, faulty) {
-        Setup::Set(u) => {
-            set_up(s, c, b);
-            obeyed_of(u, true, Output::Set)
-        }
+    match set_up(f, clients, faulty, s, c, b) {
+        Setup::Set(u) => obeyed_of(u, true, Output::Set),
         Setup::Refused(n) => obeyed_of(t, is_set, Output::Answered(Answer::Refused(n))),
     }
 }

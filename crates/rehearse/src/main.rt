@@ -7,6 +7,7 @@ ghost use mathlib.Core.Path.{_≡_};
 ghost use lib.ListN.{length, take, drop};
 ghost use Rattle.script.specs.Writing.{Written};
 ghost use Rattle.rehearse.specs.Blocks.{joined};
+use libc::STDERR_FILENO;
 use libc::STDIN_FILENO;
 use libc::STDOUT_FILENO;
 use lines::take_lines;
@@ -58,6 +59,15 @@ fn close(input: &mut [u8], have: usize, n: usize) -> usize
     have + 1
 }
 
+// Writes what the lines of a block print, and answers whether all of it was written. If not, that is said on standard error.
+fn write_out(text: &[u8]) -> bool {
+    if io::write_all(STDOUT_FILENO, text) {
+        return true;
+    }
+    io::write_all(STDERR_FILENO, b"rehearse: the output cannot be written\n");
+    false
+}
+
 // Every line of input prints at most 80 bytes, so the output of a block has room. A proved loop has to end, and nothing says that
 // the input does: so the loop counts its turns down, from a number that no run uses up.
 fn main() {
@@ -82,7 +92,9 @@ fn main() {
         }
         q = take_lines(q, &input[..total], &mut out, &mut s, &mut c, &mut b);
         let used = q.used;
-        io::write_all(STDOUT_FILENO, &out[..used]);
+        if !write_out(&out[..used]) {
+            return;
+        }
         let at = q.at;
         have = keep(&mut input, at, total);
         turns -= 1;

@@ -1,8 +1,8 @@
 -- Adding a pair to a set, by its place: what the rule for dropping comes to, for every limit.
 --
--- The pairs at the head of a set that are below p decide p's place (`rankOf`). If the pair there is p, nothing
--- changes (`insert-present`); otherwise p is put there (`insert-absent`). A set within its limit then keeps all
--- (`add-room`), and one that is over it loses its first pair (`add-full`).
+-- The pairs at the head of a set that are below p decide p's place (`rankOf`). If the pair there is p,
+-- nothing changes (`insert-present`); otherwise p is put there (`insert-absent`). A set within its limit then
+-- keeps all (`add-room`), and one that is over it loses its first pair (`add-full`).
 -- Assumes nothing.
 use mathlib.Core.Path.{_≡_, refl, sym, ap, _∙_}
 use mathlib.Core.Bool.{Bool, true, false}
@@ -56,7 +56,8 @@ insert-present p [] less h = absurd (not-suc-le-zero less)
 insert-present p (x ∷ S) less h =
     by-test (below x p)
     (λ e. insert-after p x S e
-    ∙ ap (λ (l : List Pair). x ∷ l) (insert-present p S (omega (arith, rank-after p x S e)) (at-rest p x S true e h)))
+    ∙ ap (λ (l : List Pair). x ∷ l)
+    (insert-present p S (omega (arith, rank-after p x S e)) (at-rest p x S true e h)))
     (λ e. let k = rank-first p x S e in
     let q : same p x ≡ true = sym (ap (λ (j : ℕ). same p (getD (x ∷ S) j initial)) k) ∙ h less in
     rw q)
@@ -70,7 +71,8 @@ insert-absent p (x ∷ S) h =
     ∙ ap (λ (l : List Pair). x ∷ l) (insert-absent p S (at-rest p x S false e h))
     ∙ ap (λ (j : ℕ). placedAt j p (x ∷ S)) (sym (rank-after p x S e)))
     (λ e. let k = rank-first p x S e in
-    let q : same p x ≡ false = sym (ap (λ (j : ℕ). same p (getD (x ∷ S) j initial)) k) ∙ h (omega (arith, k)) in
+    let q : same p x ≡ false = sym (ap (λ (j : ℕ). same p (getD (x ∷ S) j initial)) k)
+    ∙ h (omega (arith, k)) in
     let le = ltb-false (x .0) (p .0) e in
     let ne = eqb-false (p .0) (x .0) q in
     let lt : p .0 < x .0 = by-test (lib.Dec.ltb (p .0) (x .0)) (λ t. ltb-true (p .0) (x .0) t)

@@ -1,8 +1,8 @@
 -- What a memory of 91 numbers holds at a place.
 --
--- A place below 13 is there, so each of the three readings is its number's (`noted-at`, `set-at`, `ack-at`). A
--- set's size is the number that stands for it, or four where that is more (`size-below`, `size-full`), and its
--- pairs are the numbers in order (`pair-at`).
+-- A place below 13 is there, so each of the three readings is its number's (`noted-at`, `set-at`, `ack-at`).
+-- A set's size is the number that stands for it, or four where that is more (`size-below`, `size-full`), and
+-- its pairs are the numbers in order (`pair-at`).
 -- Assumes nothing.
 use mathlib.Core.Path.{_≡_, refl, ap, _∙_}
 use mathlib.Core.Bool.{not}
@@ -51,7 +51,8 @@ pub pairs-length : (l : List ℕ) → length (pairsOf l) ≡ length l
 pairs-length [] = refl
 pairs-length (w ∷ l) = ap suc (pairs-length l)
 
-pub pairs-at : (l : List ℕ) (j : ℕ) (d : Pair) → j < length l → getD (pairsOf l) j d ≡ record { 0 = getD l j 0 }
+pub pairs-at : (l : List ℕ) (j : ℕ) (d : Pair) → j < length l → getD (pairsOf l) j d
+    ≡ record { 0 = getD l j 0 }
 pairs-at [] j d h = absurd (not-suc-le-zero h)
 pairs-at (w ∷ l) zero d h = refl
 pairs-at (w ∷ l) (suc j) d h = pairs-at l j d (le-of-suc-le-suc h)
@@ -69,7 +70,8 @@ module _ (r : List ℕ) (i : ℕ) (long : length r ≡ 91) (ih : i < 13) where
 
   pub size-full : 4 ≤ getD r (13 + i) 0 → length (setIn r (suc i)) ≡ 4
   size-full h =
-      set-length ∙ ap length (take-all (getD r (13 + i) 0) (fourAt r i) (omega (arith, four-length))) ∙ four-length
+      set-length ∙ ap length (take-all (getD r (13 + i) 0) (fourAt r i) (omega (arith, four-length)))
+      ∙ four-length
 
   pub size-most : length (setIn r (suc i)) ≤ 4
   size-most =

@@ -1,8 +1,8 @@
 -- The numbers of a set in memory, before and after a pair is put at its place.
 --
--- The four numbers of a padded set are those of its pairs and then zeros (`word-is`), so reading them at, before or
--- behind the new pair's place gives the numbers of the set with that pair (`widened-is`); and storing a set's own
--- numbers changes nothing (`put-same`).
+-- The four numbers of a padded set are those of its pairs and then zeros (`word-is`), so reading them at,
+-- before or behind the new pair's place gives the numbers of the set with that pair (`widened-is`); and
+-- storing a set's own numbers changes nothing (`put-same`).
 -- Assumes nothing.
 use mathlib.Core.Path.{_≡_, refl, sym, ap, _∙_}
 use mathlib.Core.List.{List, [], _∷_}
@@ -30,7 +30,8 @@ pair-word (p ∷ l) (suc k) = pair-word l k
 
 pub word-drop : (out : ℕ) (l : List Pair) (k : ℕ) → pairWord (drop out l) k ≡ pairWord l (out + k)
 word-drop out l k =
-    pair-word (drop out l) k ∙ ap (λ (x : Pair). x .0) (getD-drop out l k initial) ∙ sym (pair-word l (out + k))
+    pair-word (drop out l) k ∙ ap (λ (x : Pair). x .0) (getD-drop out l k initial)
+    ∙ sym (pair-word l (out + k))
 
 module _ (r : List ℕ) (i : ℕ) (long : length r ≡ 91) (ih : i < 13) (pad : Padded r i) where
   abbrev at : ℕ
@@ -52,16 +53,19 @@ module _ (r : List ℕ) (i : ℕ) (long : length r ≡ 91) (ih : i < 13) (pad : 
     front = length-take-le j (setIn r (suc i)) inside
 
     -- behind the new pair: the pair before
-    behind : (k : ℕ) → j < k → getD (placedAt j p (setIn r (suc i))) k initial ≡ getD (setIn r (suc i)) (k - 1) initial
+    behind : (k : ℕ) → j < k → getD (placedAt j p (setIn r (suc i))) k initial
+        ≡ getD (setIn r (suc i)) (k - 1) initial
     behind k h =
         let S = setIn r (suc i) in
         let q = k - 1 - j in
         let hk : k ≡ length (take j S) + suc q = omega (arith, front) in
         let hq : j + q ≡ k - 1 = omega arith in
-        ap (λ (x : ℕ). getD (placedAt j p S) x initial) hk ∙ getD-append-add (take j S) (p ∷ drop j S) (suc q) initial
+        ap (λ (x : ℕ). getD (placedAt j p S) x initial) hk
+        ∙ getD-append-add (take j S) (p ∷ drop j S) (suc q) initial
         ∙ getD-drop j S q initial ∙ ap (λ (x : ℕ). getD S x initial) hq
 
-    pub widened-is : (k : ℕ) → k ≤ 4 → j ≤ 4 → widenedBy r at j (p .0) k ≡ pairWord (placedAt j p (setIn r (suc i))) k
+    pub widened-is : (k : ℕ) → k ≤ 4 → j ≤ 4 → widenedBy r at j (p .0) k
+        ≡ pairWord (placedAt j p (setIn r (suc i))) k
     widened-is k h jh =
         let S = setIn r (suc i) in
         by-test (lib.Dec.ltb k j)
@@ -79,7 +83,8 @@ module _ (r : List ℕ) (i : ℕ) (long : length r ≡ 91) (ih : i < 13) (pad : 
         let past : j < k = by-test (lib.Dec.ltb j k) (λ t. ltb-true j k t)
         (λ t. absurd (other (let g = ltb-false j k t in omega arith))) in
         let step : at + k - 1 ≡ at + (k - 1) = omega arith in
-        rw (e, e′) (ap (λ (x : ℕ). getD r x 0) step ∙ sym (word-is (k - 1) (omega arith)) ∙ pair-word S (k - 1)
+        rw (e, e′) (ap (λ (x : ℕ). getD r x 0) step ∙ sym (word-is (k - 1) (omega arith))
+        ∙ pair-word S (k - 1)
         ∙ sym (pair-word (placedAt j p S) k ∙ ap (λ (x : Pair). x .0) (behind k past)))))
 
 -- ---- five stores
@@ -93,13 +98,15 @@ four-stores r at a b c d =
     let e3 : at + 3 ≡ suc (suc (suc at)) = omega arith in
     rw (e1, e2, e3)
 
-pub row-four : (l : List Pair) → row (pairWord l) 4 ≡ pairWord l 0 ∷ pairWord l 1 ∷ pairWord l 2 ∷ pairWord l 3 ∷ []
+pub row-four : (l : List Pair) → row (pairWord l) 4
+    ≡ pairWord l 0 ∷ pairWord l 1 ∷ pairWord l 2 ∷ pairWord l 3 ∷ []
 unfolding row
 row-four l = refl
 
 pub put-as-stores : (r : List ℕ) (i : ℕ) (l : List Pair)
     → putSet r i l
-    ≡ set (set (set (set (set r (13 + i) (length l)) (39 + i * 4) (pairWord l 0)) (39 + i * 4 + 1) (pairWord l 1))
+    ≡ set (set (set (set (set r (13 + i) (length l)) (39 + i * 4) (pairWord l 0)) (39 + i * 4 + 1)
+    (pairWord l 1))
     (39 + i * 4 + 2) (pairWord l 2)) (39 + i * 4 + 3) (pairWord l 3)
 unfolding putSet
 put-as-stores r i l =

@@ -1,7 +1,8 @@
 -- Sets in strict order: one turn of the test, and that adding a pair keeps the order.
 --
--- A pair is put behind those below it and in front of those above it (`insert-rising`), and a list without its
--- first is in order too (`rest-rising`); so is a set after the rule for dropping, for every limit (`add-rising`).
+-- A pair is put behind those below it and in front of those above it (`insert-rising`), and a list without
+-- its first is in order too (`rest-rising`); so is a set after the rule for dropping, for every limit
+-- (`add-rising`).
 -- Assumes nothing.
 use mathlib.Core.Path.{_≡_, refl, ap, _∙_}
 use mathlib.Core.Bool.{Bool, true, false, _&&_, _||_}
@@ -40,7 +41,8 @@ abbrev pub Two : List Pair → ℕ → Pair → Pair → Type 0
 Two S j x y = (drop j S ≡ x ∷ drop (suc j) S) × (drop (suc j) S ≡ y ∷ drop (suc (suc j)) S)
 
 pub two-at : (r : List ℕ) (i : ℕ) → length r ≡ 91 → i < 13 → (j : ℕ) → suc j < length (setIn r (suc i))
-    → Two (setIn r (suc i)) j (record { 0 = getD r (39 + i * 4 + j) 0 }) (record { 0 = getD r (39 + i * 4 + j + 1) 0 })
+    → Two (setIn r (suc i)) j (record { 0 = getD r (39 + i * 4 + j) 0 })
+    (record { 0 = getD r (39 + i * 4 + j + 1) 0 })
 two-at r i long ih j h =
     let e : 39 + i * 4 + suc j ≡ 39 + i * 4 + j + 1 = omega arith in (
       rest-at r i long ih j (omega arith),
@@ -80,7 +82,8 @@ drop-rising [] e = e
 drop-rising (p ∷ S) e = rest-rising p S e
 
 -- what is below the first of a set and below p is below the first of the set with p
-first-insert : (x p : Pair) (S : List Pair) → below x p ≡ true → isFirst x S ≡ true → isFirst x (insert p S) ≡ true
+first-insert : (x p : Pair) (S : List Pair) → below x p ≡ true → isFirst x S ≡ true → isFirst x (insert p S)
+    ≡ true
 unfolding insert
 first-insert x p [] e h = e
 first-insert x p (y ∷ S) e h =
@@ -97,7 +100,8 @@ insert-rising p (y ∷ S) e =
     (let above : below y p ≡ true =
     let ne = eqb-false (p .0) (y .0) s in
     let le = ltb-false (p .0) (y .0) b in
-    by-test (ltb (y .0) (p .0)) (λ t. t) (λ t. absurd (ne (let g = ltb-false (y .0) (p .0) t in omega arith))) in
+    by-test (ltb (y .0) (p .0)) (λ t. t)
+    (λ t. absurd (ne (let g = ltb-false (y .0) (p .0) t in omega arith))) in
     let parts = both (isFirst y S) (isRising S) e in
     both-of (isFirst y (insert p S)) (isRising (insert p S)) (first-insert y p S above (parts .0))
     (insert-rising p S (parts .1))))))

@@ -1,9 +1,9 @@
 -- What a sound memory says of each server's part, and that every change keeps it sound.
 --
--- The tests are read as facts (`facts`) and made again from facts (`sound`). A change touches one server's part,
--- whose new numbers keep to their limits, and leaves the others as they were (`part-from`): a noted timestamp
--- (`note-sound`), a set after the rule for dropping (`set-sound`), an acknowledgement (`ack-sound`). The empty
--- memory is sound in every phase (`empty-sound`).
+-- The tests are read as facts (`facts`) and made again from facts (`sound`). A change touches one server's
+-- part, whose new numbers keep to their limits, and leaves the others as they were (`part-from`): a noted
+-- timestamp (`note-sound`), a set after the rule for dropping (`set-sound`), an acknowledgement
+-- (`ack-sound`). The empty memory is sound in every phase (`empty-sound`).
 -- Assumes nothing.
 use mathlib.Core.Path.{_≡_, sym, ap, _∙_}
 use mathlib.Core.Bool.{Bool, true, false, cond, _&&_}
@@ -26,8 +26,10 @@ use Rattle.replies.proofs.Places.{size-most}
 use Rattle.replies.proofs.Placing.{pair-word}
 use Rattle.replies.proofs.Rising.{isPast, add-rising}
 use Rattle.replies.proofs.Stores.{put-length, put-size, put-word, put-other}
-use Rattle.replies.proofs.Views.{Same, SameSet, set-from, note-length, note-other, note-set, ack-length}
-use Rattle.replies.proofs.Views.{ack-other, ack-set, set-here, set-elsewhere, zero-at, emptied, empty-sets}
+use Rattle.replies.proofs.Views.{Same, SameSet, set-from, note-length, note-other, note-set}
+use Rattle.replies.proofs.Views.{ack-length}
+use Rattle.replies.proofs.Views.{ack-other, ack-set, set-here, set-elsewhere, zero-at, emptied}
+use Rattle.replies.proofs.Views.{empty-sets}
 
 -- ---- the tests as facts
 
@@ -60,8 +62,8 @@ zero-past r i h =
 part-facts : (a b : Bool) (r : List ℕ) (i : ℕ) → isSoundAt a b r i ≡ true → PartSound a b r i
 unfolding isSoundAt
 part-facts a b r i e =
-    let t = each (leb (getD r i 0) (cond a (2 ^ 24) 0) ∷ leb (getD r (13 + i) 0) (cond a 4 0) ∷ leb
-    (getD r (26 + i) 0) (cond b 1 0)
+    let t = each (leb (getD r i 0) (cond a (2 ^ 24) 0) ∷ leb (getD r (13 + i) 0) (cond a 4 0)
+    ∷ leb (getD r (26 + i) 0) (cond b 1 0)
     ∷ isRising (setIn r (suc i)) ∷ isPadded r i ∷ []) e in
     record {
       noted = leb-true (getD r i 0) (cond a (2 ^ 24) 0) (t .0);
@@ -74,7 +76,8 @@ part-facts a b r i e =
 part-test : (a b : Bool) (r : List ℕ) (i : ℕ) → PartSound a b r i → isSoundAt a b r i ≡ true
 unfolding isSoundAt
 part-test a b r i s =
-    all-of (leb (getD r i 0) (cond a (2 ^ 24) 0) ∷ leb (getD r (13 + i) 0) (cond a 4 0) ∷ leb (getD r (26 + i) 0)
+    all-of (leb (getD r i 0) (cond a (2 ^ 24) 0) ∷ leb (getD r (13 + i) 0) (cond a 4 0)
+    ∷ leb (getD r (26 + i) 0)
     (cond b 1 0)
     ∷ isRising (setIn r (suc i)) ∷ isPadded r i ∷ []) (
       le-leb (getD r i 0) (cond a (2 ^ 24) 0) (s .noted),
@@ -108,14 +111,18 @@ most false limit x h = omega arith
 
 pub padded : (n : ℕ) (a b : Bool) (r : List ℕ) → Sound n a b r → (i : ℕ) → i < 13 → Padded r i
 padded n a b r s i h =
-    record { size = most (ltb i n && a) 4 (getD r (13 + i) 0) (s .part i h .size); zeros = s .part i h .zeros }
+    record {
+      size = most (ltb i n && a) 4 (getD r (13 + i) 0) (s .part i h .size);
+      zeros = s .part i h .zeros;
+    }
 
 -- ---- a part that has the same numbers
 
 same-bound : (x y limit : ℕ) → y ≡ x → x ≤ limit → y ≤ limit
 same-bound x y limit e h = omega arith
 
-set-part : (a b : Bool) (r s : List ℕ) (i : ℕ) → length r ≡ 91 → length s ≡ 91 → getD s i 0 ≤ cond a (2 ^ 24) 0
+set-part : (a b : Bool) (r s : List ℕ) (i : ℕ) → length r ≡ 91 → length s ≡ 91
+    → getD s i 0 ≤ cond a (2 ^ 24) 0
     → getD s (26 + i) 0 ≤ cond b 1 0 → SameSet s r i → PartSound a b r i → PartSound a b s i
 set-part a b r s i lr ls noted ack same p =
     record {
@@ -127,7 +134,8 @@ set-part a b r s i lr ls noted ack same p =
           ∙ p .zeros j h (same-bound (getD s (13 + i) 0) (getD r (13 + i) 0) j (sym (same .0)) past);
     }
 
-part-from : (a b : Bool) (r s : List ℕ) (i : ℕ) → length r ≡ 91 → length s ≡ 91 → Same s r i → Same s r (26 + i)
+part-from : (a b : Bool) (r s : List ℕ) (i : ℕ) → length r ≡ 91 → length s ≡ 91 → Same s r i
+    → Same s r (26 + i)
     → SameSet s r i
     → PartSound a b r i → PartSound a b s i
 part-from a b r s i lr ls en ea same p =
@@ -147,7 +155,8 @@ module _ (n : ℕ) (r : List ℕ) (i : ℕ) (inside : i < n) (ih : i < 13) where
             (λ e. let same : i ≡ k = eqb-true i k e in
             set-part (ltb k n && true) (ltb k n && b) r (putNote r i t) k lr ls
             (rw (← same, lt-ltb i n inside, getD-set-same r i (t + 1) 0 (omega arith)) (omega arith))
-            (same-bound (getD r (26 + k) 0) _ _ (note-other r i t lr ih (26 + k) (λ q. omega arith)) (s .part k h .ack))
+            (same-bound (getD r (26 + k) 0) _ _ (note-other r i t lr ih (26 + k) (λ q. omega arith))
+            (s .part k h .ack))
             (note-set r i t lr ih k) (s .part k h))
             (λ e. let apart = eqb-false i k e in
             part-from (ltb k n && true) (ltb k n && b) r (putNote r i t) k lr ls
@@ -168,8 +177,10 @@ module _ (n : ℕ) (r : List ℕ) (i : ℕ) (inside : i < n) (ih : i < 13) where
             (rw (← same, lt-ltb i n inside, getD-set-same r (26 + i) 1 0 (omega arith)) (omega arith))
             (ack-set r i lr ih k h) (s .part k h))
             (λ e. let apart = eqb-false i k e in
-            part-from (ltb k n && a) (ltb k n && true) r (putAck r i) k lr ls (ack-other r i lr ih k (λ q. omega arith))
-            (ack-other r i lr ih (26 + k) (λ q. apart (let z : i ≡ k = omega arith in z))) (ack-set r i lr ih k h)
+            part-from (ltb k n && a) (ltb k n && true) r (putAck r i) k lr ls
+            (ack-other r i lr ih k (λ q. omega arith))
+            (ack-other r i lr ih (26 + k) (λ q. apart (let z : i ≡ k = omega arith in z)))
+            (ack-set r i lr ih k h)
             (s .part k h));
       }
 
@@ -187,7 +198,8 @@ module _ (n : ℕ) (r : List ℕ) (i : ℕ) (inside : i < n) (ih : i < 13) where
             (λ e. let same : i ≡ k = eqb-true i k e in
             rw (← same)
             record {
-              noted = same-bound (getD r i 0) _ _ (other i (omega arith) (λ q. omega arith)) (s .part i ih .noted);
+              noted = same-bound (getD r i 0) _ _ (other i (omega arith) (λ q. omega arith))
+                  (s .part i ih .noted);
               size = rw (lt-ltb i n inside, put-size r i l lr ih) small;
               ack = same-bound (getD r (26 + i) 0) _ _ (other (26 + i) (omega arith) (λ q. omega arith))
                   (s .part i ih .ack);
@@ -211,7 +223,8 @@ insert-length p [] = omega arith
 insert-length p (x ∷ S) =
     let ih = insert-length p S in
     by-test (Rattle.message.specs.Pair.same p x) (λ e. rw e (omega arith))
-    (λ e. rw e (by-test (Rattle.message.specs.Pair.below p x) (λ b. rw b (omega arith)) (λ b. rw b (omega arith))))
+    (λ e. rw e (by-test (Rattle.message.specs.Pair.below p x) (λ b. rw b (omega arith))
+    (λ b. rw b (omega arith))))
 
 pub add-length : (limit : ℕ) (p : Pair) (S : List Pair) → length S ≤ limit → length (add limit p S) ≤ limit
 unfolding add

@@ -1,5 +1,5 @@
--- One turn of each loop over a set, on the rest of the set from place j on, and the end of each; and the four places of
--- a set, looked at without a loop.
+-- One turn of each loop over a set, on the rest of the set from place j on, and the end of each; and the four
+-- places of a set, looked at without a loop.
 -- Assumes nothing.
 use mathlib.Core.Path.{_≡_, refl, ap, sym, _∙_}
 use mathlib.Core.Bool.{Bool, true, false, cond, _&&_, _||_, or-assoc, or-false}
@@ -14,7 +14,7 @@ use lib.ListN.{length, drop}
 use lib.Seq.{drop-nil}
 use borrow.Author.Tests.{ltb-true, ltb-false}
 use mir.Val.{boolByte}
-use Rattle.basics.specs.Counting.{count}
+use Rattle.basics.specs.Counting.{countBelow}
 use Rattle.basics.proofs.Cases.{by-test}
 use Rattle.message.specs.declared.Pair.{Pair}
 use Rattle.message.specs.Pair.{below}
@@ -28,16 +28,17 @@ pub bool-le : (b : Bool) → boolByte b ≤ 1
 bool-le true = omega arith
 bool-le false = omega arith
 
-pub count-step : (p : ℕ → Bool) (i c : ℕ) (b : Bool) → b ≡ p i → c ≡ count p i → c + boolByte b ≡ count p (i + 1)
-unfolding count
+pub count-step : (p : ℕ → Bool) (i c : ℕ) (b : Bool) → b ≡ p i → c ≡ countBelow p i
+    → c + boolByte b ≡ countBelow p (i + 1)
+unfolding countBelow
 count-step p i c b q e = rw (add-one i, q, e)
 
-pub count-end : (p : ℕ → Bool) (i n c : ℕ) → i ≤ n → n ≤ i → c ≡ count p i → c ≡ count p n
-count-end p i n c a b e = let s : i ≡ n = omega arith in e ∙ ap (count p) s
+pub count-end : (p : ℕ → Bool) (i n c : ℕ) → i ≤ n → n ≤ i → c ≡ countBelow p i → c ≡ countBelow p n
+count-end p i n c a b e = let s : i ≡ n = omega arith in e ∙ ap (countBelow p) s
 
 -- tests that agree below n count the same
-pub count-same : (p q : ℕ → Bool) (n : ℕ) → ((i : ℕ) → i < n → p i ≡ q i) → count p n ≡ count q n
-unfolding count
+pub count-same : (p q : ℕ → Bool) (n : ℕ) → ((i : ℕ) → i < n → p i ≡ q i) → countBelow p n ≡ countBelow q n
+unfolding countBelow
 count-same p q zero h = refl
 count-same p q (suc n) h = rw (count-same p q n (λ i less. h i (omega arith)), h n (omega arith))
 
@@ -88,10 +89,12 @@ module _ (p : Pair) (S : List Pair) (w : ℕ → ℕ)
   unfolding has
   has-turn j =
       by-test (ltb j (length S)) (λ t. rw (t, e j (ltb-true j (length S) t)))
-      (λ t. let h : length S ≤ j = ltb-false j (length S) t in rw (t, rest-none S j h, rest-none S (suc j) (omega arith)))
+      (λ t. let h : length S ≤ j = ltb-false j (length S) t in
+      rw (t, rest-none S j h, rest-none S (suc j) (omega arith)))
 
   -- in a set of at most four: at one of the four places
-  pub has-four : length S ≤ 4 → (saysAt p S w 0 || saysAt p S w 1) || (saysAt p S w 2 || saysAt p S w 3) ≡ has p S
+  pub has-four : length S ≤ 4 → (saysAt p S w 0 || saysAt p S w 1) || (saysAt p S w 2 || saysAt p S w 3)
+      ≡ has p S
   unfolding has
   has-four h =
       let a = saysAt p S w 0 in
@@ -100,10 +103,12 @@ module _ (p : Pair) (S : List Pair) (w : ℕ → ℕ)
       let d = saysAt p S w 3 in
       let none : has p (drop 4 S) ≡ false = rw (rest-none S 4 h) in
       or-assoc a b (c || d)
-      ∙ sym (has-turn 0 ∙ ap (a ||_) (has-turn 1 ∙ ap (b ||_) (has-turn 2 ∙ ap (c ||_) (has-turn 3 ∙ rw none (or-false d)))))
+      ∙ sym (has-turn 0 ∙ ap (a ||_)
+      (has-turn 1 ∙ ap (b ||_) (has-turn 2 ∙ ap (c ||_) (has-turn 3 ∙ rw none (or-false d)))))
 
 -- the choice among all sets, one set more at a time
-pub best-append : (test : Pair → Bool) (S T : List Pair) → highestOf test (S ++ T) ≡ bestOf test S (highestOf test T)
+pub best-append : (test : Pair → Bool) (S T : List Pair) → highestOf test (S ++ T)
+    ≡ bestOf test S (highestOf test T)
 unfolding highestOf bestOf
 best-append test [] T = refl
 best-append test (x ∷ S) T = rw (best-append test S T)

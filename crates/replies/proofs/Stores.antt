@@ -1,7 +1,7 @@
 -- What stands in a memory after one server's part is replaced.
 --
--- A store changes one number (`lib.Seq`), and a set's five stores change its size and its four numbers (`put-size`,
--- `put-word`) and no other (`put-other`).
+-- A store changes one number (`lib.Seq`), and a set's five stores change its size and its four numbers
+-- (`put-size`, `put-word`) and no other (`put-other`).
 -- Assumes nothing.
 use mathlib.Core.Path.{_≡_, refl, ap, _∙_}
 use mathlib.Core.Logic.{_⊎_}
@@ -37,7 +37,8 @@ row-is g zero l h e = refl
 row-is g (suc n) [] h e = absurd (not-suc-le-zero h)
 row-is g (suc n) (x ∷ l) h e =
     ap (λ (y : ℕ). y ∷ row (λ i. g (suc i)) n ++ drop n l) (e 0 (omega arith))
-    ∙ ap (λ (t : List ℕ). x ∷ t) (row-is (λ i. g (suc i)) n l (le-of-suc-le-suc h) (λ i less. e (suc i) (omega arith)))
+    ∙ ap (λ (t : List ℕ). x ∷ t)
+    (row-is (λ i. g (suc i)) n l (le-of-suc-le-suc h) (λ i less. e (suc i) (omega arith)))
 
 -- ---- a run of stores
 
@@ -104,6 +105,8 @@ module _ (r : List ℕ) (i : ℕ) (l : List Pair) (long : length r ≡ 91) (ih :
   unfolding putSet sized
   put-other k ne side =
       by-either side
-      (λ h. sets-before sized (39 + i * 4) (row (pairWord l) 4) fits k h ∙ getD-set-other r (13 + i) k (length l) 0 ne)
-      (λ h. sets-behind sized (39 + i * 4) (row (pairWord l) 4) fits k (omega (arith, row-length (pairWord l) 4))
+      (λ h. sets-before sized (39 + i * 4) (row (pairWord l) 4) fits k h
+      ∙ getD-set-other r (13 + i) k (length l) 0 ne)
+      (λ h. sets-behind sized (39 + i * 4) (row (pairWord l) 4) fits k
+      (omega (arith, row-length (pairWord l) 4))
       ∙ getD-set-other r (13 + i) k (length l) 0 ne)

@@ -1,7 +1,7 @@
 -- A sound memory is the memory of what it shows, and the memory of an empty client is the empty one.
 --
--- Row by row: a timestamp, a size and an acknowledgement are stored as the number that showed them, and so are the
--- four numbers of a set, which are its pairs' and zeros.
+-- Row by row: a timestamp, a size and an acknowledgement are stored as the number that showed them, and so
+-- are the four numbers of a set, which are its pairs' and zeros.
 -- Assumes nothing.
 use mathlib.Core.Path.{_≡_, refl, sym, ap, _∙_}
 use mathlib.Core.Bool.{Bool, not, _&&_}
@@ -15,7 +15,8 @@ use mir.Val.{boolByte}
 use Rattle.message.specs.declared.ReadNumber.{ReadNumber}
 use Rattle.register.specs.declared.Phase.{Phase}
 use Rattle.register.specs.Client.{cleared}
-use Rattle.replies.specs.Replies.{noteOf, noteWord, pairWord, notedIn, setIn, ackIn, held, row, storeReplies}
+use Rattle.replies.specs.Replies.{noteOf, noteWord, pairWord, notedIn, setIn, ackIn, held, row}
+use Rattle.replies.specs.Replies.{storeReplies}
 use Rattle.replies.proofs.Places.{noted-at, ack-at, size-below}
 use Rattle.replies.proofs.Placing.{word-is}
 use Rattle.replies.proofs.Soundness.{Sound, padded, most}
@@ -32,7 +33,8 @@ ack-back (suc zero) h = refl
 ack-back (suc (suc w)) h = let z : ⊥ = omega arith in absurd z
 
 -- a row over the numbers from at on, in front of what follows
-row-over : (g : ℕ → ℕ) (n at : ℕ) (r : List ℕ) → at + n ≤ length r → ((i : ℕ) → i < n → g i ≡ getD r (at + i) 0)
+row-over : (g : ℕ → ℕ) (n at : ℕ) (r : List ℕ) → at + n ≤ length r
+    → ((i : ℕ) → i < n → g i ≡ getD r (at + i) 0)
     → row g n ++ drop (at + n) r ≡ drop at r
 row-over g n at r h e =
     ap (λ (t : List ℕ). row g n ++ t) (sym (drop-drop n at r))

@@ -1,8 +1,8 @@
 -- What a memory shows after one server's part is replaced: the same, but for that server.
 --
--- Two memories with the same numbers for the servers show the same (`noted-from`, `set-from`, `ack-from`). So a
--- store to one server's part is one update of what is shown (`note-noted`, `set-sets`, `ack-acks`), and the empty
--- memory shows nothing.
+-- Two memories with the same numbers for the servers show the same (`noted-from`, `set-from`, `ack-from`). So
+-- a store to one server's part is one update of what is shown (`note-noted`, `set-sets`, `ack-acks`), and the
+-- empty memory shows nothing.
 -- Assumes nothing.
 use mathlib.Core.Path.{_≡_, refl, sym, ap, _∙_}
 use mathlib.Core.Bool.{true, false, cond, not}
@@ -21,7 +21,8 @@ use Rattle.basics.proofs.Cases.{by-test}
 use Rattle.basics.proofs.Update.{update-same, update-other}
 use Rattle.message.specs.declared.Pair.{Pair}
 use Rattle.message.specs.Pair.{initial}
-use Rattle.replies.specs.Replies.{noteOf, fourAt, pairsOf, notedIn, setIn, ackIn, putNote, putAck, putSet}
+use Rattle.replies.specs.Replies.{noteOf, fourAt, pairsOf, notedIn, setIn, ackIn, putNote, putAck}
+use Rattle.replies.specs.Replies.{putSet}
 use Rattle.replies.proofs.Choosing.{either-way}
 use Rattle.replies.proofs.Places.{four-length, four-at, size-below, pair-at}
 use Rattle.replies.proofs.Placing.{pair-word}
@@ -84,7 +85,8 @@ acks-same r s same = λ q k. each k q
     each zero = refl
     each (suc k) = ack-from r s k (same k)
 
-pub sets-same : (r s : List ℕ) → length r ≡ 91 → length s ≡ 91 → ((i : ℕ) → i < 13 → SameSet r s i) → setIn r ≡ setIn s
+pub sets-same : (r s : List ℕ) → length r ≡ 91 → length s ≡ 91 → ((i : ℕ) → i < 13 → SameSet r s i) → setIn r
+    ≡ setIn s
 unfolding setIn
 sets-same r s lr ls same = λ q k. each k q
   where
@@ -189,7 +191,8 @@ module _ (r : List ℕ) (i : ℕ) (l : List Pair) (long : length r ≡ 91) (ih :
 
   pub set-acks : ackIn (putSet r i l) ≡ ackIn r
   set-acks =
-      acks-same (putSet r i l) r (λ k h. put-other r i l long ih (26 + k) (λ e. omega arith) (inl (omega arith)))
+      acks-same (putSet r i l) r
+      (λ k h. put-other r i l long ih (26 + k) (λ e. omega arith) (inl (omega arith)))
 
 -- ---- the empty memory
 
@@ -208,7 +211,8 @@ empty-noted = λ q k. each k q
   where
     each : (k : ℕ) → notedIn emptied k ≡ none
     each zero = refl
-    each (suc i) = ap (λ (w : ℕ). cond (ltb i 13) (noteOf w) none) (zero-at 91 i) ∙ either-way (ltb i 13) none none refl
+    each (suc i) = ap (λ (w : ℕ). cond (ltb i 13) (noteOf w) none) (zero-at 91 i)
+        ∙ either-way (ltb i 13) none none refl
 
 pub empty-sets : setIn emptied ≡ (λ k. [])
 unfolding setIn

@@ -1,7 +1,9 @@
--- What the inner functions compute, each in the shape of its loop. A reader of the public contracts needs none of this.
+-- What the inner functions compute, each in the shape of its loop.
+-- A reader of the public contracts needs none of it.
 --
--- In order: a number in use; the client of a memory alone, and what counts by it; a candidate above a choice, and
--- the choice after one more set; the place of a pair in a set, and the numbers of a set with a pair put there.
+-- In order: a number in use; the client of a memory alone, and what counts by it; a candidate above a choice,
+-- and the choice after one more set; the place of a pair in a set, and the numbers of a set with a pair put
+-- there.
 -- Assumes nothing.
 use Prim.Native.Nat.{ℕ, suc, _+_, _-_}
 use mathlib.Core.Bool.{Bool, true, cond, not}

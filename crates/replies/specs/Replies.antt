@@ -1,11 +1,11 @@
 -- The memory that a client is lent for what the servers reply (01, 'Desk': noted timestamps, pair sets,
 -- acknowledgements).
 --
--- It is 91 numbers, in four rows: for each of 13 servers its noted timestamp plus one, the size of its set, its
--- acknowledgement (0 or 1), and the four pairs of its set. What is not used is zero.
+-- It is 91 numbers, in four rows: for each of 13 servers its noted timestamp plus one, the size of its set,
+-- its acknowledgement (0 or 1), and the four pairs of its set. What is not used is zero.
 --
--- In order: the places; what a memory holds for each server; the memory of what a client holds; one server's part
--- replaced.
+-- In order: the places; what a memory holds for each server; the memory of what a client holds; one server's
+-- part replaced.
 -- Assumes nothing.
 use Prim.Native.Nat.{ℕ, zero, suc, _+_, _*_, _/_, _%_, _≤_, _<_}
 use mathlib.Core.Path.{_≡_}
@@ -40,7 +40,7 @@ pairsAt = 39
 abbrev pub words : ℕ
 words = 91
 
--- ---- what a memory holds for the servers, which are numbered from 1; of a server without a place it holds nothing
+-- ---- what a memory holds for the servers, numbered from 1; of a server without a place it holds nothing
 
 -- a timestamp is stored plus one, so that zero is none
 unfoldable pub noteOf : ℕ → Option ℕ

@@ -1,14 +1,14 @@
 -- When a memory of replies is sound (01, 'Rehearsal': 'A state is sound when ..').
 --
--- Of n servers, timestamps and sets are used while the client reads, acknowledgements while it stores. What is not
--- used is zero.
+-- Of n servers, timestamps and sets are used while the client reads, acknowledgements while it stores. What
+-- is not used is zero.
 -- Assumes nothing.
 use Prim.Native.Nat.{ℕ, suc, _+_, _*_, _^_}
 use mathlib.Core.Bool.{Bool, true, cond, _&&_, _||_}
 use mathlib.Core.List.{List, [], _∷_}
 use lib.Dec.{eqb, leb, ltb}
 use lib.ListN.{length, getD}
-use Rattle.basics.specs.Tests.{all, allBelow}
+use Rattle.basics.specs.Tests.{allPass, allBelow}
 use Rattle.message.specs.declared.Pair.{Pair}
 use Rattle.message.specs.Pair.{below}
 use Rattle.register.specs.Settings.{marks}
@@ -37,7 +37,7 @@ isWithin used limit x = leb x (cond used limit 0)
 -- the server at place i, whose timestamp and set, and whose acknowledgement, are used or not
 unfoldable pub isSoundAt : Bool → Bool → List ℕ → ℕ → Bool
 isSoundAt reading storing r i =
-    all
+    allPass
     (isWithin reading (2 ^ 24) (getD r i 0)
     ∷ isWithin reading setLimit (getD r (sizesAt + i) 0)
     ∷ isWithin storing 1 (getD r (acksAt + i) 0)

@@ -1,16 +1,18 @@
-// What the servers have replied to one client, in memory that it is lent: 91 numbers, in four rows (specs/Replies).
-// A server is named here by its place, which is its number less one.
+// What the servers have replied to one client, in memory that it is lent: 91 numbers, in four rows
+// (specs/Replies). A server is named here by its place, which is its number less one.
 ghost use mathlib.Core.Path.{_≡_};
 ghost use mathlib.Core.Bool.{cond, _&&_};
 ghost use Prim.Native.Nat.{suc, _+_, _*_, _<_, _≤_};
 ghost use lib.ListN.{length, drop, replicate};
-ghost use Rattle.basics.specs.Counting.{count};
+ghost use Rattle.basics.specs.Counting.{countBelow};
 ghost use Rattle.register.specs.Thresholds.{size, counted};
 ghost use Rattle.register.specs.PairSet.{has, add};
 ghost use Rattle.register.specs.Client.{isNoted, isAtMost, higher, chosen, setLimit};
-ghost use Rattle.replies.specs.Replies.{noteOf, notedIn, setIn, ackIn, choiceOf, putNote, putAck, putSet, Padded};
+ghost use Rattle.replies.specs.Replies.{noteOf, notedIn, setIn, ackIn, choiceOf, putNote, putAck};
+ghost use Rattle.replies.specs.Replies.{putSet, Padded};
 ghost use Rattle.replies.specs.Sound.{isRising, isPadded, isWithin, isSoundAt, areSound};
-ghost use Rattle.replies.specs.Loops.{isUsed, heldIn, countsIn, isAbove, bestOf, rankOf, placedAt, widenedBy};
+ghost use Rattle.replies.specs.Loops.{isUsed, heldIn, countsIn, isAbove, bestOf, rankOf};
+ghost use Rattle.replies.specs.Loops.{placedAt, widenedBy};
 use message::Pair;
 use message::Timestamp;
 
@@ -35,7 +37,7 @@ pub enum Choice {
 // How many of the n numbers from at on are in use.
 fn used(r: &[u64], at: usize, n: usize) -> u32
     requires { ⌜ (at + n ≤ length (now r)) × (n ≤ 13) ⌝ }
-    ensures { λ c. ⌜ c ≡ count (isUsed (now (r .entry)) at) n ⌝ }
+    ensures { λ c. ⌜ c ≡ countBelow (isUsed (now (r .entry)) at) n ⌝ }
 {
     let mut c: u32 = 0;
     let mut i = 0;
@@ -132,7 +134,8 @@ fn is_above(p: Pair, c: Choice) -> bool
 // The choice with one candidate more. It is tested only if it is above the choice so far.
 fn consider(r: &[u64], f: u8, p: Pair, c: Choice) -> Choice
     requires { ⌜ (length (now r) ≡ 91) × (f ≤ 4) ⌝ }
-    ensures { λ b. ⌜ choiceOf b ≡ cond (countsIn f (now (r .entry)) p) (higher p (choiceOf c)) (choiceOf c) ⌝ }
+    ensures { λ b. ⌜ choiceOf b
+        ≡ cond (countsIn f (now (r .entry)) p) (higher p (choiceOf c)) (choiceOf c) ⌝ }
 {
     if !is_above(p, c) {
         return c;
@@ -146,7 +149,8 @@ fn consider(r: &[u64], f: u8, p: Pair, c: Choice) -> Choice
 // The choice with the pairs of one more set, the highest first.
 fn better(r: &[u64], f: u8, i: usize, best: Choice) -> Choice
     requires { ⌜ (length (now r) ≡ 91) × (f ≤ 4) × (i < 13) ⌝ }
-    ensures { λ b. ⌜ choiceOf b ≡ bestOf (countsIn f (now (r .entry))) (setIn (now (r .entry)) (suc i)) (choiceOf best) ⌝ }
+    ensures { λ b. ⌜ choiceOf b
+        ≡ bestOf (countsIn f (now (r .entry))) (setIn (now (r .entry)) (suc i)) (choiceOf best) ⌝ }
 {
     let at = PAIRS + i * LIMIT;
     let mut c = best;
@@ -158,8 +162,8 @@ fn better(r: &[u64], f: u8, i: usize, best: Choice) -> Choice
     c
 }
 
-// The highest of the pairs that count, once enough timestamps are noted. At most 4n candidates are looked at; one
-// that is above the best so far costs n steps for its timestamp and 4n for its holders.
+// The highest of the pairs that count, once enough timestamps are noted. At most 4n candidates are looked at;
+// one that is above the best so far costs n steps for its timestamp and 4n for its holders.
 pub fn choose(r: &[u64], f: u8) -> Choice
     requires { ⌜ (length (now r) ≡ 91) × (f ≤ 4) ⌝ }
     ensures { λ b. ⌜ choiceOf b ≡ chosen (size f) f 0 (heldIn (now (r .entry))) ⌝ }
@@ -227,7 +231,8 @@ fn widened(r: &[u64], at: usize, j: usize, p: Pair, k: usize) -> u64
 fn place(r: &mut [u64], i: usize, m: usize, j: usize, p: Pair, out: usize)
     requires { ⌜ (length (now r) ≡ 91) × (i < 13) × (m ≡ length (setIn (now r) (suc i)))
         × (j ≤ m) × (out ≤ 1) × (m + 1 ≤ 4 + out) × Padded (now r) i ⌝ }
-    ensures { λ u. ⌜ now (r .exit) ≡ putSet (now (r .entry)) i (drop out (placedAt j p (setIn (now (r .entry)) (suc i)))) ⌝ }
+    ensures { λ u. ⌜ now (r .exit)
+        ≡ putSet (now (r .entry)) i (drop out (placedAt j p (setIn (now (r .entry)) (suc i)))) ⌝ }
 {
     let at = PAIRS + i * LIMIT;
     let a = widened(r, at, j, p, out);
@@ -244,7 +249,8 @@ fn place(r: &mut [u64], i: usize, m: usize, j: usize, p: Pair, out: usize)
 // Adds a pair to the set of the server at place i: if it would make five, the lowest of the five leaves.
 pub fn insert(r: &mut [u64], i: usize, p: Pair)
     requires { ⌜ (length (now r) ≡ 91) × (i < 13) × Padded (now r) i ⌝ }
-    ensures { λ u. ⌜ now (r .exit) ≡ putSet (now (r .entry)) i (add setLimit p (setIn (now (r .entry)) (suc i))) ⌝ }
+    ensures { λ u. ⌜ now (r .exit)
+        ≡ putSet (now (r .entry)) i (add setLimit p (setIn (now (r .entry)) (suc i))) ⌝ }
 {
     let m = size_of(r, i);
     let j = rank(r, i, m, p);

@@ -1,7 +1,8 @@
--- The part of a block that is kept: moved to the front byte by byte, and cut after so many bytes as make a line unreadable.
+-- The part of a block that is kept: moved to the front byte by byte, and cut after so many bytes as make a
+-- line unreadable.
 --
--- In order: a part of a part, by its length; the block after i bytes have moved (each is read where none was stored yet);
--- the whole part moved; a line that was cut is unreadable, as it is whole.
+-- In order: a part of a part, by its length; the block after i bytes have moved (each is read where none was
+-- stored yet); the whole part moved; a line that was cut is unreadable, as it is whole.
 -- Assumes nothing.
 use mathlib.Core.Path.{_≡_, refl, ap, sym, _∙_}
 use mathlib.Core.Bool.{Bool, true, false, _&&_}
@@ -44,12 +45,14 @@ least-swap : (a b c : ℕ) → min (min a b) c ≡ min (min c a) b
 least-swap a b c = omega arith
 
 -- the bytes kept: n of them
-kept-take : (s : List ℕ) (at end n : ℕ) → n ≡ min (min end (length s) - at) most → take n (drop at s) ≡ kept s at end
-kept-take s at end n e =
-    let l : List ℕ = drop at s in
-    let wide : length l ≡ length s - at = length-drop at s in
+kept-take : (text : List ℕ) (at end n : ℕ) → n ≡ min (min end (length text) - at) most
+    → take n (drop at text) ≡ kept text at end
+kept-take text at end n e =
+    let l : List ℕ = drop at text in
+    let wide : length l ≡ length text - at = length-drop at text in
     let m : n ≡ min (min most (end - at)) (length l) =
-    e ∙ ap (λ (k : ℕ). min k most) (sub-least end (length s) at) ∙ least-swap (end - at) (length s - at) most
+    e ∙ ap (λ (k : ℕ). min k most) (sub-least end (length text) at)
+    ∙ least-swap (end - at) (length text - at) most
     ∙ ap (λ (k : ℕ). min (min most (end - at)) k) (sym wide) in
     ap (λ (k : ℕ). take k l) m ∙ sym (take-both most (end - at) l ∙ take-within (min most (end - at)) l)
 
@@ -57,60 +60,63 @@ kept-take s at end n e =
 
 -- the block after i bytes have moved to the front
 abbrev pub moved : List ℕ → ℕ → ℕ → List ℕ
-moved s at i = take i (drop at s) ++ drop i s
+moved text at i = take i (drop at text) ++ drop i text
 
-module _ (s : List ℕ) (at i : ℕ) (h : at + i ≤ length s) where
-  front : length (take i (drop at s)) ≡ i
-  front = length-take-le i (drop at s) (rw (length-drop at s) (omega arith))
+module _ (text : List ℕ) (at i : ℕ) (h : at + i ≤ length text) where
+  front : length (take i (drop at text)) ≡ i
+  front = length-take-le i (drop at text) (rw (length-drop at text) (omega arith))
 
-  pub length-moved : length (moved s at i) ≡ length s
-  length-moved = length-append (take i (drop at s)) (drop i s) ∙ rw (front, length-drop i s) (omega arith)
+  pub length-moved : length (moved text at i) ≡ length text
+  length-moved =
+      length-append (take i (drop at text)) (drop i text) ∙ rw (front, length-drop i text) (omega arith)
 
   -- behind what was stored the block is as it was
-  pub moved-read : getD (moved s at i) (at + i) 0 ≡ getD s (at + i) 0
+  pub moved-read : getD (moved text at i) (at + i) 0 ≡ getD text (at + i) 0
   moved-read =
-      ap (λ (n : ℕ). getD (moved s at i) n 0) (add-comm at i ∙ ap (λ (n : ℕ). n + at) (sym front))
-      ∙ getD-append-add (take i (drop at s)) (drop i s) at 0 ∙ getD-drop i s at 0
-      ∙ ap (λ (n : ℕ). getD s n 0) (add-comm i at)
+      ap (λ (n : ℕ). getD (moved text at i) n 0) (add-comm at i ∙ ap (λ (n : ℕ). n + at) (sym front))
+      ∙ getD-append-add (take i (drop at text)) (drop i text) at 0 ∙ getD-drop i text at 0
+      ∙ ap (λ (n : ℕ). getD text n 0) (add-comm i at)
 
-pub moved-more : (s : List ℕ) (at i : ℕ) → at + i < length s → set (moved s at i) i (getD s (at + i) 0) ≡ moved s at (i + 1)
-moved-more s at i h =
-    let x : List ℕ = take i (drop at s) in
-    let b : ℕ = getD (drop at s) i 0 in
-    let inside : i < length (drop at s) = rw (length-drop at s) (omega arith) in
-    ap (λ (l : List ℕ). set (x ++ l) i (getD s (at + i) 0)) (drop-cons s i 0 (omega arith))
-    ∙ set-at x (getD s i 0) (drop (suc i) s) (getD s (at + i) 0) i (front s at i (omega arith))
-    ∙ ap (λ (n : ℕ). x ++ n ∷ drop (suc i) s) (sym (getD-drop at s i 0))
-    ∙ sym (append-snoc x b (drop (suc i) s))
-    ∙ ap (λ (l : List ℕ). l ++ drop (suc i) s) (sym (take-suc (drop at s) i 0 inside))
-    ∙ ap (λ (n : ℕ). moved s at n) (sym (add-one i))
+pub moved-more : (text : List ℕ) (at i : ℕ) → at + i < length text
+    → set (moved text at i) i (getD text (at + i) 0) ≡ moved text at (i + 1)
+moved-more text at i h =
+    let x : List ℕ = take i (drop at text) in
+    let b : ℕ = getD (drop at text) i 0 in
+    let inside : i < length (drop at text) = rw (length-drop at text) (omega arith) in
+    ap (λ (l : List ℕ). set (x ++ l) i (getD text (at + i) 0)) (drop-cons text i 0 (omega arith))
+    ∙ set-at x (getD text i 0) (drop (suc i) text) (getD text (at + i) 0) i (front text at i (omega arith))
+    ∙ ap (λ (n : ℕ). x ++ n ∷ drop (suc i) text) (sym (getD-drop at text i 0))
+    ∙ sym (append-snoc x b (drop (suc i) text))
+    ∙ ap (λ (l : List ℕ). l ++ drop (suc i) text) (sym (take-suc (drop at text) i 0 inside))
+    ∙ ap (λ (n : ℕ). moved text at n) (sym (add-one i))
 
 -- ---- the whole part
 
-module _ (s : List ℕ) (at end n : ℕ) (e : n ≡ min (min end (length s) - at) most) where
-  pub within : at ≤ length s → at + n ≤ length s
+module _ (text : List ℕ) (at end n : ℕ) (e : n ≡ min (min end (length text) - at) most) where
+  pub within : at ≤ length text → at + n ≤ length text
   within h = omega arith
 
-  long : length (kept s at end) ≡ n
+  long : length (kept text at end) ≡ n
   long =
-      ap length (sym (kept-take s at end n e))
-      ∙ length-take n (drop at s) ∙ rw (length-drop at s) (omega arith)
+      ap length (sym (kept-take text at end n e))
+      ∙ length-take n (drop at text) ∙ rw (length-drop at text) (omega arith)
 
-  pub kept-written : Written (kept s at end) s 0 n (moved s at n)
+  pub kept-written : Written (kept text at end) text 0 n (moved text at n)
   kept-written =
-      let ends : n ≡ 0 + length (kept s at end) = rw long (omega arith) in
+      let ends : n ≡ 0 + length (kept text at end) = rw long (omega arith) in
       record {
         fits = rw long (omega arith);
         ends = ends;
         holds =
-            ap (λ (l : List ℕ). l ++ drop n s) (kept-take s at end n e) ∙ ap (λ (k : ℕ). kept s at end ++ drop k s) ends;
+            ap (λ (l : List ℕ). l ++ drop n text) (kept-take text at end n e)
+            ∙ ap (λ (k : ℕ). kept text at end ++ drop k text) ends;
       }
 
 -- ---- a line that was cut
 
-too-long : (s : List ℕ) → 64 < length s → lineOf s ≡ Unread
+too-long : (text : List ℕ) → 64 < length text → lineOf text ≡ Unread
 unfolding lineOf
-too-long s h = rw (lt-leb (length s) 64 h, and-right (leb 3 (length s))) refl
+too-long text h = rw (lt-leb (length text) 64 h, and-right (leb 3 (length text))) refl
   where
     and-right : (b : Bool) → b && false ≡ false
     and-right true = refl
@@ -122,5 +128,6 @@ cut-line l t =
     by-test (leb (length l) most)
     (λ e. rw (take-all most l (leb-true (length l) most e)) refl)
     (λ e. let h = leb-false (length l) most e in
-    too-long (take most l ++ t) (rw (length-append (take most l) t, length-take-le most l (omega arith)) (omega arith))
+    too-long (take most l ++ t)
+    (rw (length-append (take most l) t, length-take-le most l (omega arith)) (omega arith))
     ∙ sym (too-long (l ++ t) (rw (length-append l t) (omega arith))))

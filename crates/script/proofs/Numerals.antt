@@ -1,7 +1,8 @@
 -- A numeral, and its number written by it.
 --
--- Why: the eight bytes of its text are the digits of its hundreds and zeros. The last two digits, written at the end of those that
--- are kept, make them the number's (`Hundreds`), and at most five of the zeros are left behind it.
+-- Why: the eight bytes of its text are the digits of its hundreds and zeros. The last two digits, written at
+-- the end of those that are kept, make them the number's (`Hundreds`), and at most five of the zeros are left
+-- behind it.
 -- Assumes nothing.
 use mathlib.Core.Path.{_≡_, refl, ap, sym, _∙_}
 use mathlib.Core.List.{List, _++_, append-assoc}
@@ -12,7 +13,7 @@ use Rattle.script.specs.declared.print.Numeral.{Numeral}
 use Rattle.script.specs.Numbers.{hexDigit, decimal}
 use Rattle.script.specs.Numerals.{keptDigits, numeralOf}
 use Rattle.script.specs.Writing.{written, Written, Begun}
-use Rattle.script.proofs.Writing.{length-written, keeps, reads}
+use Rattle.script.proofs.Writing.{length-written, keeps, named}
 use Rattle.script.proofs.Hundreds.{lastTwo, kept-few, kept-digits}
 use Rattle.script.proofs.Over.{two-written, over}
 
@@ -40,7 +41,8 @@ module _ (q : Numeral) (own : q ≡ numeralOf (q .number)) where
   few-kept = omega (arith, kept-is, kept-few (q .number / 100))
 
   pub eight-bytes : length (q .text) ≡ 8
-  eight-bytes = ap length text-is ∙ length-written (replicate 8 0) 0 digits (omega (arith, kept-few (q .number / 100)))
+  eight-bytes =
+      ap length text-is ∙ length-written (replicate 8 0) 0 digits (omega (arith, kept-few (q .number / 100)))
 
   -- what is left of the zeros behind the digits
   abbrev zeros : List ℕ
@@ -60,8 +62,10 @@ module _ (q : Numeral) (own : q ≡ numeralOf (q .number)) where
     whole-length = ap length whole ∙ length-append digits (lastTwo (q .number)) ∙ omega (arith, kept-is)
 
     -- the text, and the last two digits over its zeros
-    pub numeral-begun : {m : ℕ} {before mid after : List ℕ} → 8 ≤ length before → Written (q .text) before 0 m mid
-        → after ≡ set (set mid (q .kept + 1) (hexDigit (q .number % 10))) (q .kept) (hexDigit (q .number / 10 % 10))
+    pub numeral-begun : {m : ℕ} {before mid after : List ℕ} → 8 ≤ length before
+        → Written (q .text) before 0 m mid
+        → after
+        ≡ set (set mid (q .kept + 1) (hexDigit (q .number % 10))) (q .kept) (hexDigit (q .number / 10 % 10))
         → Begun (decimal (q .number)) before (q .kept + 2) after
     numeral-begun {m} {before} {mid} {after} wide w is =
         let v : ℕ = q .number in
@@ -69,7 +73,13 @@ module _ (q : Numeral) (own : q ≡ numeralOf (q .number)) where
         let few : k ≤ 6 = few-kept in
         let free : k + 2 ≤ length mid = rw (keeps w) (omega arith) in
         let two : Written (lastTwo v) mid k (k + 2) after =
-        record { fits = free; ends = refl; holds = is ∙ two-written mid k (hexDigit (v / 10 % 10)) (hexDigit (v % 10)) free } in
+        record {
+          fits =
+              free;
+          ends = refl;
+          holds = is
+              ∙ two-written mid k (hexDigit (v / 10 % 10)) (hexDigit (v % 10)) free;
+        } in
         let same : digits ++ (lastTwo v ++ rest) ≡ decimal v ++ rest =
         sym (append-assoc digits (lastTwo v) rest) ∙ ap (λ (l : List ℕ). l ++ rest) (sym whole) in
         let sum : length (decimal v ++ rest) ≡ 8 =
@@ -82,7 +92,7 @@ module _ (q : Numeral) (own : q ≡ numeralOf (q .number)) where
             fits = rw sum (omega arith);
             ends = rw sum (omega (arith, rest-length));
             holds =
-                over digits zeros (reads w (written (replicate 8 0) 0 digits) text-is) kept-is two
+                over digits zeros (named (λ l. l) (sym text-is) w) kept-is two
                 ∙ ap (λ (l : List ℕ). written before 0 l) same;
           };
         }

@@ -1,13 +1,14 @@
 -- A text written over the end of another.
 --
--- Why: of the text before, what is longer than the new one is left behind it (`written-over`). If few bytes stand behind a text,
--- and what is written over them is as long, nothing is left, as if they had never been written (`then-over`).
+-- Why: of the text before, what is longer than the new one is left behind it (`written-over`). If few bytes
+-- stand behind a text, and what is written over them is as long, nothing is left, as if they had never been
+-- written (`then-over`).
 -- Assumes nothing.
-use mathlib.Core.Path.{_≡_, refl, ap, sym, _∙_}
+use mathlib.Core.Path.{_≡_, ap, sym, _∙_}
 use mathlib.Core.List.{List, [], _∷_, _++_, append-assoc, append-nil}
 use Prim.Native.Nat.{ℕ, zero, suc, _+_, _-_, _≤_}
 use native.Mathlib.Omega.{arith}
-use lib.ListN.{length, take, drop, set, length-append, length-drop}
+use lib.ListN.{length, take, drop, set, length-append, length-drop, drop-of-length-le}
 use lib.Seq.{length-take-le, take-at, drop-append-add, drop-drop}
 use Rattle.script.specs.Writing.{written, Written, Begun}
 use Rattle.script.proofs.Writing.{written-none, written-then, written-front, length-written, keeps}
@@ -18,19 +19,14 @@ drop-append (suc k) [] ys = let all : suc k - 0 ≡ suc k = omega arith in rw al
 drop-append (suc k) (x ∷ xs) ys =
     let less : suc k - suc (length xs) ≡ k - length xs = omega arith in rw less (drop-append k xs ys)
 
-drop-all : (n : ℕ) (xs : List ℕ) → length xs ≤ n → drop n xs ≡ []
-drop-all zero [] h = refl
-drop-all (suc n) [] h = refl
-drop-all zero (x ∷ xs) h = absurd (omega arith)
-drop-all (suc n) (x ∷ xs) h = drop-all n xs (omega arith)
-
 -- two bytes stored
 pub two-written : (out : List ℕ) (at a b : ℕ) → at + 2 ≤ length out
     → set (set out (at + 1) b) at a ≡ written out at (a ∷ b ∷ [])
 two-written out at a b h =
     let next : at + 1 ≡ suc at = omega arith in
     let one : set out (suc at) b ≡ written out (suc at) (b ∷ []) =
-    ap (λ (l : List ℕ). set l (suc at) b) (written-none out (suc (suc at))) ∙ written-front out (suc at) [] b (omega arith) in
+    ap (λ (l : List ℕ). set l (suc at) b) (written-none out (suc (suc at)))
+    ∙ written-front out (suc at) [] b (omega arith) in
     rw (next, one) (written-front out at (b ∷ []) a (omega arith))
 
 module _ (out : List ℕ) (p : ℕ) (t u : List ℕ) (h : p + length t ≤ length out) where
@@ -62,13 +58,15 @@ module _ (out : List ℕ) (p : ℕ) (t u : List ℕ) (h : p + length t ≤ lengt
       let q : List ℕ = drop (p + length t) out in
       let q′ : List ℕ = drop (p + length (u ++ rest)) out in
       ap (λ (l : List ℕ). take p l ++ u ++ drop (p + length u) (written out p t)) (append-assoc head t q)
-      ∙ ap (λ (l : List ℕ). l ++ u ++ drop (p + length u) (written out p t)) (take-at head (t ++ q) p head-length)
+      ∙ ap (λ (l : List ℕ). l ++ u ++ drop (p + length u) (written out p t))
+      (take-at head (t ++ q) p head-length)
       ∙ ap (λ (l : List ℕ). head ++ u ++ l) behind
       ∙ sym (append-assoc (head ++ u) rest q′)
       ∙ ap (λ (l : List ℕ). l ++ q′) (append-assoc head u rest)
 
 -- a text written from the end of s on, over t
-pub over : (s t : List ℕ) {u before : List ℕ} {n m r : ℕ} {mid after : List ℕ} → Written (s ++ t) before 0 n mid → m ≡ length s
+pub over : (s t : List ℕ) {u before : List ℕ} {n m r : ℕ} {mid after : List ℕ}
+    → Written (s ++ t) before 0 n mid → m ≡ length s
     → Written u mid m r after → after ≡ written before 0 (s ++ (u ++ drop (length u) t))
 over s t {u} {before} {n} {m} w e v =
     let one : length (s ++ t) ≡ length s + length t = length-append s t in
@@ -92,16 +90,26 @@ module _ {text before : List ℕ} {m : ℕ} {mid : List ℕ} (b : Begun text bef
   then-over {u} {r} {after} long v =
       let sum : length (text ++ u) ≡ length text + length u = length-append text u in
       let wide : length mid ≡ length before = begun-keeps in
-      let none : drop (length u) (b .more) ≡ [] = drop-all (length u) (b .more) (omega (arith, b .few)) in
+      let none : drop (length u) (b .more) ≡ [] =
+      drop-of-length-le (b .more) {i = length u} (omega (arith, b .few)) in
       let all : u ++ drop (length u) (b .more) ≡ u = rw none (append-nil u) in
       record {
         fits = rw sum (omega (arith, v .fits, b .ends));
         ends = v .ends ∙ rw sum (omega (arith, b .ends));
-        holds = over text (b .more) (b .wrote) (b .ends) v ∙ ap (λ (l : List ℕ). written before 0 (text ++ l)) all;
+        holds =
+            over text (b .more) (b .wrote) (b .ends) v
+            ∙ ap (λ (l : List ℕ). written before 0 (text ++ l)) all;
       }
 
 -- nothing behind it
-pub begun-alone : {text before : List ℕ} {r : ℕ} {after : List ℕ} → Written text before 0 r after → Begun text before r after
+pub begun-alone : {text before : List ℕ} {r : ℕ} {after : List ℕ} → Written text before 0 r after
+    → Begun text before r after
 begun-alone {text} {before} {r} w =
     let none : r + 0 ≡ r = omega arith in
-    record { more = []; few = omega arith; ends = omega (arith, w .ends); wrote = rw (none, append-nil text) w }
+    record {
+      more =
+          [];
+      few = omega arith;
+      ends = omega (arith, w .ends);
+      wrote = rw (none, append-nil text) w;
+    }

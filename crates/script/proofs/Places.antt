@@ -1,7 +1,7 @@
 -- The place of the first byte m in a text.
 --
--- In order: a search goes on where m is not (`pass`, `pass-all`), and stops where it is (`found`); the bytes up to there and
--- behind it.
+-- In order: a search goes on where m is not (`pass`, `pass-all`), and stops where it is (`found`); the bytes
+-- up to there and behind it.
 -- Assumes nothing.
 use mathlib.Core.Path.{_≡_, refl, ap}
 use mathlib.Core.Bool.{true, not}
@@ -20,53 +20,59 @@ use Rattle.script.specs.Lines.{upTo, behind}
 -- a search at place i, with no m before it
 module _ (m : ℕ) where
   -- m is not here: it goes on
-  pub pass : (s : List ℕ) (i : ℕ) → i < length s → i ≤ length (upTo m s) → (getD s i 0 ≡ m → ⊥) → suc i ≤ length (upTo m s)
+  pub pass : (text : List ℕ) (i : ℕ) → i < length text → i ≤ length (upTo m text) → (getD text i 0 ≡ m → ⊥)
+      → suc i ≤ length (upTo m text)
   unfolding upTo
   pass [] i h before other = absurd (not-suc-le-zero h)
-  pass (b ∷ s) zero h before other = rw (ne-eqb b m other) (omega arith)
-  pass (b ∷ s) (suc i) h before other =
-      by-test (eqb b m) (λ t. absurd (not-suc-le-zero (rw t at before)))
-      (λ t. rw t (suc-le-suc (pass s i (le-of-suc-le-suc h) (le-of-suc-le-suc (rw t at before)) other)))
+  pass (byte ∷ text) zero h before other = rw (ne-eqb byte m other) (omega arith)
+  pass (byte ∷ text) (suc i) h before other =
+      by-test (eqb byte m) (λ t. absurd (not-suc-le-zero (rw t at before)))
+      (λ t. rw t (suc-le-suc (pass text i (le-of-suc-le-suc h) (le-of-suc-le-suc (rw t at before)) other)))
 
   -- nor at any of n places: it goes on behind them
-  pub pass-all : (s : List ℕ) (i n : ℕ) → i + n ≤ length s → i ≤ length (upTo m s)
-      → allBelow (λ j. not (eqb (getD s (i + j) 0) m)) n ≡ true → i + n ≤ length (upTo m s)
+  pub pass-all : (text : List ℕ) (i n : ℕ) → i + n ≤ length text → i ≤ length (upTo m text)
+      → allBelow (λ j. not (eqb (getD text (i + j) 0) m)) n ≡ true → i + n ≤ length (upTo m text)
   unfolding allBelow
-  pass-all s i zero h before others = omega arith
-  pass-all s i (suc n) h before others =
-      let p = both (allBelow (λ j. not (eqb (getD s (i + j) 0) m)) n) (not (eqb (getD s (i + n) 0) m)) others in
-      let next : suc (i + n) ≤ length (upTo m s) =
-      pass s (i + n) (omega arith) (pass-all s i n (omega arith) before (p .0)) (eqb-false _ m (not-true _ (p .1))) in
+  pass-all text i zero h before others = omega arith
+  pass-all text i (suc n) h before others =
+      let p = both (allBelow (λ j. not (eqb (getD text (i + j) 0) m)) n) (not (eqb (getD text (i + n) 0) m))
+      others
+      in
+      let next : suc (i + n) ≤ length (upTo m text) =
+      pass text (i + n) (omega arith) (pass-all text i n (omega arith) before (p .0))
+      (eqb-false _ m (not-true _ (p .1))) in
       omega arith
 
   -- m is here: it is the first
-  pub found : (s : List ℕ) (i : ℕ) → i < length s → getD s i 0 ≡ m → length (upTo m s) ≤ i
+  pub found : (text : List ℕ) (i : ℕ) → i < length text → getD text i 0 ≡ m → length (upTo m text) ≤ i
   unfolding upTo
   found [] i h here = absurd (not-suc-le-zero h)
-  found (b ∷ s) zero h here = rw (eq-eqb b m here) (omega arith)
-  found (b ∷ s) (suc i) h here =
-      by-test (eqb b m) (λ t. rw t (omega arith)) (λ t. rw t (suc-le-suc (found s i (le-of-suc-le-suc h) here)))
+  found (byte ∷ text) zero h here = rw (eq-eqb byte m here) (omega arith)
+  found (byte ∷ text) (suc i) h here =
+      by-test (eqb byte m) (λ t. rw t (omega arith))
+      (λ t. rw t (suc-le-suc (found text i (le-of-suc-le-suc h) here)))
 
 -- the bytes before the place, and those behind it
-pub up-to-take : (m : ℕ) (s : List ℕ) → take (length (upTo m s)) s ≡ upTo m s
+pub up-to-take : (m : ℕ) (text : List ℕ) → take (length (upTo m text)) text ≡ upTo m text
 unfolding upTo
 up-to-take m [] = refl
-up-to-take m (b ∷ s) =
-    by-test (eqb b m) (λ t. rw t refl) (λ t. rw t (ap (λ (l : List ℕ). b ∷ l) (up-to-take m s)))
+up-to-take m (byte ∷ text) =
+    by-test (eqb byte m) (λ t. rw t refl) (λ t. rw t (ap (λ (l : List ℕ). byte ∷ l) (up-to-take m text)))
 
-pub up-to-short : (m : ℕ) (s : List ℕ) → length (upTo m s) ≤ length s
-up-to-short m s = omega (arith, simp length-take at (ap length (up-to-take m s)))
+pub up-to-short : (m : ℕ) (text : List ℕ) → length (upTo m text) ≤ length text
+up-to-short m text = omega (arith, simp length-take at (ap length (up-to-take m text)))
 
-pub behind-some : (m : ℕ) (s : List ℕ) → length (upTo m s) < length s → behind m s ≡ some (drop (suc (length (upTo m s))) s)
+pub behind-some : (m : ℕ) (text : List ℕ) → length (upTo m text) < length text
+    → behind m text ≡ some (drop (suc (length (upTo m text))) text)
 unfolding upTo behind
 behind-some m [] h = absurd (not-suc-le-zero h)
-behind-some m (b ∷ s) h =
-    by-test (eqb b m) (λ t. rw t refl)
-    (λ t. rw t (behind-some m s (le-of-suc-le-suc (rw t at h))))
+behind-some m (byte ∷ text) h =
+    by-test (eqb byte m) (λ t. rw t refl)
+    (λ t. rw t (behind-some m text (le-of-suc-le-suc (rw t at h))))
 
-pub behind-none : (m : ℕ) (s : List ℕ) → length s ≤ length (upTo m s) → behind m s ≡ none
+pub behind-none : (m : ℕ) (text : List ℕ) → length text ≤ length (upTo m text) → behind m text ≡ none
 unfolding upTo behind
 behind-none m [] h = refl
-behind-none m (b ∷ s) h =
-    by-test (eqb b m) (λ t. absurd (not-suc-le-zero (rw t at h)))
-    (λ t. rw t (behind-none m s (le-of-suc-le-suc (rw t at h))))
+behind-none m (byte ∷ text) h =
+    by-test (eqb byte m) (λ t. absurd (not-suc-le-zero (rw t at h)))
+    (λ t. rw t (behind-none m text (le-of-suc-le-suc (rw t at h))))

@@ -1,7 +1,7 @@
 -- A line that is a letter, a blank, a number, a blank and more: K, D or L.
 --
--- Why: behind the letter and the blank, and behind the number and its blank, the line goes on as from there (`Rest`). So it ends
--- where its rest does, and its letter says what the number and the rest mean.
+-- Why: behind the letter and the blank, and behind the number and its blank, the line goes on as from there
+-- (`Rest`). So it ends where its rest does, and its letter says what the number and the rest mean.
 -- Assumes nothing.
 use mathlib.Core.Path.{_≡_, refl, ap, _∙_}
 use mathlib.Core.Bool.{false}
@@ -16,7 +16,8 @@ use Rattle.script.specs.declared.next.Quick.{Quick}
 use Rattle.script.specs.declared.parse.Line.{Line}
 use Rattle.script.specs.declared.parse.Line.the-variants.{Take}
 use Rattle.script.specs.Lines.{upTo, part, lineEnd}
-use Rattle.script.specs.Grammar.{clientAfter, serverAfter, lieAfter, argumentsOf, lineOf}
+use Rattle.script.specs.Grammar.{numberThen, numbersThen, numberLine, numberAfter}
+use Rattle.script.specs.Grammar.{messageAfter, argumentsOf, lineOf}
 use Rattle.script.specs.Next.{foundAt, restAt, Short, IsLie, IsQuick}
 use Rattle.script.proofs.Found.{line-is}
 use Rattle.script.proofs.Rest.{then-number, then-ends, last-number, last-ends, last-few}
@@ -47,7 +48,8 @@ module _
         ∙ ap (λ (n : ℕ). letter ∷ 32 ∷ drop n s) two in
         rw (text, differs) refl
 
-    found : eqb letter 10 ≡ false → (end : ℕ) (l : Line) → lineEnd s next ≡ end → end ≤ next + 25 → argumentsOf letter rest ≡ l
+    found : eqb letter 10 ≡ false → (end : ℕ) (l : Line) → lineEnd s next ≡ end → end ≤ next + 25
+        → argumentsOf letter rest ≡ l
         → foundAt s at ≡ record { end = end; line = l }
     unfolding lineOf
     found differs end l e few is =
@@ -63,20 +65,25 @@ module _
         λ i. record { end = ends i; line = says i }
 
     module _ (y last : ℕ) (second : Short s next 10 y last) where
+      found-two : (l : ℕ) → letter ≡ l → eqb l 10 ≡ false
+          → argumentsOf l rest ≡ numberThen rest (numberAfter l)
+          → foundAt s at ≡ record { end = last - 1; line = numberLine l x y }
+      found-two l e differs says =
+          found (rw e differs) (last - 1) (numberLine l x y) (last-ends second)
+          (omega (arith, last-few second))
+          (rw e (says ∙ then-number first (numberAfter l) ∙ rw (last-number second) refl))
+
       pub found-k : letter ≡ 75 → foundAt s at ≡ record { end = last - 1; line = Take (K x y) }
-      unfolding argumentsOf
-      found-k e =
-          found (rw e refl) (last - 1) (Take (K x y)) (last-ends second) (omega (arith, last-few second))
-          (rw e (then-number first clientAfter ∙ rw (last-number second) refl))
+      unfolding argumentsOf numbersThen
+      found-k e = found-two 75 e refl refl
 
       pub found-d : letter ≡ 68 → foundAt s at ≡ record { end = last - 1; line = Take (D x y) }
-      unfolding argumentsOf
-      found-d e =
-          found (rw e refl) (last - 1) (Take (D x y)) (last-ends second) (omega (arith, last-few second))
-          (rw e (then-number first serverAfter ∙ rw (last-number second) refl))
+      unfolding argumentsOf numbersThen
+      found-d e = found-two 68 e refl refl
 
     pub found-l : letter ≡ 76 → (r : Quick) → IsLie r s x next → IsQuick r s at
-    unfolding argumentsOf
+    unfolding argumentsOf numbersThen
     found-l e (Quick.Is y end) h =
-        found (rw e refl) end (Take y) (h .ends) (h .few) (rw e (then-number first lieAfter ∙ h .says))
+        found (rw e refl) end (Take y) (h .ends) (h .few)
+        (rw e (then-number first (λ k s. numberThen s (messageAfter k)) ∙ h .says))
     found-l e Quick.No h = tt

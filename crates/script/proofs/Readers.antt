@@ -2,78 +2,94 @@
 --
 -- A reader answers a value or that there is none; the definition of a line goes by the same cases.
 -- Assumes nothing.
-use mathlib.Core.Path.{_≡_, refl, sym, _∙_, ap}
+use mathlib.Core.Path.{_≡_, refl, sym, _∙_, ap, subst}
 use mathlib.Core.List.{List}
 use mathlib.Core.Option.{Option, some}
-use Prim.Native.Nat.{ℕ, _+_, _-_, _<_, _≤_}
+use Prim.Native.Nat.{ℕ, zero, suc, _+_, _-_, _<_, _≤_}
 use native.Mathlib.Numerals.{add-one}
 use native.Mathlib.Omega.{arith}
 use Rattle.script.specs.declared.parse.Line.{Line}
-use Rattle.script.specs.declared.parse.Line.the-variants.{Unread}
 use Rattle.script.specs.declared.parse.Number.{Number}
 use Rattle.script.specs.declared.parse.Number.the-variants as number
 use Rattle.script.specs.declared.parse.First.{First}
 use Rattle.script.specs.declared.parse.First.the-variants as first
-use Rattle.script.specs.declared.parse.Hex.{Hex}
-use Rattle.script.specs.declared.parse.Hex.the-variants as hex
-use Rattle.script.specs.Numbers.{numberIn, hexIn}
+use Rattle.script.specs.Numbers.{numberIn}
 use Rattle.script.specs.Lines.{upTo, behind}
-use Rattle.script.specs.Grammar.{numberIs, hexIs, onNumber, onFirst, numberThen, Cut}
+use Rattle.script.specs.Grammar.{numberIs, onNumber, onFirst, startOf, numberThen, numbersThen, Cut}
 use Rattle.script.proofs.Places.{up-to-take, behind-some, behind-none}
 use lib.ListN.{length, take, drop, length-drop}
 use lib.Seq.{take-all}
-use native.Mathlib.Nat.{le-refl}
+use native.Mathlib.Nat.{le-refl, not-suc-le-zero}
 
-module _ (f : ℕ → Line) (o : Option ℕ) (r : Number) (means : numberIs r ≡ o) where
-  -- the number is v
-  pub with-number : (v : ℕ) → r ≡ number.Is v → f v ≡ onNumber o f
-  with-number v e = ap (λ (n : Number). onNumber (numberIs n) f) (sym e) ∙ ap (λ (p : Option ℕ). onNumber p f) means
-
-  -- there is none
-  pub without-number : r ≡ number.No → Unread ≡ onNumber o f
-  without-number e = ap (λ (n : Number). onNumber (numberIs n) f) (sym e) ∙ ap (λ (p : Option ℕ). onNumber p f) means
+-- a reader answered a, which is what it read by the definition
+pub read : {A : Type 0} (is : A → Option ℕ) (f : ℕ → Line) (o : Option ℕ) {r : A} → is r ≡ o → {a : A} → r ≡ a
+    → onNumber (is a) f ≡ onNumber o f
+read is f o means e = ap (λ x. onNumber (is x) f) (sym e) ∙ ap (λ (p : Option ℕ). onNumber p f) means
 
 -- the text from a place on, as a part of the slice
-pub rest-is : (s : List ℕ) (at : ℕ) → take (length s - at) (drop at s) ≡ drop at s
-rest-is s at = take-all (length s - at) (drop at s) (rw (length-drop at s) (le-refl (length s - at)))
+pub rest-is : (text : List ℕ) (at : ℕ) → take (length text - at) (drop at text) ≡ drop at text
+rest-is text at =
+    take-all (length text - at) (drop at text) (rw (length-drop at text) (le-refl (length text - at)))
 
-module _ (s : List ℕ) (r : First) (cut : Cut r s) where
-  pub with-first : (f : ℕ → List ℕ → Line) (v at : ℕ) → r ≡ first.Is v at → f v (drop at s) ≡ numberThen s f
-  with-first f v at e = ap (λ (n : First). onFirst n s f) (sym e) ∙ cut .means f
+-- ---- the numbers before the last argument
 
-  pub starts-within : (v at : ℕ) → r ≡ first.Is v at → at ≤ length s
-  starts-within v at e = rw e at (cut .within)
+module _ (x y : ℕ) (text : List ℕ) (f : ℕ → ℕ → List ℕ → Line) where
+  -- none is left
+  pub none-left : (left : ℕ) → left ≡ 0 → f x y text ≡ numbersThen left x y text f
+  unfolding numbersThen
+  none-left left e = rw e refl
 
-  pub without-first : (f : ℕ → List ℕ → Line) → r ≡ first.No → Unread ≡ numberThen s f
-  without-first f e = ap (λ (n : First). onFirst n s f) (sym e) ∙ cut .means f
+  -- one is read, and the others behind it
+  some-left : (left : ℕ) → 0 < left
+      → numbersThen left x y text f ≡ numberThen text (λ value rest. numbersThen (left - 1) y value rest f)
+  unfolding numbersThen
+  some-left zero h = absurd (not-suc-le-zero h)
+  some-left (suc n) h =
+      let one-less : n ≡ suc n - 1 = omega arith in
+      ap (λ (m : ℕ). numberThen text (λ value rest. numbersThen m y value rest f)) one-less
+
+-- what was read at a place
+module _
+    (text : List ℕ)
+    (at : ℕ)
+    {r : First}
+    (cut : Cut r (take (length text - at) (drop at text)))
+    {a : First}
+    (is : r ≡ a)
+  where
+    there : Cut a (drop at text)
+    there = subst (λ (x : First). Cut x (drop at text)) is (rw (rest-is text at) at cut)
+
+    pub starts-within : at ≤ length text → at + startOf a ≤ length text
+    starts-within h =
+        let inside = there .within in
+        let long = length-drop at text in
+        omega arith
+
+    pub number-read : (left x y : ℕ) (f : ℕ → ℕ → List ℕ → Line) → 0 < left
+        → onFirst a (drop at text) (λ value rest. numbersThen (left - 1) y value rest f)
+        ≡ numbersThen left x y (drop at text) f
+    number-read left x y f h =
+        there .means (λ value rest. numbersThen (left - 1) y value rest f)
+        ∙ sym (some-left x y (drop at text) f left h)
 
 -- the first word of a text ends at e
-module _ (s : List ℕ) (e : ℕ) (ends : e ≡ length (upTo 32 s)) where
+module _ (text : List ℕ) (e : ℕ) (ends : e ≡ length (upTo 32 text)) where
   -- at the text's end: there is no blank
-  pub cut-none : length s ≤ e → Cut first.No s
-  cut-none h = record { within = omega arith; means = λ f. rw (behind-none 32 s (omega arith)) refl }
+  pub cut-none : length text ≤ e → Cut first.No text
+  cut-none h = record { within = omega arith; means = λ f. rw (behind-none 32 text (omega arith)) refl }
 
-  module _ (inside : e < length s) (r : Number) (means : numberIs r ≡ numberIn (take e s)) where
+  module _ (inside : e < length text) (r : Number) (means : numberIs r ≡ numberIn (take e text)) where
     -- behind the blank stands the rest, and the number is that of the first word
-    split : (f : ℕ → List ℕ → Line) → numberThen s f ≡ onNumber (numberIs r) (λ v. f v (drop (e + 1) s))
+    split : (f : ℕ → List ℕ → Line) → numberThen text f ≡ onNumber (numberIs r) (λ v. f v (drop (e + 1) text))
     split f =
-        let word : take e s ≡ upTo 32 s = rw ends (up-to-take 32 s) in
-        let rest : behind 32 s ≡ some (drop (e + 1) s) = rw (ends, add-one) (behind-some 32 s (omega arith)) in
+        let word : take e text ≡ upTo 32 text = rw ends (up-to-take 32 text) in
+        let rest : behind 32 text ≡ some (drop (e + 1) text) =
+        rw (ends, add-one) (behind-some 32 text (omega arith)) in
         rw (rest, ← word, ← means) refl
 
-    pub cut-at : (v : ℕ) → r ≡ number.Is v → Cut (first.Is v (e + 1)) s
+    pub cut-at : (v : ℕ) → r ≡ number.Is v → Cut (first.Is v (e + 1)) text
     cut-at v is = record { within = omega arith; means = λ f. sym (split f ∙ rw is refl) }
 
-    pub cut-no-number : r ≡ number.No → Cut first.No s
+    pub cut-no-number : r ≡ number.No → Cut first.No text
     cut-no-number is = record { within = omega arith; means = λ f. sym (split f ∙ rw is refl) }
-
--- n hexadecimal digits
-module _ (f : ℕ → Line) (n : ℕ) (s : List ℕ) (wide : length s ≡ n) (r : Hex) (means : hexIs r ≡ hexIn (length s) s) where
-  same : hexIs r ≡ hexIn n s
-  same = means ∙ ap (λ (k : ℕ). hexIn k s) wide
-
-  pub with-hex : (v : ℕ) → r ≡ hex.Is v → f v ≡ onNumber (hexIn n s) f
-  with-hex v e = ap (λ (h : Hex). onNumber (hexIs h) f) (sym e) ∙ ap (λ (p : Option ℕ). onNumber p f) same
-
-  pub without-hex : r ≡ hex.No → Unread ≡ onNumber (hexIn n s) f
-  without-hex e = ap (λ (h : Hex). onNumber (hexIs h) f) (sym e) ∙ ap (λ (p : Option ℕ). onNumber p f) same

@@ -1,8 +1,8 @@
 -- The rest of a line from a place on: a number and a blank, a last number, a message.
 --
--- Why: the bytes of a number are digits and those of a message hexadecimal digits, so neither a blank nor a line's end is among
--- them (`past`, `behind-past`). So behind a number and its blank the line goes on as from there (`then-number`), and it ends
--- where the byte 10 stands behind a last number or a message.
+-- Why: the bytes of a number are digits and those of a message hexadecimal digits, so neither a blank nor a
+-- line's end is among them (`past`, `behind-past`). So behind a number and its blank the line goes on as from
+-- there (`then-number`), and it ends where the byte 10 stands behind a last number or a message.
 -- Assumes nothing.
 use mathlib.Core.Path.{_≡_, refl, sym, ap, _∙_}
 use mathlib.Core.Bool.{Bool, true, false, _&&_}
@@ -28,22 +28,22 @@ use Rattle.script.proofs.Short.{one-byte, next-most}
 -- ---- a search goes past bytes of one kind
 
 module _ (p : ℕ → Bool) (m : ℕ) (mark : p m ≡ false) where
-  other : (b : ℕ) → p b ≡ true → eqb b m ≡ false
-  other b e = ne-eqb b m (λ q. true-or-false (p m) (rw q at e) mark)
+  other : (byte : ℕ) → p byte ≡ true → eqb byte m ≡ false
+  other byte e = ne-eqb byte m (λ q. true-or-false (p m) (rw q at e) mark)
 
   past : (w l : List ℕ) → allBytes p w ≡ true → upTo m (w ++ l) ≡ w ++ upTo m l
   unfolding upTo allBytes
   past [] l e = refl
-  past (b ∷ w) l e =
-      let h = both (p b) (allBytes p w) e in
-      rw (other b (h .0)) (ap (λ (r : List ℕ). b ∷ r) (past w l (h .1)))
+  past (byte ∷ w) l e =
+      let h = both (p byte) (allBytes p w) e in
+      rw (other byte (h .0)) (ap (λ (r : List ℕ). byte ∷ r) (past w l (h .1)))
 
   behind-past : (w l : List ℕ) → allBytes p w ≡ true → behind m (w ++ l) ≡ behind m l
   unfolding behind allBytes
   behind-past [] l e = refl
-  behind-past (b ∷ w) l e =
-      let h = both (p b) (allBytes p w) e in
-      rw (other b (h .0)) (behind-past w l (h .1))
+  behind-past (byte ∷ w) l e =
+      let h = both (p byte) (allBytes p w) e in
+      rw (other byte (h .0)) (behind-past w l (h .1))
 
   -- m stands behind them
   up-to-mark : (w l : List ℕ) → allBytes p w ≡ true → upTo m (w ++ m ∷ l) ≡ w
@@ -52,41 +52,43 @@ module _ (p : ℕ → Bool) (m : ℕ) (mark : p m ≡ false) where
 
 -- ---- a number and what stands behind it
 
-number-digits : (w : List ℕ) (v : ℕ) → numberIn w ≡ some v → allBytes isDigit w ≡ true
+number-digits : (w : List ℕ) (value : ℕ) → numberIn w ≡ some value → allBytes isDigit w ≡ true
 unfolding numberIn
-number-digits w v e =
+number-digits w value e =
     by-test (leb 1 (length w) && leb (length w) 7 && allBytes isDigit w)
-    (λ t. both (leb 1 (length w) && leb (length w) 7) (allBytes isDigit w) t .1) (λ t. let q = rw t at e in clash cc)
+    (λ t. both (leb 1 (length w) && leb (length w) 7) (allBytes isDigit w) t .1)
+    (λ t. let q = rw t at e in clash cc)
 
-module _ {s : List ℕ} {at x next : ℕ} (h : Short s at 32 x next) where
+module _ {text : List ℕ} {at x next : ℕ} (h : Short text at 32 x next) where
   digits : allBytes isDigit (h .word) ≡ true
   digits = number-digits (h .word) x (h .number)
 
-  rest-is : restAt s at ≡ h .word ++ 32 ∷ restAt s next
+  rest-is : restAt text at ≡ h .word ++ 32 ∷ restAt text next
   unfolding upTo
-  rest-is = rw (h .bytes) (past isDigit 10 refl (h .word) (32 ∷ drop next s) digits)
+  rest-is = rw (h .bytes) (past isDigit 10 refl (h .word) (32 ∷ drop next text) digits)
 
-  pub then-number : (f : ℕ → List ℕ → Line) → numberThen (restAt s at) f ≡ f x (restAt s next)
+  pub then-number : (f : ℕ → List ℕ → Line) → numberThen (restAt text at) f ≡ f x (restAt text next)
   unfolding behind
   then-number f =
-      let word : upTo 32 (restAt s at) ≡ h .word =
-      ap (upTo 32) rest-is ∙ up-to-mark isDigit 32 refl (h .word) (restAt s next) digits in
-      let rest : behind 32 (restAt s at) ≡ some (restAt s next) =
-      ap (behind 32) rest-is ∙ behind-past isDigit 32 refl (h .word) (32 ∷ restAt s next) digits in
+      let word : upTo 32 (restAt text at) ≡ h .word =
+      ap (upTo 32) rest-is ∙ up-to-mark isDigit 32 refl (h .word) (restAt text next) digits in
+      let rest : behind 32 (restAt text at) ≡ some (restAt text next) =
+      ap (behind 32) rest-is ∙ behind-past isDigit 32 refl (h .word) (32 ∷ restAt text next) digits in
       rw (rest, word, h .number) refl
 
-  pub then-ends : lineEnd s at ≡ lineEnd s next
-  then-ends = omega (arith, h .behind, ap length rest-is, length-append (h .word) (32 ∷ restAt s next))
+  pub then-ends : lineEnd text at ≡ lineEnd text next
+  then-ends = omega (arith, h .behind, ap length rest-is, length-append (h .word) (32 ∷ restAt text next))
 
-module _ {s : List ℕ} {at y last : ℕ} (h : Short s at 10 y last) where
-  last-is : restAt s at ≡ h .word
+module _ {text : List ℕ} {at y last : ℕ} (h : Short text at 10 y last) where
+  last-is : restAt text at ≡ h .word
   last-is =
-      rw (h .bytes) (up-to-mark isDigit 10 refl (h .word) (drop last s) (number-digits (h .word) y (h .number)))
+      rw (h .bytes)
+      (up-to-mark isDigit 10 refl (h .word) (drop last text) (number-digits (h .word) y (h .number)))
 
-  pub last-number : numberIn (restAt s at) ≡ some y
+  pub last-number : numberIn (restAt text at) ≡ some y
   last-number = ap numberIn last-is ∙ h .number
 
-  pub last-ends : lineEnd s at ≡ last - 1
+  pub last-ends : lineEnd text at ≡ last - 1
   last-ends = omega (arith, h .behind, ap length last-is)
 
   pub last-few : last - 1 ≤ at + 2
@@ -95,35 +97,35 @@ module _ {s : List ℕ} {at y last : ℕ} (h : Short s at 10 y last) where
 -- ---- a message
 
 module _
-    (s : List ℕ)
+    (text : List ℕ)
     (k d at : ℕ)
     (x : Step)
-    (room : at + 22 < length s)
-    (mark : getD s (at + 22) 0 ≡ 10)
-    (is : messageAfter k d (part s at (at + 22)) ≡ Take x)
+    (room : at + 22 < length text)
+    (mark : getD text (at + 22) 0 ≡ 10)
+    (is : messageAfter k d (part text at (at + 22)) ≡ Take x)
   where
     abbrev word : List ℕ
-    word = part s at (at + 22)
+    word = part text at (at + 22)
 
     hexadecimal : (length word ≡ 22) × (allBytes isHexDigit word ≡ true)
     hexadecimal =
         by-option (hexIn 22 word) (λ e. let q = rw e at is in clash cc)
-        (λ v e. let h = hex-value 22 word v e in (h .0, h .2))
+        (λ value e. let h = hex-value 22 word value e in (h .0, h .2))
 
-    message-is : restAt s at ≡ word
+    message-is : restAt text at ≡ word
     message-is =
         let far : at + (at + 22 - at) ≡ at + 22 = omega arith in
-        let bytes : drop at s ≡ word ++ 10 ∷ drop (at + 22 + 1) s =
-        sym (take-append-drop (at + 22 - at) (drop at s))
+        let bytes : drop at text ≡ word ++ 10 ∷ drop (at + 22 + 1) text =
+        sym (take-append-drop (at + 22 - at) (drop at text))
         ∙ ap (λ (l : List ℕ). word ++ l)
-        (drop-drop (at + 22 - at) at s ∙ ap (λ (n : ℕ). drop n s) far ∙ one-byte s (at + 22) room
-        ∙ ap (λ (n : ℕ). n ∷ drop (at + 22 + 1) s) mark) in
-        ap (upTo 10) bytes ∙ up-to-mark isHexDigit 10 refl word (drop (at + 22 + 1) s) (hexadecimal .1)
+        (drop-drop (at + 22 - at) at text ∙ ap (λ (n : ℕ). drop n text) far ∙ one-byte text (at + 22) room
+        ∙ ap (λ (n : ℕ). n ∷ drop (at + 22 + 1) text) mark) in
+        ap (upTo 10) bytes ∙ up-to-mark isHexDigit 10 refl word (drop (at + 22 + 1) text) (hexadecimal .1)
 
-    message-ends : lineEnd s at ≡ at + 22
+    message-ends : lineEnd text at ≡ at + 22
     message-ends = ap (λ (n : ℕ). at + n) (ap length message-is ∙ hexadecimal .0)
 
-    pub lie-is : {start : ℕ} → Short s start 32 d at → Lie s k start x (at + 22)
+    pub lie-is : {start : ℕ} → Short text start 32 d at → Lie text k start x (at + 22)
     lie-is first =
         record {
           ends = then-ends first ∙ message-ends;

@@ -1,5 +1,6 @@
--- A script read line by line: the first line is what stands before the first line end, and the others are those of what stands
--- behind it; where there is no line end, what is left is the last line, and there is no whole one.
+-- A script read line by line: the first line is what stands before the first line end, and the others are
+-- those of what stands behind it; where there is no line end, what is left is the last line, and there is no
+-- whole one.
 -- Assumes nothing.
 use mathlib.Core.Path.{_≡_, refl, ap}
 use mathlib.Core.Bool.{Bool, true, false}
@@ -11,22 +12,26 @@ use Rattle.basics.proofs.Cases.{by-test, clash}
 use Rattle.script.specs.Lines.{upTo, behind, inFront, linesBy, linesOf, wholeLines}
 
 -- of the lines of a script and of the whole lines of a text alike
-pub first-line : (u : Bool) (s rest : List ℕ) → behind 10 s ≡ some rest → linesBy u s ≡ upTo 10 s ∷ linesBy u rest
+pub first-line : (u : Bool) (text rest : List ℕ) → behind 10 text ≡ some rest
+    → linesBy u text ≡ upTo 10 text ∷ linesBy u rest
 unfolding upTo behind linesBy
 first-line u [] rest e = clash cc
-first-line u (b ∷ s) rest e =
-    by-test (eqb b 10)
-    (λ t. let is : s ≡ rest = let q = rw t at e in cc in rw t (ap (λ (l : List ℕ). [] ∷ linesBy u l) is))
-    (λ t. rw t (ap (inFront u b) (first-line u s rest (rw t at e))))
+first-line u (byte ∷ text) rest e =
+    by-test (eqb byte 10)
+    (λ t. let is : text ≡ rest = let q = rw t at e in cc in rw t (ap (λ (l : List ℕ). [] ∷ linesBy u l) is))
+    (λ t. rw t (ap (inFront u byte) (first-line u text rest (rw t at e))))
 
-pub last-line : (b : ℕ) (s : List ℕ) → behind 10 (b ∷ s) ≡ none → linesOf (b ∷ s) ≡ (b ∷ s) ∷ []
+pub last-line : (byte : ℕ) (text : List ℕ) → behind 10 (byte ∷ text) ≡ none
+    → linesOf (byte ∷ text) ≡ (byte ∷ text) ∷ []
 unfolding behind linesBy
-last-line b [] e = by-test (eqb b 10) (λ t. let q = rw t at e in clash cc) (λ t. rw t refl)
-last-line b (c ∷ s) e =
-    by-test (eqb b 10) (λ t. let q = rw t at e in clash cc) (λ t. rw t (ap (inFront true b) (last-line c s (rw t at e))))
+last-line byte [] e = by-test (eqb byte 10) (λ t. let q = rw t at e in clash cc) (λ t. rw t refl)
+last-line byte (c ∷ text) e =
+    by-test (eqb byte 10) (λ t. let q = rw t at e in clash cc)
+    (λ t. rw t (ap (inFront true byte) (last-line c text (rw t at e))))
 
-pub no-whole : (s : List ℕ) → behind 10 s ≡ none → wholeLines s ≡ []
+pub no-whole : (text : List ℕ) → behind 10 text ≡ none → wholeLines text ≡ []
 unfolding behind linesBy
 no-whole [] e = refl
-no-whole (b ∷ s) e =
-    by-test (eqb b 10) (λ t. let q = rw t at e in clash cc) (λ t. rw t (ap (inFront false b) (no-whole s (rw t at e))))
+no-whole (byte ∷ text) e =
+    by-test (eqb byte 10) (λ t. let q = rw t at e in clash cc)
+    (λ t. rw t (ap (inFront false byte) (no-whole text (rw t at e))))

@@ -1,8 +1,8 @@
 -- Texts written into a buffer, one behind the other.
 --
--- The buffer keeps its length (`keeps`), so what is written next has the room that is left (`room`); two texts written one
--- behind the other are their join written at once (`then`); a byte stored right before a text makes it longer
--- (`written-front`).
+-- The buffer keeps its length (`keeps`), so what is written next has the room that is left (`room`); two
+-- texts written one behind the other are their join written at once (`then`); a byte stored right before a
+-- text makes it longer (`written-front`).
 -- Assumes nothing.
 use mathlib.Core.Path.{_≡_, ap, sym, subst, _∙_}
 use mathlib.Core.List.{List, [], _∷_, _++_, append-assoc}
@@ -33,9 +33,11 @@ module _ (out : List ℕ) (at : ℕ) (s : List ℕ) (h : at + length s ≤ lengt
   written-then t =
       let h : List ℕ = take at out ++ s in
       let q : List ℕ = drop (at + length s) out in
-      ap (λ (l : List ℕ). l ++ t ++ drop (at + length s + length t) (h ++ q)) (take-at h q (at + length s) head-length)
+      ap (λ (l : List ℕ). l ++ t ++ drop (at + length s + length t) (h ++ q))
+      (take-at h q (at + length s) head-length)
       ∙ ap (λ (n : ℕ). h ++ t ++ drop (n + length t) (h ++ q)) (sym head-length)
-      ∙ ap (λ (l : List ℕ). h ++ t ++ l) (drop-append-add h q (length t) ∙ drop-drop (length t) (at + length s) out)
+      ∙ ap (λ (l : List ℕ). h ++ t ++ l)
+      (drop-append-add h q (length t) ∙ drop-drop (length t) (at + length s) out)
       ∙ ap (λ (l : List ℕ). l ++ drop (at + length s + length t) out) (append-assoc (take at out) s t)
       ∙ ap (λ (n : ℕ). take at out ++ (s ++ t) ++ drop n out)
       (add-assoc at (length s) (length t) ∙ ap (λ (n : ℕ). at + n) (sym (length-append s t)))
@@ -48,11 +50,13 @@ written-front out at t d h =
     let b : ℕ = getD out at 0 in
     let split : take (suc at) out ++ t ++ q ≡ take at out ++ b ∷ (t ++ q) =
     append-assoc (take (suc at) out) t q
-    ∙ ap (λ (l : List ℕ). l ++ (t ++ q)) (take-suc out at 0 h) ∙ append-assoc (take at out) (b ∷ []) (t ++ q) in
+    ∙ ap (λ (l : List ℕ). l ++ (t ++ q)) (take-suc out at 0 h)
+    ∙ append-assoc (take at out) (b ∷ []) (t ++ q) in
     ap (λ (l : List ℕ). set l at d) split
     ∙ set-at (take at out) b (t ++ q) d at (length-take-le at out (omega arith))
     ∙ sym (append-assoc (take at out) (d ∷ t) q)
-    ∙ ap (λ (n : ℕ). take at out ++ (d ∷ t) ++ drop n out) (suc-add at (length t) ∙ sym (add-suc at (length t)))
+    ∙ ap (λ (n : ℕ). take at out ++ (d ∷ t) ++ drop n out)
+    (suc-add at (length t) ∙ sym (add-suc at (length t)))
 
 module _ {s before : List ℕ} {at m : ℕ} {mid : List ℕ} (w : Written s before at m mid) where
   pub keeps : length mid ≡ length before
@@ -62,7 +66,8 @@ module _ {s before : List ℕ} {at m : ℕ} {mid : List ℕ} (w : Written s befo
   pub room : (n k : ℕ) → length s ≤ n → at + (n + k) ≤ length before → m + k ≤ length mid
   room n k few free = rw (keeps, w .ends) (omega arith)
 
-  pub then : {t : List ℕ} {r : ℕ} {after : List ℕ} → Written t mid m r after → Written (s ++ t) before at r after
+  pub then : {t : List ℕ} {r : ℕ} {after : List ℕ} → Written t mid m r after
+      → Written (s ++ t) before at r after
   then {t} {r} {after} u =
       let long : length (s ++ t) ≡ length s + length t = length-append s t in
       let free : m + length t ≤ length mid = u .fits in
@@ -79,3 +84,8 @@ module _ {s before : List ℕ} {at m : ℕ} {mid : List ℕ} (w : Written s befo
   -- the same text by another name
   pub reads : (t : List ℕ) → s ≡ t → Written t before at m mid
   reads t e = subst (λ (l : List ℕ). Written l before at m mid) e w
+
+-- the text of the same thing by another name
+pub named : {A : Type 0} (text : A → List ℕ) {a b : A} {before : List ℕ} {at r : ℕ} {after : List ℕ}
+    → a ≡ b → Written (text b) before at r after → Written (text a) before at r after
+named text {a = a} e w = reads w (text a) (ap text (sym e))

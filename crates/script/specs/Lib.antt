@@ -1,3 +1,4 @@
+pub mod Spelt
 pub mod Numbers
 pub mod Lines
 pub mod Grammar

@@ -2,6 +2,7 @@
 --
 -- In order: digits and their values; the value of a text; the text of a value.
 -- Assumes nothing.
+use Prim.Native.Char.{code}
 use Prim.Native.Nat.{ℕ, zero, suc, _+_, _-_, _*_, _/_, _%_, _^_}
 use mathlib.Core.Bool.{Bool, true, cond, _&&_, _||_}
 use mathlib.Core.List.{List, [], _∷_}
@@ -11,58 +12,60 @@ use lib.ListN.{length}
 
 -- 0 to 9, and A to F
 abbrev pub isDigit : ℕ → Bool
-isDigit b = leb 48 b && leb b 57
+isDigit byte = leb (code "0") byte && leb byte (code "9")
 
 abbrev pub isLetter : ℕ → Bool
-isLetter b = leb 65 b && leb b 70
+isLetter byte = leb (code "A") byte && leb byte (code "F")
 
 abbrev pub isHexDigit : ℕ → Bool
-isHexDigit b = isDigit b || isLetter b
+isHexDigit byte = isDigit byte || isLetter byte
 
 -- the value of a digit
 abbrev pub digitValue : ℕ → ℕ
-digitValue b = b - 48
+digitValue byte = byte - code "0"
 
 abbrev pub hexValue : ℕ → ℕ
-hexValue b = cond (isDigit b) (b - 48) (b - 55)
+hexValue byte = cond (isDigit byte) (digitValue byte) (byte - 55)
 
 -- every byte of a text passes a test
 unfoldable pub allBytes : (ℕ → Bool) → List ℕ → Bool
-allBytes p [] = true
-allBytes p (b ∷ bs) = p b && allBytes p bs
+allBytes test [] = true
+allBytes test (byte ∷ rest) = test byte && allBytes test rest
 
--- the value of digits to a base, behind the value a
+-- the value of digits to a base, behind a value
 unfoldable pub valueFrom : (ℕ → ℕ) → ℕ → ℕ → List ℕ → ℕ
-valueFrom digit base a [] = a
-valueFrom digit base a (b ∷ bs) = valueFrom digit base (a * base + digit b) bs
+valueFrom digit base value [] = value
+valueFrom digit base value (byte ∷ rest) = valueFrom digit base (value * base + digit byte) rest
 
 -- a number of 1 to 7 digits
 unfoldable pub numberIn : List ℕ → Option ℕ
-numberIn s =
-    cond (leb 1 (length s) && leb (length s) 7 && allBytes isDigit s) (some (valueFrom digitValue 10 0 s)) none
+numberIn text =
+    cond (leb 1 (length text) && leb (length text) 7 && allBytes isDigit text)
+    (some (valueFrom digitValue 10 0 text)) none
 
 -- n hexadecimal digits
 unfoldable pub hexIn : ℕ → List ℕ → Option ℕ
-hexIn n s = cond (eqb (length s) n && allBytes isHexDigit s) (some (valueFrom hexValue 16 0 s)) none
+hexIn n text =
+    cond (eqb (length text) n && allBytes isHexDigit text) (some (valueFrom hexValue 16 0 text)) none
 
 -- the digit of a value
 abbrev pub hexDigit : ℕ → ℕ
-hexDigit v = cond (ltb v 10) (48 + v) (55 + v)
+hexDigit value = cond (ltb value 10) (code "0" + value) (55 + value)
 
 -- the last n digits of a value to a base, the highest first
 unfoldable pub digitsOf : ℕ → ℕ → ℕ → List ℕ
-digitsOf base zero v = []
-digitsOf base (suc n) v = hexDigit (v / base ^ n % base) ∷ digitsOf base n v
+digitsOf base zero value = []
+digitsOf base (suc n) value = hexDigit (value / base ^ n % base) ∷ digitsOf base n value
 
 -- how many decimal digits a number below 10 ^ (n + 1) has
 unfoldable pub digitCount : ℕ → ℕ → ℕ
-digitCount zero v = 1
-digitCount (suc n) v = cond (ltb v 10) 1 (suc (digitCount n (v / 10)))
+digitCount zero value = 1
+digitCount (suc n) value = cond (ltb value 10) 1 (suc (digitCount n (value / 10)))
 
 -- a number of 64 bits in decimal, with no zeros before it: it has at most 20 digits
 abbrev pub decimal : ℕ → List ℕ
-decimal v = digitsOf 10 (digitCount 19 v) v
+decimal value = digitsOf 10 (digitCount 19 value) value
 
 -- an entry: 10 hexadecimal digits
 abbrev pub hexEntry : ℕ → List ℕ
-hexEntry v = digitsOf 16 10 v
+hexEntry value = digitsOf 16 10 value

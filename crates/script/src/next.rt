@@ -1,4 +1,5 @@
-// The next line of a text: where it ends, and what it says. The commonest, K, D and L with short numbers, are read at once.
+// The next line of a text: where it ends, and what it says. The commonest, K, D and L with short numbers, are
+// read at once.
 ghost use mathlib.Core.Path.{_≡_};
 ghost use Prim.Native.Nat.{_+_, _≤_};
 ghost use mathlib.Core.Bool.{true};
@@ -35,106 +36,106 @@ enum Quick {
 }
 
 // The number of a digit and, if the byte behind it is one too, that digit.
-fn short_value(a: u8, b: u8) -> u32
-    requires { ⌜ isDigit a ≡ true ⌝ }
-    ensures { λ r. ⌜ r ≡ shortValue a b ⌝ }
+fn short_value(first: u8, second: u8) -> u32
+    requires { ⌜ isDigit first ≡ true ⌝ }
+    ensures { λ r. ⌜ r ≡ shortValue first second ⌝ }
 {
-    let v = (a - 48) as u32;
-    if is_digit(b) {
-        v * 10 + (b - 48) as u32
+    let value = (first - b'0') as u32;
+    if is_digit(second) {
+        value * 10 + (second - b'0') as u32
     } else {
-        v
+        value
     }
 }
 
 // A number of one or two digits with a mark behind it, and where the text behind the mark begins.
-fn short_at(s: &[u8], at: usize, mark: u8) -> First
-    requires { ⌜ at + 3 ≤ length (now s) ⌝ }
-    ensures { λ r. ⌜ IsShort r (now (s .entry)) at mark ⌝ }
+fn short_at(text: &[u8], at: usize, mark: u8) -> First
+    requires { ⌜ at + 3 ≤ length (now text) ⌝ }
+    ensures { λ r. ⌜ IsShort r (now (text .entry)) at mark ⌝ }
 {
-    let a = s[at];
-    let b = s[at + 1];
-    if !is_digit(a) {
+    let first = text[at];
+    let second = text[at + 1];
+    if !is_digit(first) {
         return First::No;
     }
-    let end = at + 1 + is_digit(b) as usize;
-    if s[end] != mark {
+    let end = at + 1 + is_digit(second) as usize;
+    if text[end] != mark {
         return First::No;
     }
-    First::Is(short_value(a, b), end + 1)
+    First::Is(short_value(first, second), end + 1)
 }
 
 // The rest of an L line, behind its server: a short number and a message.
-fn quick_lie(s: &[u8], k: u32, at: usize) -> Quick
-    requires { ⌜ at + 3 ≤ length (now s) ⌝ }
-    ensures { λ r. ⌜ IsLie r (now (s .entry)) k at ⌝ }
+fn quick_lie(text: &[u8], k: u32, at: usize) -> Quick
+    requires { ⌜ at + 3 ≤ length (now text) ⌝ }
+    ensures { λ r. ⌜ IsLie r (now (text .entry)) k at ⌝ }
 {
-    let First::Is(d, next) = short_at(s, at, b' ') else {
+    let First::Is(d, next) = short_at(text, at, b' ') else {
         return Quick::No;
     };
-    if s.len() - next <= MESSAGE {
+    if text.len() - next <= MESSAGE {
         return Quick::No;
     }
     let end = next + MESSAGE;
-    if s[end] != LINE_END {
+    if text[end] != LINE_END {
         return Quick::No;
     }
-    match message_after(k, d, &s[next..end]) {
-        Line::Take(x) => Quick::Is(x, end),
+    match message_after(k, d, &text[next..end]) {
+        Line::Take(step) => Quick::Is(step, end),
         _ => Quick::No,
     }
 }
 
 // K, D or L with short numbers. The letter is looked at first, so that other lines cost little here.
-fn quick_step(s: &[u8], at: usize) -> Quick
-    requires { ⌜ at + 8 ≤ length (now s) ⌝ }
-    ensures { λ r. ⌜ IsQuick r (now (s .entry)) at ⌝ }
+fn quick_step(text: &[u8], at: usize) -> Quick
+    requires { ⌜ at + 8 ≤ length (now text) ⌝ }
+    ensures { λ r. ⌜ IsQuick r (now (text .entry)) at ⌝ }
 {
-    if s[at + 1] != b' ' {
+    if text[at + 1] != b' ' {
         return Quick::No;
     }
-    let letter = s[at];
+    let letter = text[at];
     if letter != b'K' && letter != b'D' && letter != b'L' {
         return Quick::No;
     }
-    let First::Is(x, next) = short_at(s, at + 2, b' ') else {
+    let First::Is(first, next) = short_at(text, at + 2, b' ') else {
         return Quick::No;
     };
     if letter == b'L' {
-        return quick_lie(s, x, next);
+        return quick_lie(text, first, next);
     }
-    let First::Is(y, last) = short_at(s, next, LINE_END) else {
+    let First::Is(second, last) = short_at(text, next, LINE_END) else {
         return Quick::No;
     };
     let end = last - 1;
     if letter == b'K' {
-        Quick::Is(Step::K(x, y), end)
+        Quick::Is(Step::K(first, second), end)
     } else {
-        Quick::Is(Step::D(x, y), end)
+        Quick::Is(Step::D(first, second), end)
     }
 }
 
 // What stands in a text from a place on: where that line ends, or the text does, and what it says.
-pub fn next(s: &[u8], at: usize) -> Found
-    ensures { λ r. ⌜ r ≡ foundAt (now (s .entry)) at ⌝ }
+pub fn next(text: &[u8], at: usize) -> Found
+    ensures { λ r. ⌜ r ≡ foundAt (now (text .entry)) at ⌝ }
 {
-    if s.len() <= at {
+    if text.len() <= at {
         return Found {
             end: at,
             line: Line::Unread,
         };
     }
-    if QUICK <= s.len() - at {
-        if let Quick::Is(x, end) = quick_step(s, at) {
+    if QUICK <= text.len() - at {
+        if let Quick::Is(step, end) = quick_step(text, at) {
             return Found {
                 end: end,
-                line: Line::Take(x),
+                line: Line::Take(step),
             };
         }
     }
-    let end = at + place_of(LINE_END, &s[at..]);
+    let end = at + place_of(LINE_END, &text[at..]);
     Found {
         end: end,
-        line: parse(&s[at..end]),
+        line: parse(&text[at..end]),
     }
 }

@@ -5,10 +5,8 @@ ghost use mathlib.Core.Bool.{cond};
 ghost use lib.ListN.{length};
 ghost use Rattle.script.specs.Numbers.{isDigit, isHexDigit, hexValue, numberIn, hexIn};
 ghost use Rattle.script.specs.Grammar.{isMark, marksIn, lineOf, argumentsOf};
-ghost use Rattle.script.specs.Grammar.{entryAfter, clientAfter, serverAfter, messageAfter};
-ghost use Rattle.script.specs.Grammar.{lieAfter, marksAfter, setupAfter};
-ghost use Rattle.script.specs.Grammar.{readLine, stopLine, writeLine, serveLine, takeLine, lieLine, setupLine};
-ghost use Rattle.script.specs.Grammar.{numberIs, hexIs, Cut};
+ghost use Rattle.script.specs.Grammar.{numberAfter, entryAfter, messageAfter, marksAfter};
+ghost use Rattle.script.specs.Grammar.{leadingOf, lastOf, numberIs, hexIs, Cut};
 use crate::lines::place_of;
 use message::Entry;
 use message::Words;
@@ -38,278 +36,222 @@ pub enum First {
     No,
 }
 
-pub fn is_digit(b: u8) -> bool
-    ensures { λ r. ⌜ r ≡ isDigit b ⌝ }
+pub fn is_digit(byte: u8) -> bool
+    ensures { λ r. ⌜ r ≡ isDigit byte ⌝ }
 {
-    b'0' <= b && b <= b'9'
+    b'0' <= byte && byte <= b'9'
 }
 
-fn is_mark(b: u8) -> bool
-    ensures { λ r. ⌜ r ≡ isMark b ⌝ }
+fn is_mark(byte: u8) -> bool
+    ensures { λ r. ⌜ r ≡ isMark byte ⌝ }
 {
-    b == 48 || b == 49
+    byte == b'0' || byte == b'1'
 }
 
 // The value of a hexadecimal digit, or 16.
-fn hex_digit(b: u8) -> u64
-    ensures { λ r. ⌜ r ≡ cond (isHexDigit b) (hexValue b) 16 ⌝ }
+fn hex_digit(byte: u8) -> u64
+    ensures { λ r. ⌜ r ≡ cond (isHexDigit byte) (hexValue byte) 16 ⌝ }
 {
-    if 48 <= b && b <= 57 {
-        (b - 48) as u64
-    } else if 65 <= b && b <= 70 {
-        (b - 55) as u64
+    if b'0' <= byte && byte <= b'9' {
+        (byte - b'0') as u64
+    } else if b'A' <= byte && byte <= b'F' {
+        (byte - 55) as u64
     } else {
         16
     }
 }
 
 // A number of 1 to 7 digits.
-fn number_in(s: &[u8]) -> Number
-    ensures { λ r. ⌜ numberIs r ≡ numberIn (now (s .entry)) ⌝ }
+fn number_in(text: &[u8]) -> Number
+    ensures { λ r. ⌜ numberIs r ≡ numberIn (now (text .entry)) ⌝ }
 {
-    if s.len() < 1 {
+    if text.len() < 1 {
         return Number::No;
     }
-    if 7 < s.len() {
+    if 7 < text.len() {
         return Number::No;
     }
-    let mut v: u32 = 0;
+    let mut value: u32 = 0;
     let mut i = 0;
-    while i < s.len() {
-        let b = s[i];
-        if !is_digit(b) {
+    while i < text.len() {
+        let byte = text[i];
+        if !is_digit(byte) {
             return Number::No;
         }
-        v = v * 10 + (b - 48) as u32;
+        value = value * 10 + (byte - b'0') as u32;
         i += 1;
     }
-    Number::Is(v)
+    Number::Is(value)
 }
 
-// A number of as many hexadecimal digits as the text has, at most 16. Which digit comes next cannot be foreseen, so no byte ends
-// the loop: `bad` stays below 16 where each is a digit.
-fn hex_in(s: &[u8]) -> Hex
-    requires { ⌜ length (now s) ≤ 16 ⌝ }
-    ensures { λ r. ⌜ hexIs r ≡ hexIn (length (now (s .entry))) (now (s .entry)) ⌝ }
+// A number of as many hexadecimal digits as the text has, at most 16. Which digit comes next cannot be
+// foreseen, so no byte ends the loop: `bad` stays below 16 where each is a digit.
+fn hex_in(text: &[u8]) -> Hex
+    requires { ⌜ length (now text) ≤ 16 ⌝ }
+    ensures { λ r. ⌜ hexIs r ≡ hexIn (length (now (text .entry))) (now (text .entry)) ⌝ }
 {
-    let mut v: u64 = 0;
+    let mut value: u64 = 0;
     let mut bad: u64 = 0;
     let mut i = 0;
-    while i < s.len() {
-        let d = hex_digit(s[i]);
-        bad = bad | d;
-        v = v * 16 + d % 16;
+    while i < text.len() {
+        let digit = hex_digit(text[i]);
+        bad = bad | digit;
+        value = value * 16 + digit % 16;
         i += 1;
     }
-    if bad < 16 { Hex::Is(v) } else { Hex::No }
+    if bad < 16 { Hex::Is(value) } else { Hex::No }
 }
 
 // Marks: server k's is bit k - 1.
-fn marks_in(s: &[u8]) -> Number
-    ensures { λ r. ⌜ numberIs r ≡ marksIn (now (s .entry)) ⌝ }
+fn marks_in(text: &[u8]) -> Number
+    ensures { λ r. ⌜ numberIs r ≡ marksIn (now (text .entry)) ⌝ }
 {
-    if s.len() < 1 {
+    if text.len() < 1 {
         return Number::No;
     }
-    if 13 < s.len() {
+    if 13 < text.len() {
         return Number::No;
     }
-    let mut v: u32 = 0;
-    let mut i = s.len();
+    let mut value: u32 = 0;
+    let mut i = text.len();
     while 0 < i {
         i -= 1;
-        let b = s[i];
-        if !is_mark(b) {
+        let byte = text[i];
+        if !is_mark(byte) {
             return Number::No;
         }
-        v = (b - 48) as u32 + 2 * v;
+        value = (byte - b'0') as u32 + 2 * value;
     }
-    Number::Is(v)
+    Number::Is(value)
 }
 
 // A number and a blank at the start of a text.
-fn first_number(s: &[u8]) -> First
-    ensures { λ r. ⌜ Cut r (now (s .entry)) ⌝ }
+fn first_number(text: &[u8]) -> First
+    ensures { λ r. ⌜ Cut r (now (text .entry)) ⌝ }
 {
-    let e = place_of(b' ', s);
-    if s.len() <= e {
+    let end = place_of(b' ', text);
+    if text.len() <= end {
         return First::No;
     }
-    match number_in(&s[..e]) {
-        Number::Is(v) => First::Is(v, e + 1),
+    match number_in(&text[..end]) {
+        Number::Is(value) => First::Is(value, end + 1),
         Number::No => First::No,
     }
 }
 
-fn read_line(s: &[u8]) -> Line
-    ensures { λ r. ⌜ r ≡ readLine (now (s .entry)) ⌝ }
+// A line that ends with a number, behind earlier if there is a number before it.
+fn number_after(letter: u8, earlier: u32, text: &[u8]) -> Line
+    ensures { λ r. ⌜ r ≡ numberAfter letter earlier (now (text .entry)) ⌝ }
 {
-    match number_in(s) {
-        Number::Is(d) => Line::Take(Step::R(d)),
-        Number::No => Line::Unread,
-    }
-}
-
-fn stop_line(s: &[u8]) -> Line
-    ensures { λ r. ⌜ r ≡ stopLine (now (s .entry)) ⌝ }
-{
-    match number_in(s) {
-        Number::Is(d) => Line::Take(Step::C(d)),
-        Number::No => Line::Unread,
+    let Number::Is(value) = number_in(text) else {
+        return Line::Unread;
+    };
+    match letter {
+        b'R' => Line::Take(Step::R(value)),
+        b'C' => Line::Take(Step::C(value)),
+        b'K' => Line::Take(Step::K(earlier, value)),
+        b'D' => Line::Take(Step::D(earlier, value)),
+        _ => Line::Unread,
     }
 }
 
 // An entry behind a client.
-fn entry_after(d: u32, s: &[u8]) -> Line
-    ensures { λ r. ⌜ r ≡ entryAfter d (now (s .entry)) ⌝ }
+fn entry_after(d: u32, text: &[u8]) -> Line
+    ensures { λ r. ⌜ r ≡ entryAfter d (now (text .entry)) ⌝ }
 {
-    if s.len() != 10 {
+    if text.len() != 10 {
         return Line::Unread;
     }
-    match hex_in(s) {
-        Hex::Is(e) => Line::Take(Step::W(d, Entry(e))),
+    match hex_in(text) {
+        Hex::Is(value) => Line::Take(Step::W(d, Entry(value))),
         Hex::No => Line::Unread,
     }
 }
 
-fn write_line(s: &[u8]) -> Line
-    ensures { λ r. ⌜ r ≡ writeLine (now (s .entry)) ⌝ }
-{
-    let First::Is(d, at) = first_number(s) else {
-        return Line::Unread;
-    };
-    entry_after(d, &s[at..])
-}
-
-// A client behind a server, and a server behind a client.
-fn client_after(k: u32, s: &[u8]) -> Line
-    ensures { λ r. ⌜ r ≡ clientAfter k (now (s .entry)) ⌝ }
-{
-    match number_in(s) {
-        Number::Is(d) => Line::Take(Step::K(k, d)),
-        Number::No => Line::Unread,
-    }
-}
-
-fn server_after(d: u32, s: &[u8]) -> Line
-    ensures { λ r. ⌜ r ≡ serverAfter d (now (s .entry)) ⌝ }
-{
-    match number_in(s) {
-        Number::Is(k) => Line::Take(Step::D(d, k)),
-        Number::No => Line::Unread,
-    }
-}
-
-fn serve_line(s: &[u8]) -> Line
-    ensures { λ r. ⌜ r ≡ serveLine (now (s .entry)) ⌝ }
-{
-    let First::Is(k, at) = first_number(s) else {
-        return Line::Unread;
-    };
-    client_after(k, &s[at..])
-}
-
-fn take_line(s: &[u8]) -> Line
-    ensures { λ r. ⌜ r ≡ takeLine (now (s .entry)) ⌝ }
-{
-    let First::Is(d, at) = first_number(s) else {
-        return Line::Unread;
-    };
-    server_after(d, &s[at..])
-}
-
 // A message behind a server and a client. Its first 6 digits are the high 24 bits, the other 16 the low 64.
-pub fn message_after(k: u32, d: u32, s: &[u8]) -> Line
-    ensures { λ r. ⌜ r ≡ messageAfter k d (now (s .entry)) ⌝ }
+pub fn message_after(k: u32, d: u32, text: &[u8]) -> Line
+    ensures { λ r. ⌜ r ≡ messageAfter k d (now (text .entry)) ⌝ }
 {
-    if s.len() != 22 {
+    if text.len() != 22 {
         return Line::Unread;
     }
-    let Hex::Is(high) = hex_in(&s[..6]) else {
+    let Hex::Is(high) = hex_in(&text[..6]) else {
         return Line::Unread;
     };
-    let Hex::Is(low) = hex_in(&s[6..]) else {
+    let Hex::Is(low) = hex_in(&text[6..]) else {
         return Line::Unread;
     };
     Line::Take(Step::L(k, d, Words((high % 0x1_0000_0000) as u32, low)))
 }
 
-// A client and a message behind a server.
-fn lie_after(k: u32, s: &[u8]) -> Line
-    ensures { λ r. ⌜ r ≡ lieAfter k (now (s .entry)) ⌝ }
-{
-    let First::Is(d, at) = first_number(s) else {
-        return Line::Unread;
-    };
-    message_after(k, d, &s[at..])
-}
-
-fn lie_line(s: &[u8]) -> Line
-    ensures { λ r. ⌜ r ≡ lieLine (now (s .entry)) ⌝ }
-{
-    let First::Is(k, at) = first_number(s) else {
-        return Line::Unread;
-    };
-    lie_after(k, &s[at..])
-}
-
 // Marks behind f and the number of clients.
-fn marks_after(f: u32, clients: u32, s: &[u8]) -> Line
-    ensures { λ r. ⌜ r ≡ marksAfter f clients (now (s .entry)) ⌝ }
+fn marks_after(f: u32, clients: u32, text: &[u8]) -> Line
+    ensures { λ r. ⌜ r ≡ marksAfter f clients (now (text .entry)) ⌝ }
 {
-    match marks_in(s) {
-        Number::Is(m) => Line::Setup(f, clients, m),
+    match marks_in(text) {
+        Number::Is(marks) => Line::Setup(f, clients, marks),
         Number::No => Line::Unread,
     }
 }
 
-// The number of clients and marks behind f.
-fn setup_after(f: u32, s: &[u8]) -> Line
-    ensures { λ r. ⌜ r ≡ setupAfter f (now (s .entry)) ⌝ }
+// How many numbers stand before the last argument of a line.
+fn leading(letter: u8) -> usize
+    ensures { λ r. ⌜ r ≡ leadingOf letter ⌝ }
 {
-    let First::Is(clients, at) = first_number(s) else {
-        return Line::Unread;
-    };
-    marks_after(f, clients, &s[at..])
+    match letter {
+        b'S' => 2,
+        b'L' => 2,
+        b'W' => 1,
+        b'K' => 1,
+        b'D' => 1,
+        _ => 0,
+    }
 }
 
-fn setup_line(s: &[u8]) -> Line
-    ensures { λ r. ⌜ r ≡ setupLine (now (s .entry)) ⌝ }
+// The line of a letter, the last two numbers before the last argument, and that argument.
+fn last_argument(letter: u8, earlier: u32, later: u32, text: &[u8]) -> Line
+    ensures { λ r. ⌜ r ≡ lastOf letter earlier later (now (text .entry)) ⌝ }
 {
-    let First::Is(f, at) = first_number(s) else {
-        return Line::Unread;
-    };
-    setup_after(f, &s[at..])
+    match letter {
+        b'S' => marks_after(earlier, later, text),
+        b'L' => message_after(earlier, later, text),
+        b'W' => entry_after(later, text),
+        _ => number_after(letter, later, text),
+    }
 }
 
 // The line of a letter and what stands behind its blank.
-fn arguments(letter: u8, s: &[u8]) -> Line
-    ensures { λ r. ⌜ r ≡ argumentsOf letter (now (s .entry)) ⌝ }
+fn arguments(letter: u8, text: &[u8]) -> Line
+    ensures { λ r. ⌜ r ≡ argumentsOf letter (now (text .entry)) ⌝ }
 {
-    match letter {
-        b'R' => read_line(s),
-        b'C' => stop_line(s),
-        b'W' => write_line(s),
-        b'K' => serve_line(s),
-        b'D' => take_line(s),
-        b'L' => lie_line(s),
-        b'S' => setup_line(s),
-        _ => Line::Unread,
+    let mut left = leading(letter);
+    let mut earlier = 0;
+    let mut later = 0;
+    let mut at = 0;
+    while 0 < left {
+        let First::Is(value, next) = first_number(&text[at..]) else {
+            return Line::Unread;
+        };
+        earlier = later;
+        later = value;
+        at += next;
+        left -= 1;
     }
+    last_argument(letter, earlier, later, &text[at..])
 }
 
 // What a line says.
-pub fn parse(s: &[u8]) -> Line
-    ensures { λ r. ⌜ r ≡ lineOf (now (s .entry)) ⌝ }
+pub fn parse(text: &[u8]) -> Line
+    ensures { λ r. ⌜ r ≡ lineOf (now (text .entry)) ⌝ }
 {
-    if s.len() < 3 {
+    if text.len() < 3 {
         return Line::Unread;
     }
-    if 64 < s.len() {
+    if 64 < text.len() {
         return Line::Unread;
     }
-    if s[1] != b' ' {
+    if text[1] != b' ' {
         return Line::Unread;
     }
-    arguments(s[0], &s[2..])
+    arguments(text[0], &text[2..])
 }

@@ -1,8 +1,9 @@
 -- What a user of a server may rely on.
 --
--- A taken message makes it the model's next server (`view-after`) and sends what the model's does (`sends-are`). Whatever bytes
--- come from whomever, sound memory stays sound (`sound-kept`) and the timestamp in it never falls (`stamp-kept`): a refusal leaves
--- it as it was, what is stored is sound, and WRITE_INFO replaces the pair only by one of a higher timestamp.
+-- A taken message makes it the model's next server (`view-after`); what it sends is in the contract itself.
+-- Whatever bytes come from whomever, sound memory stays sound (`sound-kept`) and the timestamp in it never
+-- falls (`stamp-kept`): a refusal leaves it as it was, what is stored is sound, and WRITE_INFO replaces the
+-- pair only by one of a higher timestamp.
 -- Assumes nothing.
 use mathlib.Core.Path.{_≡_, refl, ap, _∙_}
 use mathlib.Core.Bool.{true}
@@ -17,17 +18,18 @@ use Rattle.message.specs.declared.Message.{Message}
 use Rattle.message.specs.declared.Message.the-variants.{GetInfo, Info, Done, WriteInfo, Fwd, WriteAck}
 use Rattle.message.specs.declared.Pair.{Pair}
 use Rattle.message.specs.declared.Unpacked.{Unpacked}
-use Rattle.message.specs.declared.Unpacked.the-variants.{Good, Bad}
+use Rattle.message.specs.declared.Unpacked.the-variants.{Good, Refused}
 use Rattle.message.specs.Layout.{unpackOf}
 use Rattle.message.specs.Pair.{stamp}
 use Rattle.register.specs.Server as model
-use Rattle.register.specs.Server.{newServer, stored, serverAfter, serverSends}
+use Rattle.register.specs.Server.{newServer, stored, serverAfter}
 use Rattle.server.specs.declared.Served.{Served}
 use Rattle.server.specs.declared.Server.{Server}
 use Rattle.server.specs.State as state
 use Rattle.server.specs.State.{sound}
 use Rattle.server.specs.Memory.{loaded, numbersOf, view, store, isSound}
-use Rattle.server.specs.Taking.{sentBy, sendsOf, servedOf, servedIn, isRequest, messages, became, takenOf}
+use Rattle.server.specs.Taking.{sentBy, After, afterOf, servedOf, servedIn, isRequest, messages}
+use Rattle.server.specs.Taking.{became, takenOf}
 use Rattle.server.proofs.Memory.{store-sound, view-store}
 use Rattle.server.proofs.Views as views
 use Rattle.server.proofs.Views.{after-formed, new-formed}
@@ -38,31 +40,23 @@ use Rattle.server.proofs.Outcomes.{unsound, no-process-low, no-process-
 pub view-after : (s : Server) (d : ℕ) (m : Message) → sound s ≡ true → 1 ≤ d → d ≤ 6
     → state.view (servedOf s d m .server) ≡ serverAfter (state.view s) d m
 view-after s d m h low top =
-    views.view-store (serverAfter (state.view s) d m) (after-formed (state.view s) d m (views.view-formed s h) low top)
-
-pub sends-are : (s : Server) (d : ℕ) (m : Message) → sentBy d (sendsOf s m) ≡ serverSends (state.view s) d m
-unfolding sentBy sendsOf serverSends state.view
-sends-are s d (GetInfo n) = refl
-sends-are s d Done = refl
-sends-are s d (WriteInfo p) = refl
-sends-are s d (Info n p) = refl
-sends-are s d (Fwd p) = refl
-sends-are s d (WriteAck c) = refl
+    views.view-store (serverAfter (state.view s) d m)
+    (after-formed (state.view s) d m (views.view-formed s h) low top)
 
 -- the same in memory, where r is taken by value and n are the numbers stored
-pub served-in : (m : List ℕ) (d : ℕ) (x : Message) (r : Served) (n : List ℕ) → r ≡ servedOf (loaded m) d x
+pub served-in : (m : List ℕ) (d : ℕ) (x : Message) (r : Served) (n : List ℕ)
+    → afterOf d r ≡ servedOf (loaded m) d x
     → n ≡ numbersOf (r .server) → became (messages (r .sends) (sentBy d (r .sends))) n ≡ servedIn m d x
 unfolding view store
 served-in m d x r n e f =
-    let sent : sentBy d (r .sends) ≡ serverSends (view m) d x =
-    ap (λ (q : Served). sentBy d (q .sends)) e ∙ sends-are (loaded m) d x in
-    let next = f ∙ ap (λ (q : Served). numbersOf (q .server)) e in
-    λ i. record { result = messages (e i .sends) (sent i); memory = next i }
+    let next = f ∙ ap (λ (q : After). numbersOf (q .server)) e in
+    λ i. record { result = messages (e i .answer) (e i .sends); memory = next i }
 
 stored-stamp : (old new : Pair) → stamp old ≤ stamp (stored old new)
 unfolding stored
 stored-stamp old new =
-    by-test (ltb (stamp old) (stamp new)) (λ e. rw e (let l = ltb-true (stamp old) (stamp new) e in omega arith))
+    by-test (ltb (stamp old) (stamp new))
+    (λ e. rw e (let l = ltb-true (stamp old) (stamp new) e in omega arith))
     (λ e. rw e (le-refl (stamp old)))
 
 pub after-stamp : (s : model.Server) (d : ℕ) (m : Message) → stamp (s .pair) ≤ stamp (serverAfter s d m .pair)
@@ -79,9 +73,10 @@ after-stamp s d (WriteAck c) = le-refl (stamp (s .pair))
 -- what holds of memory before and after each message holds after any bytes
 module _ (P : List ℕ → Type 0) (m : List ℕ) (d : ℕ) (bytes : List ℕ) (same : P m)
     (next : (x : Message) → P (store (serverAfter (view m) d x))) where
-  by-message : isSound m ≡ true → 1 ≤ d → d ≤ 6 → (u : Unpacked) → unpackOf bytes ≡ u → P (takenOf m d bytes .memory)
+  by-message : isSound m ≡ true → 1 ≤ d → d ≤ 6 → (u : Unpacked) → unpackOf bytes ≡ u
+      → P (takenOf m d bytes .memory)
   unfolding isRequest
-  by-message h low top Bad e = rw (malformed m d bytes h low top (ap isRequest e)) same
+  by-message h low top (Refused r) e = rw (malformed m d bytes h low top (ap isRequest e)) same
   by-message h low top (Good x) e =
       by-test (isRequest (Good x)) (λ good. rw (taken m d bytes h low top x e good) (next x))
       (λ bad. rw (malformed m d bytes h low top (ap isRequest e ∙ bad)) same)
@@ -96,7 +91,8 @@ module _ (P : List ℕ → Type 0) (m : List ℕ) (d : ℕ) (bytes : List ℕ) (
       (λ no. rw (no-process-low m d bytes h (leb-false 1 d no)) same))
       (λ no. rw (unsound m d bytes no) same)
 
-pub sound-kept : (m : List ℕ) (d : ℕ) (bytes : List ℕ) → isSound m ≡ true → isSound (takenOf m d bytes .memory) ≡ true
+pub sound-kept : (m : List ℕ) (d : ℕ) (bytes : List ℕ) → isSound m ≡ true
+    → isSound (takenOf m d bytes .memory) ≡ true
 sound-kept m d bytes h =
     by-outcome (λ n. isSound n ≡ true) m d bytes h (λ x. store-sound (serverAfter (view m) d x))
 

@@ -1,9 +1,10 @@
--- Servers in lent memory and servers of the model are the same thing, where memory is sound and the model has no reader but
--- clients 1 to 6: `view-store`, `store-view`.
+-- Servers in lent memory and servers of the model are the same thing, where memory is sound and the model has
+-- no reader but clients 1 to 6: `view-store`, `store-view`.
 --
--- Why: a list of two numbers is its two numbers, and readers below 2 ^ 8 are their own low byte, so that loading and taking the
--- numbers undo each other (`loaded-numbers`, `numbers-loaded`); the rest is the same fact of servers by value (`Views`).
--- What is stored is sound (`store-sound`), and what is loaded from sound memory is sound (`loaded-sound`).
+-- Why: a list of two numbers is its two numbers, and readers below 2 ^ 8 are their own low byte, so that
+-- loading and taking the numbers undo each other (`loaded-numbers`, `numbers-loaded`); the rest is the same
+-- fact of servers by value (`Views`). What is stored is sound (`store-sound`), and what is loaded from sound
+-- memory is sound (`loaded-sound`).
 -- Assumes nothing.
 use mathlib.Core.Path.{_≡_, refl, sym, ap}
 use mathlib.Core.Bool.{true}

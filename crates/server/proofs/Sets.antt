@@ -1,9 +1,8 @@
 -- Sets of clients as bits: reading them back, adding one, removing one.
 --
--- A set below 2 ^ k is the sum of its bits (`set-back`): its remainder by 2 ^ (k + 1) is its bit k above its remainder by 2 ^ k.
--- That the code's `|` and `&` add and remove a client is tested at all 64 sets and 6 clients by one computation (`adds`,
--- `removes`).
--- A bit of the set of a test is the test's answer (`set-of`).
+-- A set below 2 ^ k is the sum of its bits (`set-back`): its remainder by 2 ^ (k + 1) is its bit k above its
+-- remainder by 2 ^ k. That the code's `|` and `&` add and remove a client is tested at all 64 sets and 6
+-- clients by one computation (`adds`, `removes`). A bit of the set of a test is the test's answer (`set-of`).
 -- Assumes nothing.
 use mathlib.Core.Path.{_≡_, refl, ap, _∙_}
 use mathlib.Core.Bool.{Bool, true, false}
@@ -17,7 +16,7 @@ use lib.Dec.{eqb, ltb}
 use lib.Pow.{pow-pos, pow-add, pow-mono, mod-pow-add, high}
 use mir.Val.{boolByte}
 use borrow.Author.Tests.{eqb-true, eqb-false, ltb-true}
-use Rattle.basics.specs.Tests.{all, allBelow}
+use Rattle.basics.specs.Tests.{allPass, allBelow}
 use Rattle.basics.specs.Update.{update}
 use Rattle.basics.proofs.Cases.{by-test}
 use Rattle.basics.proofs.Tests.{each, below}
@@ -35,7 +34,8 @@ unfolding setOf contains
 rest-back n zero = omega arith
 rest-back n (suc k) =
     let e : suc k ≡ 1 + k = omega arith in
-    rw (rest-back n k, bit-back (n / 2 ^ k % 2) (mod-lt (n / 2 ^ k) (omega arith)), e, mod-pow-add n 1 k) (omega arith)
+    rw (rest-back n k, bit-back (n / 2 ^ k % 2) (mod-lt (n / 2 ^ k) (omega arith)), e, mod-pow-add n 1 k)
+    (omega arith)
 
 pub set-back : (n k : ℕ) → n < 2 ^ k → setOf (contains n) k ≡ n
 set-back n k h = rest-back n k ∙ mod-eq-of-lt h
@@ -54,7 +54,7 @@ tests n i =
     ∷ ltb (bit (suc i)) 64
     ∷ []
 
-all-right : allBelow (λ n. allBelow (λ i. all (tests n i)) 6) 64 ≡ true
+all-right : allBelow (λ n. allBelow (λ i. allPass (tests n i)) 6) 64 ≡ true
 unfolding allBelow tests setOf contains update
 all-right = refl
 
@@ -66,8 +66,8 @@ record Right (n d : ℕ) : Type 0 where
 each-right : (n i : ℕ) → n < 64 → i < 6 → Right n (suc i)
 unfolding tests
 each-right n i small inside =
-    let set = below (λ m. allBelow (λ j. all (tests m j)) 6) 64 all-right n small in
-    let t = each (tests n i) (below (λ j. all (tests n j)) 6 set i inside) in
+    let set = below (λ m. allBelow (λ j. allPass (tests m j)) 6) 64 all-right n small in
+    let t = each (tests n i) (below (λ j. allPass (tests n j)) 6 set i inside) in
     record { added = eqb-true _ _ (t .0); removed = eqb-true _ _ (t .1 .0); low = ltb-true _ _ (t .1 .1 .0) }
 
 module _ (n d : ℕ) (small : n < 64) (low : 1 ≤ d) (top : d ≤ 6) where
@@ -109,9 +109,15 @@ bit-of p (suc k) i h =
     (λ e. let q = eqb-false i k e in
     let j = k - suc i in
     let split : 2 ^ k ≡ 2 ^ j * 2 * 2 ^ i =
-    ap (λ (x : ℕ). 2 ^ x) (parts k i (omega arith)) ∙ pow-add 2 (j + 1) i ∙ ap (λ (x : ℕ). x * 2 ^ i) (pow-add 2 j 1) in
+    ap (λ (x : ℕ). 2 ^ x) (parts k i (omega arith)) ∙ pow-add 2 (j + 1) i
+    ∙ ap (λ (x : ℕ). x * 2 ^ i) (pow-add 2 j 1) in
     let above : b * 2 ^ k ≡ b * 2 ^ j * 2 * 2 ^ i = rw split (simp mul-assoc) in
-    rw (swap, above, mul-add-div-right (pow-pos i) (b * 2 ^ j * 2) m, mul-add-mod-self-right (b * 2 ^ j) 2 (m / 2 ^ i))
+    rw (
+      swap,
+      above,
+      mul-add-div-right (pow-pos i) (b * 2 ^ j * 2) m,
+      mul-add-mod-self-right (b * 2 ^ j) 2 (m / 2 ^ i),
+    )
     (bit-of p k i (omega arith)))
   where
     parts : (k i : ℕ) → i < k → k ≡ k - suc i + 1 + i

@@ -1,8 +1,9 @@
--- Servers in memory and servers of the model are the same thing, where memory is sound and the model has no reader but clients
--- 1 to 6: storing the view of one gives it back (`store-view`), and so does viewing what is stored (`view-store`).
+-- Servers in memory and servers of the model are the same thing, where memory is sound and the model has no
+-- reader but clients 1 to 6: storing the view of one gives it back (`store-view`), and so does viewing what
+-- is stored (`view-store`).
 --
--- What is stored is sound (`store-sound`), what is viewed is formed (`view-formed`), and taking a message keeps a server formed
--- (`after-formed`).
+-- What is stored is sound (`store-sound`), what is viewed is formed (`view-formed`), and taking a message
+-- keeps a server formed (`after-formed`).
 -- Assumes nothing.
 use mathlib.Core.Path.{_≡_, refl, sym, _∙_}
 use mathlib.Core.Bool.{Bool, true, false}
@@ -39,7 +40,8 @@ unfolding contains
 same-readers x f zero = sym (f .none)
 same-readers x f (suc i) =
     by-test (ltb i 6) (λ e. set-of (x .readers) 6 i (ltb-true i 6 e))
-    (λ e. set-above (setOf (x .readers) 6) 6 i (set-lt (x .readers) 6) (ltb-false i 6 e) ∙ sym (f .above i (ltb-false i 6 e)))
+    (λ e. set-above (setOf (x .readers) 6) 6 i (set-lt (x .readers) 6) (ltb-false i 6 e)
+    ∙ sym (f .above i (ltb-false i 6 e)))
 
 pub view-store : (x : model.Server) → Formed x → view (store x) ≡ x
 unfolding store view
@@ -61,12 +63,15 @@ update-formed : (x : model.Server) (d : ℕ) (b : Bool) → Formed x → 1 ≤ d
     → Formed (record { pair = x .pair; readers = update (x .readers) d b })
 update-formed x d b f low top =
     record {
-      none = update-at (λ r. r ≡ false) (x .readers) d 0 b (λ e. absurd (let z : ⊥ = omega arith in z)) (λ e. f .none);
+      none = update-at (λ r. r ≡ false) (x .readers) d 0 b (λ e. absurd (let z : ⊥ = omega arith in z))
+          (λ e. f .none);
       above = λ i more.
-          update-at (λ r. r ≡ false) (x .readers) d (suc i) b (λ e. absurd (let z : ⊥ = omega arith in z)) (λ e. f .above i more);
+          update-at (λ r. r ≡ false) (x .readers) d (suc i) b (λ e. absurd (let z : ⊥ = omega arith in z))
+          (λ e. f .above i more);
     }
 
-pub after-formed : (x : model.Server) (d : ℕ) (m : Message) → Formed x → 1 ≤ d → d ≤ 6 → Formed (serverAfter x d m)
+pub after-formed : (x : model.Server) (d : ℕ) (m : Message) → Formed x → 1 ≤ d → d ≤ 6
+    → Formed (serverAfter x d m)
 unfolding serverAfter
 after-formed x d (GetInfo n) f low top = update-formed x d true f low top
 after-formed x d Done f low top = update-formed x d false f low top

@@ -1,7 +1,7 @@
 -- A server in lent memory: two numbers of 64 bits, the pair and the readers (01, 'Keeper').
 --
--- In order: the places; a server loaded from memory and its numbers; the model's server in memory (`view`), and back (`store`);
--- soundness. The server by value, which lives only inside a step, is in `State`.
+-- In order: the places; a server loaded from memory and its numbers; the model's server in memory (`view`),
+-- and back (`store`); soundness. The server by value, which lives only inside a step, is in `State`.
 -- Assumes nothing.
 use Prim.Native.Nat.{ℕ, _%_, _^_}
 use mathlib.Core.Bool.{Bool, _&&_}
@@ -41,6 +41,7 @@ view m = state.view (loaded m)
 unfoldable pub store : model.Server → List ℕ
 store x = numbersOf (state.store x)
 
--- two numbers, and no reader but clients 1 to 6 (01: 'unused places are zero'); every pair of 64 bits is in range
+-- two numbers, and no reader but clients 1 to 6 (01: 'unused places are zero'); every pair of 64 bits is in
+-- range
 unfoldable pub isSound : List ℕ → Bool
 isSound m = eqb (length m) words && ltb (getD m readersAt 0) (2 ^ mostClients)

@@ -1,7 +1,7 @@
 -- A server by value, inside a step: one pair, and its reading clients as bits of one byte (01, 'Keeper').
 --
--- In order: a set of clients as bits; the server of the model that it is (`view`), and back (`store`); soundness.
--- The model's server, and what it does with a message, are in the register's definitions.
+-- In order: a set of clients as bits; the server of the model that it is (`view`), and back (`store`);
+-- soundness. The model's server, and what it does with a message, are in the register's definitions.
 -- Assumes nothing.
 use Prim.Native.Nat.{ℕ, zero, suc, _+_, _*_, _/_, _%_, _^_}
 use mathlib.Core.Bool.{Bool, false}

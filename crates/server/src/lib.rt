@@ -1,13 +1,15 @@
-// The server (01: the keeper end): one pair and a set of reading clients, and what it answers to each message.
-// It stands in memory that it is lent (specs/Memory). Inside a step it is loaded, goes by value, and is stored again.
+// The server (01: the keeper end): one pair and a set of reading clients, and what it answers to each
+// message. It stands in memory that it is lent (specs/Memory). Inside a step it is loaded, goes by value, and
+// is stored again.
 ghost use mathlib.Core.Path.{_≡_};
 ghost use mathlib.Core.Bool.{true};
-ghost use Prim.Native.Nat.{_≤_};
+ghost use Prim.Native.Nat.{ℕ, _≤_};
 ghost use lib.ListN.{length};
 ghost use Rattle.register.specs.Server.{stored};
 ghost use Rattle.server.specs.Memory.{loaded, numbersOf, isSound};
 ghost use Rattle.server.specs.State.{sound};
-ghost use Rattle.server.specs.Taking.{sentBy, servedOf, servedIn, isRequest, messages, resultOf, became, takenOf};
+ghost use Rattle.server.specs.Taking.{sentBy, afterOf, servedOf, servedIn, isRequest, messages};
+ghost use Rattle.server.specs.Taking.{resultOf, became, takenOf};
 use message::Message;
 use message::Pair;
 use message::ReadNumber;
@@ -20,8 +22,8 @@ pub struct Server {
     pub readers: u8,
 }
 
-// What a server sends for a message of a client. Forward: FWD of the pair to each client of the set, lowest first, and then
-// WRITE_ACK with the pair's counter to the sender.
+// What a server sends for a message of a client. Forward: FWD of the pair to each client of the set, lowest
+// first, and then WRITE_ACK with the pair's counter to the sender.
 pub enum Sends {
     Nothing,
     Info(ReadNumber, Pair),
@@ -82,57 +84,90 @@ fn higher(old: Pair, new: Pair) -> Pair
     if is_later { new } else { old }
 }
 
-// Takes message m of client d.
-pub fn after(s: Server, d: u8, m: Message) -> Served
+// GET_INFO: client d reads now, and gets INFO with its tag and the pair.
+fn added(s: Server, d: u8, n: ReadNumber) -> Served
     requires { ⌜ (sound s ≡ true) × (1 ≤ d) × (d ≤ 6) ⌝ }
-    ensures { λ r. ⌜ r ≡ servedOf s d m ⌝ }
+    ensures { λ r. ⌜ afterOf d r ≡ servedOf s d (Message.GetInfo n) ⌝ }
 {
     let pair = s.pair;
-    let readers = s.readers;
+    let bit: u8 = 1 << (d - 1);
+    Served {
+        server: Server {
+            pair: pair,
+            readers: s.readers | bit,
+        },
+        sends: Sends::Info(n, pair),
+    }
+}
+
+// DONE: client d reads no more.
+fn removed(s: Server, d: u8) -> Served
+    requires { ⌜ (sound s ≡ true) × (1 ≤ d) × (d ≤ 6) ⌝ }
+    ensures { λ r. ⌜ afterOf d r ≡ servedOf s d Message.Done ⌝ }
+{
+    let pair = s.pair;
     let bit: u8 = 1 << (d - 1);
     let others = 63 - bit;
-    match m {
-        Message::GetInfo(n) => Served {
-            server: Server {
-                pair: pair,
-                readers: readers | bit,
-            },
-            sends: Sends::Info(n, pair),
+    Served {
+        server: Server {
+            pair: pair,
+            readers: s.readers & others,
         },
-        Message::Done => Served {
-            server: Server {
-                pair: pair,
-                readers: readers & others,
-            },
-            sends: Sends::Nothing,
+        sends: Sends::Nothing,
+    }
+}
+
+// WRITE_INFO: the pair of the higher timestamp stays, the message's goes to the readers, WRITE_ACK to the
+// sender.
+fn replaced(s: Server, p: Pair) -> Served
+    requires { ⌜ sound s ≡ true ⌝ }
+    ensures { λ r. ⌜ ((d : ℕ) → afterOf d r ≡ servedOf s d (Message.WriteInfo p)) ⌝ }
+{
+    let readers = s.readers;
+    let kept = higher(s.pair, p);
+    Served {
+        server: Server {
+            pair: kept,
+            readers: readers,
         },
-        Message::WriteInfo(p) => {
-            let kept = higher(pair, p);
-            Served {
-                server: Server {
-                    pair: kept,
-                    readers: readers,
-                },
-                sends: Sends::Forward(readers, p),
-            }
-        }
-        _ => Served {
+        sends: Sends::Forward(readers, p),
+    }
+}
+
+// Takes message m of client d. A kind that a server does not take is dropped.
+pub fn after(s: Server, d: u8, m: Message) -> Served
+    requires { ⌜ (sound s ≡ true) × (1 ≤ d) × (d ≤ 6) ⌝ }
+    ensures { λ r. ⌜ afterOf d r ≡ servedOf s d m ⌝ }
+{
+    if let Message::GetInfo(n) = m {
+        return added(s, d, n);
+    }
+    if let Message::Done = m {
+        return removed(s, d);
+    }
+    let Message::WriteInfo(p) = m else {
+        return Served {
             server: s,
             sends: Sends::Nothing,
-        },
-    }
+        };
+    };
+    replaced(s, p)
 }
 
 // Whether a server takes messages of this kind.
 fn is_taken(m: Message) -> bool
     ensures { λ r. ⌜ r ≡ isRequest (Unpacked.Good m) ⌝ }
 {
-    match m {
-        Message::GetInfo(_n) => true,
-        Message::Done => true,
-        Message::WriteInfo(_p) => true,
-        _ => false,
+    if let Message::GetInfo(_) = m {
+        return true;
     }
+    if let Message::Done = m {
+        return true;
+    }
+    let Message::WriteInfo(_) = m else {
+        return false;
+    };
+    true
 }
 
 // Two numbers, and no reader but clients 1 to 6.
@@ -156,10 +191,12 @@ fn serve(d: u8, x: Message, m: &mut [u64]) -> Sends
     sends
 }
 
-// Takes the bytes that sender d sent to the server in memory m. Refuses (3, 4, 9, the lowest first) unsound memory, a sender that
-// is not 1 to 6, and bytes that are no message or one that a server does not take; the memory stays as it was.
+// Takes the bytes that sender d sent to the server in memory m. Refuses (3, 4, 9, the lowest first) unsound
+// memory, a sender that is not 1 to 6, and bytes that are no message or one that a server does not take; the
+// memory stays as it was.
 pub fn take(d: u32, bytes: &[u8], m: &mut [u64]) -> Outcome
-    ensures { λ r. ⌜ became (resultOf d r) (now (m .exit)) ≡ takenOf (now (m .entry)) d (now (bytes .entry)) ⌝ }
+    ensures { λ r. ⌜ became (resultOf d r) (now (m .exit))
+        ≡ takenOf (now (m .entry)) d (now (bytes .entry)) ⌝ }
 {
     if !is_sound(m) {
         return Outcome::Refused(Refusal::Unsound);

@@ -1,5 +1,1 @@
-pub mod Digest
-pub mod Licences
-pub mod Dates
-pub mod Messages
 pub mod Sheets

@@ -16,12 +16,12 @@ use borrow.Author.Tests.{ltb-true, ltb-false, lt-ltb, le-ltb, eqb-true, eqb-fals
 use Rattle.basics.specs.Update.{update}
 use Rattle.basics.proofs.Cases.{by-test}
 use Rattle.message.specs.declared.Message.{Message}
+use Rattle.message.specs.declared.Unpacked.the-variants.{Good}
 use Rattle.message.specs.declared.Words.{Words}
 use Rattle.message.specs.Layout.{messageOf, wellFormed, wordsNumber, wordsOf}
 use Rattle.message.proofs.RoundTrip.{of-words-of}
 use Rattle.channel.specs.Memory.{countAt, putOn, taken, cleared}
 use Rattle.channel.specs.Layout.{Fitting, layout}
-use Rattle.channel.specs.Sound.{messageIn}
 use Rattle.channel.proofs.Laws.{layout-same, layout-count, layout-put, layout-take, layout-clear, layout-oldest}
 use Rattle.register.specs.World.{World}
 use Rattle.state.specs.State.{upIndex, downIndex, channelOf, storeSlots, messageAt}
@@ -209,14 +209,14 @@ module _ (u n : Table) (d k : ℕ) (i : Inside d k) where
 
       -- the oldest read
       message-read : (c : ℕ) → c < 156 → tableAt u n c ≡ m ∷ ms → wellFormed m ≡ true
-          → messageAt (slotsOf u n) c ≡ m
-      unfolding slotsOf messageIn
+          → messageAt (slotsOf u n) c ≡ Good m
+      unfolding slotsOf
       message-read c less e well =
-          ap (λ (x : Words). messageIn (messageOf (wordsNumber x))) (layout-oldest (tableAt u n) fits c less m ms e)
-          ∙ ap messageIn (of-words-of m well)
+          ap (λ (x : Words). messageOf (wordsNumber x)) (layout-oldest (tableAt u n) fits c less m ms e)
+          ∙ of-words-of m well
 
-      pub up-oldest : u d k ≡ m ∷ ms → wellFormed m ≡ true → messageAt (slotsOf u n) up ≡ m
+      pub up-oldest : u d k ≡ m ∷ ms → wellFormed m ≡ true → messageAt (slotsOf u n) up ≡ Good m
       up-oldest e well = message-read up up-inside (up-entry ∙ e) well
 
-      pub down-oldest : n d k ≡ m ∷ ms → wellFormed m ≡ true → messageAt (slotsOf u n) down ≡ m
+      pub down-oldest : n d k ≡ m ∷ ms → wellFormed m ≡ true → messageAt (slotsOf u n) down ≡ Good m
       down-oldest e well = message-read down down-inside (down-entry ∙ e) well

@@ -11,7 +11,7 @@ use Rattle.basics.proofs.Cases.{both-of}
 use Rattle.message.specs.declared.Message.{Message}
 use Rattle.message.specs.declared.Message.the-variants.{GetInfo, Info, Done, WriteInfo, Fwd, WriteAck}
 use Rattle.message.specs.Layout.{wellFormed}
-use Rattle.register.proofs.WellFormed.{FromClient, FromServer}
+use Rattle.register.specs.WellFormed.{FromClient, FromServer}
 
 pub client-message : (m : Message) → FromClient m → wellFormed m ≡ true
 unfolding wellFormed

@@ -3,6 +3,7 @@
 -- Assumes nothing.
 use mathlib.Core.Path.{_≡_, refl}
 use mathlib.Core.Bool.{true}
+use mathlib.Core.Logic.{inl, inr}
 use mathlib.Core.List.{List, [], _∷_, _++_}
 use Prim.Native.Nat.{ℕ, zero, suc, _<_}
 use native.Mathlib.Nat.{lt-trans, not-suc-le-zero}
@@ -10,16 +11,16 @@ use native.Mathlib.Omega.{arith}
 use lib.ListN.{length, getD}
 use borrow.Author.Tests.{ltb-true, lt-ltb}
 use Rattle.basics.proofs.Cases.{both, both-of}
-use Rattle.basics.proofs.Members.{Every, every-of, every-at}
+use Rattle.basics.specs.Members.{Member}
+use Rattle.basics.proofs.Members.{Every}
 use Rattle.message.specs.declared.Pair.{Pair}
-use Rattle.register.proofs.PairSets.{Ordered}
+use Rattle.register.specs.PairSet.{Ordered}
 use Rattle.replies.specs.Sound.{isFirst, isRising}
 
-above-all : (p : Pair) (l : List Pair) → isFirst p l ≡ true → Ordered l → Every (λ y. p .0 < y .0) l
-above-all p [] h o = tt
-above-all p (q ∷ qs) h o =
-    let less : p .0 < q .0 = ltb-true (p .0) (q .0) h in
-    (less, every-of (λ y. p .0 < y .0) qs (λ y m. lt-trans less (every-at (λ z. q .0 < z .0) qs (o .0) y m)))
+above-all : (p : Pair) (l : List Pair) → isFirst p l ≡ true → Ordered l
+    → (y : Pair) → Member y l → p .0 < y .0
+above-all p (q ∷ qs) h o y (inl e) = rw e (ltb-true (p .0) (q .0) h)
+above-all p (q ∷ qs) h o y (inr m) = lt-trans (ltb-true (p .0) (q .0) h) (o .0 y m)
 
 pub rising-ordered : (l : List Pair) → isRising l ≡ true → Ordered l
 unfolding isRising
@@ -29,9 +30,9 @@ rising-ordered (p ∷ ps) h =
     let o = rising-ordered ps (b .1) in
     (above-all p ps (b .0) o, o)
 
-first-of : (p : Pair) (l : List Pair) → Every (λ y. p .0 < y .0) l → isFirst p l ≡ true
+first-of : (p : Pair) (l : List Pair) → ((y : Pair) → Member y l → p .0 < y .0) → isFirst p l ≡ true
 first-of p [] h = refl
-first-of p (q ∷ qs) h = lt-ltb (p .0) (q .0) (h .0)
+first-of p (q ∷ qs) h = lt-ltb (p .0) (q .0) (h q (inl refl))
 
 pub ordered-rising : (l : List Pair) → Ordered l → isRising l ≡ true
 unfolding isRising

@@ -12,7 +12,7 @@ use lib.Dec.{ltb}
 use borrow.Author.Tests.{ltb-true, lt-leb, le-leb}
 use Rattle.basics.specs.Members.{Member}
 use Rattle.basics.specs.Tables.{listed}
-use Rattle.basics.specs.Tests.{all}
+use Rattle.basics.specs.Tests.{allPass}
 use Rattle.basics.proofs.Cases.{both, both-of, true-or-false}
 use Rattle.message.specs.declared.Message.{Message}
 use Rattle.message.specs.declared.Message.the-variants.{GetInfo, Info, Done, WriteInfo, Fwd, WriteAck}
@@ -21,7 +21,7 @@ use Rattle.message.specs.Layout.{wellFormed}
 use Rattle.channel.specs.Memory.{countAt}
 use Rattle.channel.specs.Sound.{goes, isDown, sound, messages}
 use Rattle.channel.proofs.Messages.{suits, messages-fit, messages-suit}
-use Rattle.register.proofs.WellFormed.{FromClient, FromServer, WellChannel}
+use Rattle.register.specs.WellFormed.{FromClient, FromServer, WellChannel}
 use Rattle.state.proofs.Formats.{client-message, server-message}
 
 -- ---- kinds
@@ -66,16 +66,16 @@ server-goes (WriteAck c) h = refl
 
 -- ---- a test of all elements, member by member
 
-all-member : {A : Type 0} (p : A → Bool) (l : List A) → all (map p l) ≡ true → (m : A) → Member m l
+all-member : {A : Type 0} (p : A → Bool) (l : List A) → allPass (map p l) ≡ true → (m : A) → Member m l
     → p m ≡ true
-all-member p (x ∷ xs) h m (inl e) = ap p e ∙ both (p x) (all (map p xs)) h .0
-all-member p (x ∷ xs) h m (inr n) = all-member p xs (both (p x) (all (map p xs)) h .1) m n
+all-member p (x ∷ xs) h m (inl e) = ap p e ∙ both (p x) (allPass (map p xs)) h .0
+all-member p (x ∷ xs) h m (inr n) = all-member p xs (both (p x) (allPass (map p xs)) h .1) m n
 
 member-all : {A : Type 0} (p : A → Bool) (l : List A) → ((m : A) → Member m l → p m ≡ true)
-    → all (map p l) ≡ true
+    → allPass (map p l) ≡ true
 member-all p [] h = refl
 member-all p (x ∷ xs) h =
-    both-of (p x) (all (map p xs)) (h x (inl refl)) (member-all p xs (λ m n. h m (inr n)))
+    both-of (p x) (allPass (map p xs)) (h x (inl refl)) (member-all p xs (λ m n. h m (inr n)))
 
 -- ---- a channel of sound memory
 
@@ -108,13 +108,15 @@ no-messages b i e = rw e
 
 -- ---- messages that are stored
 
-pub suits-up : (i : ℕ) (l : List Message) → i < 78 → WellChannel FromClient l → all (map (suits i) l) ≡ true
+pub suits-up : (i : ℕ) (l : List Message) → i < 78 → WellChannel FromClient l
+    → allPass (map (suits i) l) ≡ true
 suits-up i l low w =
     member-all (suits i) l
     (λ m n. both-of (wellFormed m) (goes (isDown i) (Good m)) (client-message m (w .kinds m n))
     (ap (λ (d : Bool). goes d (Good m)) (lt-leb 78 i low) ∙ client-goes m (w .kinds m n)))
 
-pub suits-down : (i : ℕ) (l : List Message) → 78 ≤ i → WellChannel FromServer l → all (map (suits i) l) ≡ true
+pub suits-down : (i : ℕ) (l : List Message) → 78 ≤ i → WellChannel FromServer l
+    → allPass (map (suits i) l) ≡ true
 suits-down i l high w =
     member-all (suits i) l
     (λ m n. both-of (wellFormed m) (goes (isDown i) (Good m)) (server-message m (w .kinds m n))

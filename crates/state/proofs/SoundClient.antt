@@ -25,7 +25,6 @@ use Rattle.register.specs.declared.Phase.{Phase}
 use Rattle.register.specs.declared.Phase.the-variants.{Idle, Reading, ReadingForWrite, Storing}
 use Rattle.register.specs.Client.{newClient, isReading}
 use Rattle.register.specs.Settings.{isServer}
-use Rattle.register.proofs.WellFormed.{WellPhase, WellSet, WellClient}
 use Rattle.replies.specs.Replies.{noteOf, notedIn, setIn, ackIn}
 use Rattle.replies.proofs.Places.{noted-at, ack-at, size-most, size-below, pair-at}
 use Rattle.replies.proofs.Soundness.{Sound, facts, most}
@@ -35,6 +34,7 @@ use Rattle.client.proofs.Heads.{mod-small}
 use Rattle.client.proofs.Memory.{SoundMemory, memory-facts, store-view}
 use Rattle.state.specs.declared.Settings.{Settings}
 use Rattle.register.specs.Formats.{formats}
+use Rattle.register.specs.WellFormed.{WellPhase, WellSet, WellClient}
 use Rattle.state.specs.State.{settingsOf}
 use Rattle.state.specs.Sound.{isClientSound}
 use Rattle.state.proofs.Ranges.{and-false}

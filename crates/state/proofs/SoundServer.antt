@@ -17,7 +17,7 @@ use borrow.Author.Tests.{eqb-true, eqb-false, eq-eqb, ltb-true, ltb-false, lt-lt
 use Rattle.basics.proofs.Cases.{by-test, both, both-of, true-or-false}
 use Rattle.register.specs.Server as model
 use Rattle.register.specs.Settings.{isClient, isHonest}
-use Rattle.register.proofs.WellFormed.{WellServer}
+use Rattle.register.specs.WellFormed.{WellServer}
 use Rattle.server.specs.State.{contains, setOf}
 use Rattle.server.specs.State as value
 use Rattle.server.specs.Memory.{loaded, numbersOf, view, store, isSound}

@@ -22,7 +22,7 @@ use Rattle.register.specs.declared.Phase.{Phase}
 use Rattle.register.specs.declared.Phase.the-variants.{Idle, Reading, ReadingForWrite, Storing}
 use Rattle.register.specs.Client.{Client}
 use Rattle.register.specs.Formats.{formats}
-use Rattle.register.proofs.WellFormed.{WellPhase}
+use Rattle.register.specs.WellFormed.{WellPhase}
 use Rattle.replies.specs.Replies.{noteOf, noteWord, pairWord, notedIn, setIn, ackIn, held, row, storeReplies}
 use Rattle.replies.proofs.Places.{noted-at, ack-at, size-below, pair-at}
 use Rattle.replies.proofs.Placing.{pair-word}

@@ -23,13 +23,13 @@ use Rattle.register.specs.declared.Phase.{Phase}
 use Rattle.register.specs.declared.Phase.the-variants.{Storing}
 use Rattle.register.specs.Client.{Client, isReading}
 use Rattle.register.specs.Settings.{isServer}
-use Rattle.register.proofs.WellFormed.{WellSet, WellClient}
 use Rattle.replies.specs.Replies.{noteWord, pairWord, row, storeReplies}
 use Rattle.replies.proofs.Placing.{pair-word}
 use Rattle.replies.proofs.Soundness.{Sound}
 use Rattle.client.specs.Sound.{stores}
 use Rattle.state.specs.declared.Settings.{Settings}
 use Rattle.register.specs.Formats.{formats}
+use Rattle.register.specs.WellFormed.{WellSet, WellClient}
 use Rattle.state.specs.State.{settingsOf}
 use Rattle.state.proofs.Orders.{ordered-rising, place-every, every-join}
 use Rattle.state.proofs.Tested.{server-place}

@@ -1,29 +1,24 @@
 -- Sets of clients and servers are found again in what is stored of them.
 --
--- A set of clients 1 to 6 is its bits (`set-is`), so the stopped clients are, and a server's readers. What a step loads of a stored
--- server (`loaded-is`) then sends what the server sends (`sends-is`).
+-- A set of clients 1 to 6 is its bits (`set-is`), so the stopped clients are, and a server's readers: a stored server is shown again
+-- by its memory (`server-is`).
 -- Assumes nothing.
 use mathlib.Core.Path.{_≡_, refl, sym, ap, fun-ext, _∙_}
 use mathlib.Core.Bool.{Bool, false}
-use mathlib.Core.List.{[], _∷_, _++_}
 use Prim.Native.Nat.{ℕ, zero, suc, _≤_}
 use native.Mathlib.Omega.{arith}
 use lib.Dec.{ltb}
 use borrow.Author.Tests.{ltb-true, ltb-false}
 use Rattle.basics.proofs.Cases.{by-test, true-or-false}
-use Rattle.message.specs.declared.Message.{Message}
-use Rattle.message.specs.declared.Message.the-variants.{GetInfo, Info, Done, WriteInfo, Fwd, WriteAck}
-use Rattle.message.specs.Pair.{counter}
-use Rattle.register.specs.Server.{Server, sent, forwards, serverSends}
+use Rattle.register.specs.Server.{Server}
 use Rattle.register.specs.Settings.{Settings, Accepted, isClient}
 use Rattle.register.specs.Steps.{Formats}
 use Rattle.register.specs.World.{World}
+use Rattle.register.specs.WellFormed.{WellServer, WellFormed}
 use Rattle.register.proofs.Bounds.{client-small}
-use Rattle.register.proofs.WellFormed.{WellServer, WellFormed}
 use Rattle.server.specs.State.{contains, setOf}
 use Rattle.server.specs.State as value
 use Rattle.server.specs.Memory.{loaded, view, store}
-use Rattle.server.specs.Taking.{sentBy, sendsOf}
 use Rattle.server.proofs.Sets.{set-lt, set-of, set-above}
 use Rattle.server.proofs.Memory.{loaded-numbers}
 use Rattle.state.specs.State.{isOf, storeStopped}
@@ -65,13 +60,3 @@ module _ (S : Settings) (accepted : Accepted S) where
     pub server-is : view (store s) ≡ s
     unfolding view value.view value.store
     server-is = ap value.view (loaded-is s) ∙ (λ i. record { pair = s .pair; readers = readers-is i })
-
-    pub sends-is : (d : ℕ) (m : Message) → sentBy d (sendsOf (value.store s) m) ≡ serverSends s d m
-    unfolding sentBy sendsOf value.store serverSends
-    sends-is d (GetInfo t) = refl
-    sends-is d Done = refl
-    sends-is d (WriteInfo p) =
-        ap (λ (f : ℕ → Bool). forwards f p 6 ++ sent d (WriteAck (counter p)) ∷ []) readers-is
-    sends-is d (Info t p) = refl
-    sends-is d (Fwd p) = refl
-    sends-is d (WriteAck c) = refl

@@ -10,11 +10,11 @@ use Prim.Native.Nat.{ℕ, suc, _-_, _/_, _%_, _≤_, _<_}
 use lib.Dec.{ltb}
 use lib.ListN.{length}
 use borrow.Author.Tests.{ltb-true, ltb-false}
-use Rattle.basics.specs.Tests.{all}
+use Rattle.basics.specs.Tests.{allPass}
 use Rattle.register.specs.Settings.{Settings}
 use Rattle.register.specs.Steps.{Formats}
 use Rattle.register.specs.World.{World}
-use Rattle.register.proofs.WellFormed.{WellFormed}
+use Rattle.register.specs.WellFormed.{WellFormed}
 use Rattle.channel.specs.Layout.{Fitting}
 use Rattle.channel.specs.Sound.{sound, messages}
 use Rattle.channel.proofs.Laws.{layout-length}
@@ -34,7 +34,7 @@ module _ (S : Settings) (F : Formats) (w : World) (well : WellFormed S F w) wher
   suit : Suiting (channelOf w)
   unfolding channelOf
   suit c less =
-      pick (λ l. all (map (suits c) l) ≡ true) (ltb c 78) (w .up (suc (c / 13)) (suc (c % 13)))
+      pick (λ l. allPass (map (suits c) l) ≡ true) (ltb c 78) (w .up (suc (c / 13)) (suc (c % 13)))
       (w .down (suc ((c - 78) / 13)) (suc ((c - 78) % 13)))
       (λ e. suits-up c _ (ltb-true c 78 e) (well .up _ _))
       (λ e. suits-down c _ (ltb-false c 78 e) (well .down _ _))

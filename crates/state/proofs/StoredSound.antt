@@ -22,8 +22,8 @@ use Rattle.register.specs.Formats.{formats}
 use Rattle.register.specs.Settings as register
 use Rattle.register.specs.Settings.{isClient, isServer, isHonest}
 use Rattle.register.specs.World.{World}
+use Rattle.register.specs.WellFormed.{WellPhase, WellFormed}
 use Rattle.register.proofs.Bounds.{Bounds, bounds}
-use Rattle.register.proofs.WellFormed.{WellPhase, WellFormed}
 use Rattle.channel.specs.Memory.{countAt}
 use Rattle.server.specs.State.{setOf}
 use Rattle.server.proofs.Sets.{set-lt}

@@ -12,7 +12,7 @@ use lib.Dec.{ltb}
 use lib.ListN.{getD}
 use lib.Pow.{pow-mono}
 use borrow.Author.Tests.{le-leb}
-use Rattle.basics.specs.Tests.{all}
+use Rattle.basics.specs.Tests.{allPass}
 use Rattle.basics.proofs.Cases.{both, true-or-false}
 use Rattle.channel.proofs.Passing.{and-true}
 use Rattle.refusal.specs.declared.Refusal.{Refusal}
@@ -55,12 +55,12 @@ few-clients t h =
 -- ---- lists of tests
 
 -- one that fails
-pub one-false : (bs : List Bool) (k : ℕ) → getD bs k true ≡ false → all bs ≡ false
+pub one-false : (bs : List Bool) (k : ℕ) → getD bs k true ≡ false → allPass bs ≡ false
 one-false [] k e = absurd (true-or-false true refl e)
 one-false (x ∷ bs) zero e = rw e
 one-false (x ∷ bs) (suc k) e = rw (one-false bs k e) (and-false x false refl)
 
 -- five that pass before the last
 pub last-of-six : {a b c d e x : Bool} → a ≡ true → b ≡ true → c ≡ true → d ≡ true → e ≡ true
-    → all (a ∷ b ∷ c ∷ d ∷ e ∷ x ∷ []) ≡ x
+    → allPass (a ∷ b ∷ c ∷ d ∷ e ∷ x ∷ []) ≡ x
 last-of-six {x = x} p q r s t = rw (p, q, r, s, t) (and-true x)

@@ -11,8 +11,8 @@ use Rattle.basics.proofs.Cases.{by-test, by-either, both, one-fails, true-or-fa
 use Rattle.register.specs.Formats.{formats}
 use Rattle.register.specs.Settings.{Accepted, isServer, isClient, isHonest}
 use Rattle.register.specs.World.{World}
+use Rattle.register.specs.WellFormed.{WellFormed}
 use Rattle.register.proofs.Bounds.{bounds, honest-server, server-range}
-use Rattle.register.proofs.WellFormed.{WellFormed}
 use Rattle.server.specs.State.{contains}
 use Rattle.client.specs.Memory as client
 use Rattle.client.proofs.Heads.{counter-fits}

@@ -17,8 +17,6 @@ use Rattle.register.specs.Settings as register
 use Rattle.register.specs.Settings.{isClient, isServer, isHonest}
 use Rattle.register.specs.World.{newWorld}
 use Rattle.register.proofs.Reachable.{well-new}
-use Rattle.register.proofs.WellFormed.{FromClient, FromServer, WellChannel, WellServer, WellClient}
-use Rattle.register.proofs.WellFormed.{WellFormed}
 use Rattle.channel.specs.Memory.{countAt}
 use Rattle.channel.specs.Sound.{messages}
 use Rattle.server.specs.State.{contains}
@@ -26,6 +24,8 @@ use Rattle.server.specs.Memory as server
 use Rattle.client.specs.Memory as client
 use Rattle.state.specs.declared.Settings.{Settings}
 use Rattle.register.specs.Formats.{formats}
+use Rattle.register.specs.WellFormed.{FromClient, FromServer, WellChannel, WellServer, WellClient}
+use Rattle.register.specs.WellFormed.{WellFormed}
 use Rattle.state.specs.State.{settingsOf, serverAt, stoppedIn, clientStart, clientAt, upIndex, downIndex, isOf, view}
 use Rattle.state.specs.Sound.{usesUp, usesDown, isLinkSound}
 use Rattle.state.proofs.Ranges.{and-false, in-range, back-one}

@@ -8,7 +8,7 @@ use mathlib.Core.List.{List, [], _∷_}
 use mathlib.Core.Option.{Option, none, some}
 use lib.Dec.{eqb, ltb}
 use lib.ListN.{length, getD}
-use Rattle.basics.specs.Tests.{all, allBelow}
+use Rattle.basics.specs.Tests.{allPass, allBelow}
 use Rattle.refusal.specs.declared.Refusal.{Refusal}
 use Rattle.register.specs.Settings.{marks, mostClients, isServer, isHonest, setupRefusal}
 use Rattle.channel.specs.Memory.{channels, span, countAt}
@@ -40,7 +40,7 @@ lengthTests s c b =
     ∷ []
 
 unfoldable pub areLong : List ℕ → List ℕ → List ℕ → Bool
-areLong s c b = all (lengthTests s c b)
+areLong s c b = allPass (lengthTests s c b)
 
 -- no client but those that there are has stopped
 abbrev pub isStoppedSound : Settings → List ℕ → Bool
@@ -105,4 +105,4 @@ soundTests t s c b =
     ∷ []
 
 unfoldable pub isSound : Settings → List ℕ → List ℕ → List ℕ → Bool
-isSound t s c b = all (soundTests t s c b)
+isSound t s c b = allPass (soundTests t s c b)

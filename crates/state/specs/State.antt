@@ -14,11 +14,12 @@ use lib.ListN.{getD, set}
 use Rattle.basics.specs.Bytes.{bigEndian}
 use Rattle.basics.specs.Tables.{tabled, partAt, putPart}
 use Rattle.message.specs.declared.Message.{Message}
+use Rattle.message.specs.declared.Unpacked.{Unpacked}
 use Rattle.message.specs.declared.Words.{Words}
 use Rattle.message.specs.Layout.{messageBytes, messageOf, wordsNumber}
 use Rattle.channel.specs.Memory.{oldestOn}
 use Rattle.channel.specs.Layout.{layout}
-use Rattle.channel.specs.Sound.{messageIn, messages}
+use Rattle.channel.specs.Sound.{messages}
 use Rattle.register.specs.declared.Step.{Step}
 use Rattle.register.specs.declared.Step.the-variants as code
 use Rattle.register.specs.Client.{newClient}
@@ -87,9 +88,9 @@ upIndex i j = i * marks + j
 abbrev pub downIndex : ℕ → ℕ → ℕ
 downIndex i j = mostClients * marks + upIndex i j
 
--- the oldest message of channel c
-abbrev pub messageAt : List ℕ → ℕ → Message
-messageAt b c = messageIn (messageOf (wordsNumber (oldestOn b c)))
+-- what stands oldest on channel c
+abbrev pub messageAt : List ℕ → ℕ → Unpacked
+messageAt b c = messageOf (wordsNumber (oldestOn b c))
 
 -- ---- a world stored
 

@@ -13,7 +13,7 @@ use Rattle.register.specs.Formats.{formats}
 use Rattle.register.specs.Settings.{Accepted, isServer, isClient}
 use Rattle.register.specs.Steps.{ladder, refusalOf, eventOf}
 use Rattle.register.specs.World.{World}
-use Rattle.register.proofs.WellFormed.{WellFormed}
+use Rattle.register.specs.WellFormed.{WellFormed}
 use Rattle.state.specs.declared.Settings.{Settings}
 use Rattle.state.specs.State.{settingsOf, stepOf}
 use Rattle.steps.specs.Inner.{readStep, writeStep, serveStep, takeStep, stopStep, lieStep, innerOf}

@@ -14,9 +14,10 @@ use Rattle.basics.specs.Bytes.{spelt}
 use Rattle.basics.proofs.Cases.{by-test, true-or-false}
 use Rattle.message.specs.declared.Message.{Message}
 use Rattle.message.specs.declared.Unpacked.{Unpacked}
-use Rattle.message.specs.declared.Unpacked.the-variants.{Good, Bad}
+use Rattle.message.specs.declared.Unpacked.the-variants.{Good, Refused}
 use Rattle.message.specs.declared.Words.{Words}
 use Rattle.message.specs.Layout.{unpackOf, words, wordsOf}
+use Rattle.refusal.specs.declared.Refusal.{Refusal}
 use Rattle.message.proofs.RoundTrip.{packing-spells, pack-unpack}
 use Rattle.channel.specs.Memory.{countAt, putOn}
 use Rattle.refusal.proofs.Ladders.{done, same}
@@ -27,9 +28,9 @@ use Rattle.register.specs.Settings.{Accepted, isServer, isClient}
 use Rattle.register.specs.Steps.{L, hasRoom, isReply, ladder, liesWith, accepted}
 use Rattle.register.specs.World.{World, lies, apply, answerOf, nextServers, nextClients, nextStopped, nextUp, nextDown}
 use Rattle.register.specs.World.{leavesUp, leavesDown, putsUp, putsDown}
+use Rattle.register.specs.WellFormed.{WellFormed}
 use Rattle.register.proofs.Dropping.{nothing-put}
 use Rattle.register.proofs.Rooms.{unless}
-use Rattle.register.proofs.WellFormed.{WellFormed}
 use Rattle.server.specs.State.{contains}
 use Rattle.state.specs.declared.Settings.{Settings}
 use Rattle.state.specs.State.{settingsOf, bytesIn, stepOf, downIndex, storeStopped, storeServers, storeClients, storeSlots}
@@ -44,8 +45,9 @@ unfolding wordsOf
 words-are x m unpacks =
     ap (λ (s : List ℕ). words (spelt 0 s)) (sym (pack-unpack (bytesIn x) m unpacks .packing)) ∙ ap words (packing-spells m)
 
-by-unpacked : {A : Type 0} (u : Unpacked) → (u ≡ Bad → A) → ((m : Message) → u ≡ Good m → A) → A
-by-unpacked Bad f g = f refl
+by-unpacked : {A : Type 0} (u : Unpacked) → ((r : Refusal) → u ≡ Refused r → A)
+    → ((m : Message) → u ≡ Good m → A) → A
+by-unpacked (Refused r) f g = f r refl
 by-unpacked (Good m) f g = g m refl
 
 -- ---- one channel, by cases on the tests: c, it is the client's; b, it is the server's; s, the client has stopped
@@ -112,7 +114,7 @@ module _ (t : Settings) (accepted : Accepted (settingsOf t)) (w : World) (well :
         (lied (storeStopped w) (storeSlots w) k d x)
         (same refl (λ e. same refl (λ e. same refl (λ e. same (ap not room-is) (λ e. done)))))
         (λ none en. by-unpacked (unpackOf (bytesIn x))
-        (λ e. absurd (true-or-false true refl (rw e at (none .1 .1 .0))))
+        (λ r e. absurd (true-or-false true refl (rw e at (none .1 .1 .0))))
         (λ m e. subst
         (λ (u : Unpacked). onSlots (storeServers w) (storeClients w) (lied (storeStopped w) (storeSlots w) k d x)
         ≡ outcomeOf (settingsOf t) w (liesWith (settingsOf t) formats k d u))

@@ -13,9 +13,8 @@ use borrow.Author.Tests.{ltb-true, ltb-false, lt-ltb, ne-eqb}
 use Rattle.basics.specs.Bytes.{bigEndian, spelt}
 use Rattle.basics.proofs.Bytes.{bytes-length, bytes-are, spelt-is}
 use Rattle.basics.proofs.Cases.{by-test, true-or-false}
-use Rattle.message.specs.declared.Unpacked.the-variants.{Bad}
 use Rattle.message.specs.declared.Words.{Words}
-use Rattle.message.specs.Layout.{messageOf, unpackOf, words, wordsNumber}
+use Rattle.message.specs.Layout.{misprint, messageOf, unpackOf, words, wordsNumber}
 use Rattle.message.proofs.Numbers.{words-back}
 use Rattle.message.proofs.RoundTrip.{unpack-bytes}
 use Rattle.refusal.specs.declared.Refusal.the-variants.{FullChannel}
@@ -29,7 +28,7 @@ use Rattle.steps.specs.Inner.{told, lieWith}
 -- ---- words
 
 -- a number of more than 88 bits is no message
-over : (n : ℕ) → 2 ^ 88 ≤ n → messageOf n ≡ Bad
+over : (n : ℕ) → 2 ^ 88 ≤ n → messageOf n ≡ misprint
 unfolding messageOf
 over n h =
     simp (
@@ -41,7 +40,7 @@ over n h =
       ne-eqb (n / 2 ^ 84) 6 (λ e. omega arith),
     )
 
-no-bytes : (w : Words) → ltb (w .0) (2 ^ 24) ≡ false → unpackOf (bytesIn w) ≡ Bad
+no-bytes : (w : Words) → ltb (w .0) (2 ^ 24) ≡ false → unpackOf (bytesIn w) ≡ misprint
 unfolding bytesIn unpackOf
 no-bytes w e = rw e
 

@@ -20,7 +20,8 @@ use Rattle.register.proofs.Dropping.{nothing-put}
 use Rattle.register.proofs.Enabled.{Enabled, enabled}
 use Rattle.state.specs.declared.Settings as code
 use Rattle.state.specs.State.{settingsOf, stepOf, storeServers, storeClients, storeSlots}
-use Rattle.steps.specs.Inner.{After, after, Gave, onServers, onClients, onSlots, unless, Told, unlessTold, innerOf}
+use Rattle.steps.specs.Inner.{After, after, Gave, keeping, onServers, onClients, onSlots, unless}
+use Rattle.steps.specs.Inner.{Told, told, innerOf}
 
 -- what depends on servers, clients and slots, of the stored world w
 module _ {A : Type 0} where
@@ -40,20 +41,19 @@ modelAt t w x = outcomeOf (settingsOf t) w (eventOf (settingsOf t) formats w (st
 
 -- ---- a refusal, whatever array is the step's own
 
-abbrev unlessAll : Option Refusal → List ℕ → List ℕ → List ℕ → After → After
-unlessAll none s c b x = x
-unlessAll (some n) s c b x = after (Refused n) s c b
-
 module _ (s c b : List ℕ) where
-  on-clients : (o : Option Refusal) (x : Gave) → onClients s (unless o c b x) ≡ unlessAll o s c b (onClients s x)
+  on-clients : (o : Option Refusal) (x : Gave)
+      → onClients s (unless o (keeping c b) x) ≡ unless o (λ a. after a s c b) (onClients s x)
   on-clients none x = refl
   on-clients (some n) x = refl
 
-  on-servers : (o : Option Refusal) (x : Gave) → onServers c (unless o s b x) ≡ unlessAll o s c b (onServers c x)
+  on-servers : (o : Option Refusal) (x : Gave)
+      → onServers c (unless o (keeping s b) x) ≡ unless o (λ a. after a s c b) (onServers c x)
   on-servers none x = refl
   on-servers (some n) x = refl
 
-  on-slots : (o : Option Refusal) (x : Told) → onSlots s c (unlessTold o b x) ≡ unlessAll o s c b (onSlots s c x)
+  on-slots : (o : Option Refusal) (x : Told)
+      → onSlots s c (unless o (λ a. told a b) x) ≡ unless o (λ a. after a s c b) (onSlots s c x)
   on-slots none x = refl
   on-slots (some n) x = refl
 
@@ -76,13 +76,13 @@ module _ (S : Settings) (F : Formats) (w : World) where
   refused n = ap (λ (v : World). on v (after (Refused n))) (sym (nothing n))
 
   decides : (o : Option Refusal) (x : After) (e : Event) → (o ≡ none → x ≡ outcomeOf S w e)
-      → on w (unlessAll o) x ≡ outcomeOf S w (decided S F o e)
+      → unless o (λ a. on w (after a)) x ≡ outcomeOf S w (decided S F o e)
   decides none x e h = h refl
   decides (some n) x e h = refused n
 
   step-law : (s : Step) (xs : List Rung) (x : After) → Agree xs (ladder S F w s)
       → (NoneApplies (ladder S F w s) → Enabled S F w (accepted S F w s) → x ≡ outcomeOf S w (accepted S F w s))
-      → on w (unlessAll (lowest xs)) x ≡ outcomeOf S w (eventOf S F w s)
+      → unless (lowest xs) (λ a. on w (after a)) x ≡ outcomeOf S w (eventOf S F w s)
   unfolding eventOf refusalOf
   step-law s xs x agree law =
       rw (lowest-same xs (ladder S F w s) agree)
@@ -94,7 +94,8 @@ module _ (S : Settings) (F : Formats) (w : World) where
   pub clients-law : (s : Step) (xs : List Rung) (x : Gave) → Agree xs (ladder S F w s)
       → (NoneApplies (ladder S F w s) → Enabled S F w (accepted S F w s)
       → onClients (storeServers w) x ≡ outcomeOf S w (accepted S F w s))
-      → onClients (storeServers w) (unless (lowest xs) (storeClients w) (storeSlots w) x) ≡ outcomeOf S w (eventOf S F w s)
+      → onClients (storeServers w) (unless (lowest xs) (keeping (storeClients w) (storeSlots w)) x)
+      ≡ outcomeOf S w (eventOf S F w s)
   clients-law s xs x agree law =
       on-clients (storeServers w) (storeClients w) (storeSlots w) (lowest xs) x
       ∙ step-law s xs (onClients (storeServers w) x) agree law
@@ -102,7 +103,8 @@ module _ (S : Settings) (F : Formats) (w : World) where
   pub servers-law : (s : Step) (xs : List Rung) (x : Gave) → Agree xs (ladder S F w s)
       → (NoneApplies (ladder S F w s) → Enabled S F w (accepted S F w s)
       → onServers (storeClients w) x ≡ outcomeOf S w (accepted S F w s))
-      → onServers (storeClients w) (unless (lowest xs) (storeServers w) (storeSlots w) x) ≡ outcomeOf S w (eventOf S F w s)
+      → onServers (storeClients w) (unless (lowest xs) (keeping (storeServers w) (storeSlots w)) x)
+      ≡ outcomeOf S w (eventOf S F w s)
   servers-law s xs x agree law =
       on-servers (storeServers w) (storeClients w) (storeSlots w) (lowest xs) x
       ∙ step-law s xs (onServers (storeClients w) x) agree law
@@ -110,7 +112,8 @@ module _ (S : Settings) (F : Formats) (w : World) where
   pub slots-law : (s : Step) (xs : List Rung) (x : Told) → Agree xs (ladder S F w s)
       → (NoneApplies (ladder S F w s) → Enabled S F w (accepted S F w s)
       → onSlots (storeServers w) (storeClients w) x ≡ outcomeOf S w (accepted S F w s))
-      → onSlots (storeServers w) (storeClients w) (unlessTold (lowest xs) (storeSlots w) x) ≡ outcomeOf S w (eventOf S F w s)
+      → onSlots (storeServers w) (storeClients w) (unless (lowest xs) (λ a. told a (storeSlots w)) x)
+      ≡ outcomeOf S w (eventOf S F w s)
   slots-law s xs x agree law =
       on-slots (storeServers w) (storeClients w) (storeSlots w) (lowest xs) x
       ∙ step-law s xs (onSlots (storeServers w) (storeClients w) x) agree law

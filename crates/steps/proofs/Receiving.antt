@@ -13,8 +13,11 @@ use lib.Dec.{leb}
 use lib.ListN.{length}
 use borrow.Author.Tests.{leb-true, le-leb}
 use Rattle.basics.proofs.Tests.{below, below-of}
+use Rattle.refusal.specs.declared.Refusal.{Refusal}
 use Rattle.refusal.specs.declared.Refusal.the-variants.{FullChannel}
 use Rattle.message.specs.declared.Message.{Message}
+use Rattle.message.specs.declared.Unpacked.the-variants as unpacked
+use Rattle.message.specs.declared.Unpacked.the-variants.{Good}
 use Rattle.channel.specs.Memory.{countAt, taken}
 use Rattle.channel.specs.Sound.{CountsFit}
 use Rattle.register.specs.declared.Answer.the-variants.{Went, Refused}
@@ -35,7 +38,7 @@ use Rattle.client.proofs.Dropping.{not-taken}
 use Rattle.client.proofs.Memory.{store-view}
 use Rattle.state.specs.declared.Settings.{Settings}
 use Rattle.state.specs.State.{settingsOf, upIndex, downIndex, clientStart, clientAt, putClient}
-use Rattle.steps.specs.Inner.{roomUp, sendUp, Gave, gave, shown, replyAt, tookFrom, takeOldest}
+use Rattle.steps.specs.Inner.{roomUp, sendUp, Gave, gave, shown, replyAt, takenBy, tookFrom, takeOldest}
 use Rattle.steps.proofs.Fitting.{room-silent}
 use Rattle.steps.proofs.Lent.{same-back}
 
@@ -87,42 +90,61 @@ module _ (x : Client) (f : ℕ) (m : List ℕ) (e : x ≡ client.loaded (x .numb
 
 -- ---- the step
 
-module _ (t : Settings) (c b : List ℕ) (d k : ℕ) (m : Message) (first : m ≡ replyAt b d k) where
-  -- what comes of a message
-  abbrev after : Message → model.Taken
-  after x = model.clientTakes (size (t .f)) (t .f) d (shown t c b d) k x
-
-  module _ (fits : Bool) (room : fits ≡ roomUp t b (d - 1) (length (after m .sends))) where
-    room-is : roomUp t b (d - 1) (length (tookFrom t c b d k .sends)) ≡ fits
-    room-is = sym (room ∙ ap (λ (x : Message). roomUp t b (d - 1) (length (after x .sends))) first)
-
-    pub take-refused : fits ≡ false → gave (Refused FullChannel) c b ≡ takeOldest t c b d k
-    take-refused full = rw (room-is ∙ full)
-
-    -- the message taken, off channel `from`, with what client and channels come to
-    pub take-gives : fits ≡ true → (o : Outcome) (l c′ b₁ b₂ : List ℕ) (from : ℕ) → from ≡ downIndex (d - 1) (k - 1)
-        → outcome.after o l ≡ outcome.leaves (after m) → c′ ≡ putClient c (d - 1) l → b₁ ≡ taken b from
-        → b₂ ≡ sendUp t b₁ (d - 1) (messagesOf (o .sends)) → gave (o .answer) c′ b₂ ≡ takeOldest t c b d k
-    take-gives enough o l c′ b₁ b₂ from place gives put off sent =
-        let down : ℕ = downIndex (d - 1) (k - 1) in
-        let all : outcome.After → Gave =
-        λ a. gave (a .answer) (putClient c (d - 1) (a .memory)) (sendUp t (taken b down) (d - 1) (a .sends)) in
-        let sent-up : b₂ ≡ sendUp t (taken b down) (d - 1) (messagesOf (o .sends)) =
-        sent ∙ ap (λ (q : List ℕ). sendUp t q (d - 1) (messagesOf (o .sends))) (off ∙ ap (taken b) place) in
-        rw (room-is ∙ enough)
-        (ap (λ (q : List ℕ). gave (o .answer) q b₂) put ∙ ap (gave (o .answer) _) sent-up
-        ∙ ap all (gives ∙ ap (λ (x : Message). outcome.leaves (after x)) first))
-
-  -- a message that is not taken only goes off its channel
-  pub drop-gives : t .f ≤ 4 → CountsFit b → 1 ≤ d → d ≤ 6 → isSoundMemory (t .f) (clientAt c (d - 1)) ≡ true
-      → isTaken (shown t c b d) k m ≡ false
+module _ (t : Settings) (c b : List ℕ) (d k : ℕ) where
+  -- what changes nothing only goes off its channel
+  off-gives : t .f ≤ 4 → CountsFit b → 1 ≤ d → d ≤ 6 → isSoundMemory (t .f) (clientAt c (d - 1)) ≡ true
+      → tookFrom t c b d k ≡ model.goesOn (shown t c b d)
       → (b₁ : List ℕ) (from : ℕ) → from ≡ downIndex (d - 1) (k - 1) → b₁ ≡ taken b from
       → gave Went c b₁ ≡ takeOldest t c b d k
   unfolding sendUp
-  drop-gives few fit low high sound other b₁ from place off =
-      let goes : tookFrom t c b d k ≡ model.goesOn (shown t c b d) =
-      ap after (sym first) ∙ not-taken (size (t .f)) (t .f) d (shown t c b d) k m other in
+  off-gives few fit low high sound goes b₁ from place off =
       let own : putClient c (d - 1) (client.store (shown t c b d)) ≡ c =
       ap (putClient c (d - 1)) (store-view (t .f) (clientAt c (d - 1)) sound) ∙ same-back (clientStart (d - 1)) client.words c in
       let room : roomUp t b (d - 1) 0 ≡ true = room-silent t b (d - 1) few fit (omega arith) in
       rw (goes, room) (ap (λ (l : List ℕ). gave Went l b₁) (sym own) ∙ ap (gave Went _) (off ∙ ap (taken b) place))
+
+  -- what is no message
+  pub none-gives : t .f ≤ 4 → CountsFit b → 1 ≤ d → d ≤ 6 → isSoundMemory (t .f) (clientAt c (d - 1)) ≡ true → (r : Refusal)
+      → replyAt b d k ≡ unpacked.Refused r
+      → (b₁ : List ℕ) (from : ℕ) → from ≡ downIndex (d - 1) (k - 1) → b₁ ≡ taken b from
+      → gave Went c b₁ ≡ takeOldest t c b d k
+  none-gives few fit low high sound r none =
+      off-gives few fit low high sound (ap (takenBy (size (t .f)) (t .f) d (shown t c b d) k) none)
+
+  module _ (m : Message) (first : replyAt b d k ≡ Good m) where
+    -- what comes of the message
+    abbrev after : model.Taken
+    after = model.clientTakes (size (t .f)) (t .f) d (shown t c b d) k m
+
+    took-is : tookFrom t c b d k ≡ after
+    took-is = ap (takenBy (size (t .f)) (t .f) d (shown t c b d) k) first
+
+    module _ (fits : Bool) (room : fits ≡ roomUp t b (d - 1) (length (after .sends))) where
+      room-is : roomUp t b (d - 1) (length (tookFrom t c b d k .sends)) ≡ fits
+      room-is = ap (λ (x : model.Taken). roomUp t b (d - 1) (length (x .sends))) took-is ∙ sym room
+
+      pub take-refused : fits ≡ false → gave (Refused FullChannel) c b ≡ takeOldest t c b d k
+      take-refused full = rw (room-is ∙ full)
+
+      -- the message taken, off channel `from`, with what client and channels come to
+      pub take-gives : fits ≡ true → (o : Outcome) (l c′ b₁ b₂ : List ℕ) (from : ℕ) → from ≡ downIndex (d - 1) (k - 1)
+          → outcome.after o l ≡ outcome.leaves after → c′ ≡ putClient c (d - 1) l → b₁ ≡ taken b from
+          → b₂ ≡ sendUp t b₁ (d - 1) (messagesOf (o .sends)) → gave (o .answer) c′ b₂ ≡ takeOldest t c b d k
+      take-gives enough o l c′ b₁ b₂ from place gives put off sent =
+          let down : ℕ = downIndex (d - 1) (k - 1) in
+          let all : outcome.After → Gave =
+          λ a. gave (a .answer) (putClient c (d - 1) (a .memory)) (sendUp t (taken b down) (d - 1) (a .sends)) in
+          let sent-up : b₂ ≡ sendUp t (taken b down) (d - 1) (messagesOf (o .sends)) =
+          sent ∙ ap (λ (q : List ℕ). sendUp t q (d - 1) (messagesOf (o .sends))) (off ∙ ap (taken b) place) in
+          rw (room-is ∙ enough)
+          (ap (λ (q : List ℕ). gave (o .answer) q b₂) put ∙ ap (gave (o .answer) _) sent-up
+          ∙ ap all (gives ∙ ap outcome.leaves (sym took-is)))
+
+    -- a message that is not taken
+    pub drop-gives : t .f ≤ 4 → CountsFit b → 1 ≤ d → d ≤ 6 → isSoundMemory (t .f) (clientAt c (d - 1)) ≡ true
+        → isTaken (shown t c b d) k m ≡ false
+        → (b₁ : List ℕ) (from : ℕ) → from ≡ downIndex (d - 1) (k - 1) → b₁ ≡ taken b from
+        → gave Went c b₁ ≡ takeOldest t c b d k
+    drop-gives few fit low high sound other =
+        off-gives few fit low high sound
+        (took-is ∙ not-taken (size (t .f)) (t .f) d (shown t c b d) k m other)

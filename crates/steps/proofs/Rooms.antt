@@ -23,11 +23,11 @@ use Rattle.register.specs.Thresholds.{size}
 use Rattle.register.specs.World.{World}
 use Rattle.register.proofs.Bounds.{bounds, client-small, server-of, server-range, honest-of}
 use Rattle.register.proofs.Rooms.{room-up, room-down}
-use Rattle.register.proofs.WellFormed.{FromClient, WellFormed}
 use Rattle.register.proofs.WellServer.{well-sends, none-there}
 use Rattle.server.specs.State.{contains}
 use Rattle.state.specs.declared.Settings.{Settings}
 use Rattle.register.specs.Formats.{formats}
+use Rattle.register.specs.WellFormed.{FromClient, WellFormed}
 use Rattle.state.specs.State.{settingsOf, upIndex, downIndex, storeStopped, storeSlots}
 use Rattle.steps.specs.Inner.{roomUp, roomDown}
 use Rattle.state.proofs.Channels.{Short, Inside, store-slots, up-count, down-count}

@@ -12,35 +12,34 @@ use lib.Dec.{eqb}
 use lib.ListN.{length}
 use Rattle.basics.proofs.Cases.{by-list, true-or-false}
 use Rattle.message.specs.declared.Message.{Message}
+use Rattle.message.specs.declared.Unpacked.the-variants.{Good}
 use Rattle.channel.specs.Memory.{taken}
 use Rattle.refusal.proofs.Ladders.{done, same}
 use Rattle.register.specs.declared.Answer.the-variants.{Went}
 use Rattle.register.specs.declared.Step.the-variants as code
 use Rattle.register.specs.Formats.{formats}
-use Rattle.register.specs.Server.{Server, Sent, serverAfter, serverSends, sentTo}
+use Rattle.register.specs.Server.{Sent, serverAfter, serverSends, sentTo}
 use Rattle.register.specs.Settings.{Accepted, isServer, isClient}
 use Rattle.register.specs.Steps as model
 use Rattle.register.specs.Steps.{K, isEmpty, oldest, ladder, servesOldest, accepted}
 use Rattle.register.specs.World.{World, serves, apply, answerOf, nextServers, nextClients, nextStopped, nextUp, nextDown}
 use Rattle.register.specs.World.{leavesUp, leavesDown, putsUp, putsDown}
+use Rattle.register.specs.WellFormed.{FromClient, WellFormed}
 use Rattle.register.proofs.Bounds.{client-small}
 use Rattle.register.proofs.Dropping.{nothing-put}
 use Rattle.register.proofs.Enabled.{Enabled}
-use Rattle.register.proofs.WellFormed.{FromClient, WellFormed}
 use Rattle.register.proofs.WellServer.{well-sends}
 use Rattle.register.proofs.WellChannels.{oldest-kind}
-use Rattle.server.specs.State as by-value
 use Rattle.server.specs.State.{contains}
-use Rattle.server.specs.Memory.{loaded, numbersOf}
 use Rattle.server.specs.Memory as memory
-use Rattle.server.specs.Taking.{sentBy, servedOf}
 use Rattle.state.specs.declared.Settings.{Settings}
 use Rattle.state.specs.State.{settingsOf, stepOf, serverAt, putServer, upIndex, storeStopped, storeServers, storeClients, storeSlots}
-use Rattle.steps.specs.Inner.{onServers, roomDown, sendDown, requested, replied, served, serveRungs, serveStep, innerOf}
+use Rattle.steps.specs.Inner.{onServers, roomDown, sendDown, requestAt, servedBy, sentFor, replied, served}
+use Rattle.steps.specs.Inner.{serveRungs, serveStep, innerOf}
 use Rattle.state.proofs.Formats.{client-message}
 use Rattle.state.proofs.Channels.{store-slots, slots-same, changed, short-changed, up-take, up-oldest}
 use Rattle.state.proofs.StoredParts.{server-at, server-put}
-use Rattle.state.proofs.StoredServer.{stopped-is, loaded-is, server-is, sends-is}
+use Rattle.state.proofs.StoredServer.{stopped-is, server-is}
 use Rattle.steps.proofs.SendingDown.{sentDown, send-down}
 use Rattle.steps.proofs.Modelled.{outcomeOf, innerAt, modelAt, servers-law}
 use Rattle.steps.proofs.Rooms.{up-short, down-short, inside, count-up, empty-is, room-down-is, down-room}
@@ -48,10 +47,11 @@ use Rattle.steps.proofs.Rooms.{up-short, down-short, inside, count-up, 
 module _ (t : Settings) (accepted : Accepted (settingsOf t)) (w : World) (well : WellFormed (settingsOf t) formats w) where
   module _ (k d : ℕ) (client : isClient (settingsOf t) d ≡ true) (server : isServer (settingsOf t) k ≡ true) where
     -- the server is found again in its memory
-    server-loaded : loaded (serverAt (storeServers w) (k - 1)) ≡ by-value.store (w .servers k)
-    server-loaded =
+    server-shown : memory.view (serverAt (storeServers w) (k - 1)) ≡ w .servers k
+    server-shown =
         let i = inside t accepted w well d k client server in
-        ap loaded (server-at w k (i .first) (i .last)) ∙ loaded-is (w .servers k)
+        ap memory.view (server-at w k (i .first) (i .last))
+        ∙ server-is (settingsOf t) accepted (w .servers k) (well .server k)
 
     -- ---- the message that waits
 
@@ -59,16 +59,14 @@ module _ (t : Settings) (accepted : Accepted (settingsOf t)) (w : World) (well :
       kind : FromClient m
       kind = oldest-kind FromClient (w .up d k) m ms waits (well .up d k)
 
-      request-is : requested t (storeStopped w) (storeServers w) (storeSlots w) k d ≡ m
+      request-is : requestAt (storeSlots w) k d ≡ Good m
       request-is =
           rw (store-slots w)
           (up-oldest (w .up) (w .down) d k (inside t accepted w well d k client server) (up-short t accepted w well)
           (down-short t accepted w well) m ms waits (client-message m kind))
 
       replied-is : replied t (storeStopped w) (storeServers w) (storeSlots w) k d ≡ serverSends (w .servers k) d m
-      replied-is =
-          (λ i. sentBy d (servedOf (server-loaded i) d (request-is i) .sends))
-          ∙ sends-is (settingsOf t) accepted (w .servers k) (well .server k) d m
+      replied-is = λ i. sentFor (server-shown i) d (request-is i)
 
     room-is : isEmpty (w .up d k) ≡ false
         → roomDown t (storeStopped w) (storeSlots w) (k - 1) (replied t (storeStopped w) (storeServers w) (storeSlots w) k d)
@@ -111,22 +109,13 @@ module _ (t : Settings) (accepted : Accepted (settingsOf t)) (w : World) (well :
           ∙ sym (store-slots w′)
 
       -- what the server is then, in its memory
-      stored-after : numbersOf
-          (servedOf (loaded (serverAt (storeServers w) (k - 1))) d
-          (requested t (storeStopped w) (storeServers w) (storeSlots w) k d) .server)
+      stored-after : memory.store
+          (servedBy (memory.view (serverAt (storeServers w) (k - 1))) d (requestAt (storeSlots w) k d))
           ≡ memory.store (serverAfter (w .servers k) d m)
-      unfolding memory.store memory.view
-      stored-after =
-          let i = inside t accepted w well d k client server in
-          (λ j. numbersOf
-          (servedOf (loaded (server-at w k (i .first) (i .last) j)) d (request-is m ms (en .channel) j) .server))
-          ∙ ap (λ (x : Server). memory.store (serverAfter x d m))
-          (server-is (settingsOf t) accepted (w .servers k) (well .server k))
+      stored-after = λ j. memory.store (servedBy (server-shown j) d (request-is m ms (en .channel) j))
 
       servers-after : putServer (storeServers w) (k - 1)
-          (numbersOf
-          (servedOf (loaded (serverAt (storeServers w) (k - 1))) d
-          (requested t (storeStopped w) (storeServers w) (storeSlots w) k d) .server))
+          (memory.store (servedBy (memory.view (serverAt (storeServers w) (k - 1))) d (requestAt (storeSlots w) k d)))
           ≡ storeServers (apply (settingsOf t) w (serves k d m ms))
       unfolding storeServers apply nextServers
       servers-after =

@@ -8,25 +8,24 @@ use mathlib.Core.List.{List, _++_}
 use Prim.Native.Nat.{ℕ, _+_, _-_, _≤_, _<_}
 use lib.Dec.{leb}
 use lib.ListN.{drop}
-use borrow.Author.Tests.{le-leb, lt-leb}
 use Rattle.refusal.specs.declared.Refusal.the-variants.{Exhausted, FullChannel}
+use Rattle.message.specs.Layout.{lastRead}
 use Rattle.message.specs.declared.Message.the-variants.{GetInfo}
 use Rattle.message.specs.declared.ReadNumber.{ReadNumber}
 use Rattle.register.specs.declared.Answer.the-variants.{Went, Refused}
 use Rattle.register.specs.declared.Phase.{Phase}
-use Rattle.register.specs.Client as model
 use Rattle.client.specs.Memory as client
 use Rattle.state.specs.declared.Settings.{Settings}
 use Rattle.state.specs.State.{clientAt, putClient}
 use Rattle.steps.specs.Inner.{roomUp, sendUp, toAll, gave, shown, nextOf, beginStep}
 
 module _ (t : Settings) (c b : List ℕ) (d : ℕ) (ph : Phase) (more n : ℕ) (shows : n ≡ shown t c b d .reads .0) where
-  pub exhausted : model.highest ≤ n → gave (Refused Exhausted) c b ≡ beginStep t c b d ph more
-  exhausted many = rw (ap (leb model.highest) (sym shows) ∙ le-leb model.highest n many)
+  pub exhausted : leb lastRead n ≡ true → gave (Refused Exhausted) c b ≡ beginStep t c b d ph more
+  exhausted many = rw (ap (leb lastRead) (sym shows) ∙ many)
 
-  module _ (few : n < model.highest) where
-    left : leb model.highest (shown t c b d .reads .0) ≡ false
-    left = ap (leb model.highest) (sym shows) ∙ lt-leb model.highest n few
+  module _ (few : leb lastRead n ≡ false) where
+    left : leb lastRead (shown t c b d .reads .0) ≡ false
+    left = ap (leb lastRead) (sym shows) ∙ few
 
     pub full : roomUp t b (d - 1) more ≡ false → gave (Refused FullChannel) c b ≡ beginStep t c b d ph more
     full none = rw (left, none)

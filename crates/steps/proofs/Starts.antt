@@ -11,6 +11,7 @@ use Prim.Native.Nat.{ℕ, _-_, _≤_}
 use native.Mathlib.Omega.{arith}
 use lib.Dec.{leb}
 use Rattle.basics.proofs.Cases.{true-or-false}
+use Rattle.message.specs.Layout.{lastRead}
 use Rattle.message.specs.declared.Entry.{Entry}
 use Rattle.message.specs.declared.Message.{Message}
 use Rattle.message.specs.declared.Message.the-variants.{GetInfo}
@@ -20,17 +21,17 @@ use Rattle.register.specs.declared.Answer.the-variants.{Went}
 use Rattle.register.specs.declared.Phase.{Phase}
 use Rattle.register.specs.declared.Phase.the-variants.{Idle, Reading, ReadingForWrite, Storing}
 use Rattle.register.specs.declared.Step.the-variants as code
-use Rattle.register.specs.Client.{Client, cleared, highest, isIdle, isReading, nextRead, started}
+use Rattle.register.specs.Client.{Client, cleared, isIdle, isReading, nextRead, started}
 use Rattle.register.specs.Formats.{formats}
 use Rattle.register.specs.Settings as model
 use Rattle.register.specs.Settings.{Accepted, isServer, isClient}
 use Rattle.register.specs.Steps.{R, W, Formats, ladder, accepted}
 use Rattle.register.specs.World.{World, begins, apply, answerOf, nextServers, nextClients, nextStopped, nextUp, nextDown}
 use Rattle.register.specs.World.{leavesUp, leavesDown, putsUp, putsDown}
+use Rattle.register.specs.WellFormed.{WellClient, WellFormed}
 use Rattle.register.proofs.Bounds.{client-small}
 use Rattle.register.proofs.Dropping.{nothing-put}
 use Rattle.register.proofs.Enabled.{Enabled, slotsFor}
-use Rattle.register.proofs.WellFormed.{WellClient, WellFormed}
 use Rattle.replies.specs.Replies.{storeReplies}
 use Rattle.replies.proofs.Storing.{store-cleared}
 use Rattle.client.specs.Memory.{headOf, stored}
@@ -132,8 +133,8 @@ module _ (t : Settings) (accepted : Accepted (settingsOf t)) (w : World) (well :
     busy-is : on w (λ s. isBusy t) d ≡ not (isIdle (w .clients d .phase))
     busy-is = ap (λ (x : Client). not (isIdle (x .phase))) shown-is
 
-    exhausted-is : on w (λ s. isExhausted t) d ≡ leb highest (w .clients d .reads .0)
-    exhausted-is = ap (λ (x : Client). leb highest (x .reads .0)) shown-is
+    exhausted-is : on w (λ s. isExhausted t) d ≡ leb lastRead (w .clients d .reads .0)
+    exhausted-is = ap (λ (x : Client). leb lastRead (x .reads .0)) shown-is
 
     pub read-law : innerAt t w (code.R d) ≡ modelAt t w (code.R d)
     unfolding innerOf readStep stepOf ladder accepted storeClients

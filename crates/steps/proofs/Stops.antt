@@ -19,9 +19,9 @@ use Rattle.register.specs.Steps.{C, ladder, accepted}
 use Rattle.register.specs.Thresholds.{size}
 use Rattle.register.specs.World.{World, stops, apply, answerOf, nextServers, nextClients, nextStopped, nextUp, nextDown}
 use Rattle.register.specs.World.{leavesUp, leavesDown, putsUp, putsDown}
+use Rattle.register.specs.WellFormed.{WellFormed}
 use Rattle.register.proofs.Bounds.{client-small}
 use Rattle.register.proofs.Dropping.{nothing-put}
-use Rattle.register.proofs.WellFormed.{WellFormed}
 use Rattle.server.specs.State.{contains, setOf}
 use Rattle.state.specs.declared.Settings.{Settings}
 use Rattle.state.specs.State.{settingsOf, stepOf, isOf, putStopped, storeStopped, storeServers, storeClients, storeSlots}

@@ -13,6 +13,7 @@ use lib.Dec.{eqb}
 use lib.ListN.{length}
 use Rattle.basics.proofs.Cases.{by-list, true-or-false}
 use Rattle.message.specs.declared.Message.{Message}
+use Rattle.message.specs.declared.Unpacked.the-variants.{Good}
 use Rattle.channel.specs.Memory.{taken}
 use Rattle.refusal.proofs.Ladders.{done, same}
 use Rattle.register.specs.declared.Step.the-variants as code
@@ -24,14 +25,15 @@ use Rattle.register.specs.Steps.{D, isEmpty, oldest, ladder, takesOldest, accep
 use Rattle.register.specs.Thresholds.{size}
 use Rattle.register.specs.World.{World, takes, takenBy, apply, answerOf, nextServers, nextClients, nextStopped, nextUp, nextDown}
 use Rattle.register.specs.World.{leavesUp, leavesDown, putsUp, putsDown}
+use Rattle.register.specs.WellFormed.{FromServer, WellFormed}
 use Rattle.register.proofs.Bounds.{client-small}
 use Rattle.register.proofs.Dropping.{nothing-put}
 use Rattle.register.proofs.Enabled.{Enabled}
-use Rattle.register.proofs.WellFormed.{FromServer, WellFormed}
 use Rattle.register.proofs.WellChannels.{oldest-kind}
 use Rattle.client.specs.Memory.{store}
 use Rattle.state.specs.declared.Settings.{Settings}
 use Rattle.state.specs.State.{settingsOf, stepOf, downIndex, putClient, storeStopped, storeServers, storeClients, storeSlots}
+use Rattle.steps.specs.Inner as inner
 use Rattle.steps.specs.Inner.{gave, onClients, roomUp, sendUp, replyAt, tookFrom, took, takeRungs, takeStep, innerOf}
 use Rattle.state.proofs.Formats.{server-message}
 use Rattle.state.proofs.Channels.{store-slots, slots-same, changed, short-changed, down-take, down-oldest}
@@ -51,7 +53,7 @@ module _ (t : Settings) (accepted : Accepted (settingsOf t)) (w : World) (well :
     -- ---- the message that waits
 
     module _ (m : Message) (ms : List Message) (waits : w .down d k ≡ m ∷ ms) where
-      message-is : replyAt (storeSlots w) d k ≡ m
+      message-is : replyAt (storeSlots w) d k ≡ Good m
       message-is =
           rw (store-slots w)
           (down-oldest (w .up) (w .down) d k (inside t accepted w well d k client server) (up-short t accepted w well)
@@ -60,7 +62,7 @@ module _ (t : Settings) (accepted : Accepted (settingsOf t)) (w : World) (well :
 
       took-is : taken-in ≡ takenBy (settingsOf t) w d k m
       unfolding settingsOf
-      took-is = λ i. clientTakes (size (t .f)) (t .f) d (shown-is t accepted w well d client i) k (message-is i)
+      took-is = λ i. inner.takenBy (size (t .f)) (t .f) d (shown-is t accepted w well d client i) k (message-is i)
 
     room-is : isEmpty (w .down d k) ≡ false
         → roomUp t (storeSlots w) (d - 1) (length (taken-in .sends))

@@ -19,8 +19,11 @@ use Rattle.message.specs.declared.Entry.{Entry}
 use Rattle.message.specs.declared.Message.{Message}
 use Rattle.message.specs.declared.Message.the-variants.{GetInfo}
 use Rattle.message.specs.declared.ReadNumber.{ReadNumber}
+use Rattle.message.specs.declared.Unpacked.{Unpacked}
+use Rattle.message.specs.declared.Unpacked.the-variants as unpacked
+use Rattle.message.specs.declared.Unpacked.the-variants.{Good}
 use Rattle.message.specs.declared.Words.{Words}
-use Rattle.message.specs.Layout.{unpackOf, words, wordsOf}
+use Rattle.message.specs.Layout.{unpackOf, words, wordsOf, lastRead}
 use Rattle.channel.specs.Memory.{countAt, putOn, taken, cleared}
 use Rattle.register.specs.declared.Answer.{Answer}
 use Rattle.register.specs.declared.Answer.the-variants.{Went, Refused}
@@ -30,13 +33,12 @@ use Rattle.register.specs.declared.Step.{Step}
 use Rattle.register.specs.declared.Step.the-variants as step
 use Rattle.register.specs.Client as model
 use Rattle.register.specs.Ladders.{readLadder, writeLadder, serveLadder, takeLadder, stopLadder, lieLadder}
-use Rattle.register.specs.Server.{Sent, sentTo}
+use Rattle.register.specs.Server.{Server, Sent, sentTo, serverAfter, serverSends}
 use Rattle.register.specs.Settings.{isClient, isServer, mostClients}
 use Rattle.register.specs.Steps.{slots, isReply}
 use Rattle.register.specs.Thresholds.{size}
 use Rattle.server.specs.State.{contains, setOf}
 use Rattle.server.specs.Memory as server
-use Rattle.server.specs.Taking.{servedOf, sentBy}
 use Rattle.client.specs.Memory as client
 use Rattle.state.specs.declared.Settings.{Settings}
 use Rattle.state.specs.State.{settingsOf, bytesIn, serverAt, putServer, putStopped, clientAt, putClient, upIndex, downIndex}
@@ -107,16 +109,20 @@ pub record Gave : Type 0 where
 abbrev pub gave : Answer → List ℕ → List ℕ → Gave
 gave a own b = record { answer = a; own = own; slots = b }
 
+-- both arrays as they were
+abbrev pub keeping : List ℕ → List ℕ → Answer → Gave
+keeping own b a = gave a own b
+
 abbrev pub onServers : List ℕ → Gave → After
 onServers c x = after (x .answer) (x .own) c (x .slots)
 
 abbrev pub onClients : List ℕ → Gave → After
 onClients s x = after (x .answer) s (x .own) (x .slots)
 
--- the refusal, which changes nothing, or what the step gives
-abbrev pub unless : Option Refusal → List ℕ → List ℕ → Gave → Gave
-unless none own b x = x
-unless (some n) own b x = gave (Refused n) own b
+-- 01's answer: WENT, READ, WROTE or SPENT as the step gives it, or REFUSED 3 to 12, in what was there, `kept`
+abbrev pub unless : {A : Type 0} → Option Refusal → (Answer → A) → A → A
+unless none kept x = x
+unless (some r) kept x = kept (Refused r)
 
 -- ---- R and W: client d starts in a phase
 
@@ -147,7 +153,7 @@ module _ (t : Settings) (c b : List ℕ) where
   isBusy d = not (model.isIdle (shown d .phase))
 
   abbrev pub isExhausted : ℕ → Bool
-  isExhausted d = leb model.highest (shown d .reads .0)
+  isExhausted d = leb lastRead (shown d .reads .0)
 
   abbrev pub isFull : ℕ → ℕ → Bool
   isFull d more = not (roomUp t b (d - 1) more)
@@ -157,45 +163,61 @@ module _ (t : Settings) (c b : List ℕ) where
   readRungs d = readLadder (isAbsent d) (isStopped d) (isBusy d) (isExhausted d) (isFull d 2)
 
   unfoldable pub readStep : ℕ → Gave
-  readStep d = unless (lowest (readRungs d)) c b (begun d Reading)
+  readStep d = unless (lowest (readRungs d)) (keeping c b) (begun d Reading)
 
   abbrev pub writeRungs : ℕ → Entry → List Rung
   writeRungs d e =
       writeLadder (isAbsent d) (isStopped d) (isBusy d) (not (isLicence (e .0))) (isExhausted d) (isFull d 3)
 
   unfoldable pub writeStep : ℕ → Entry → Gave
-  writeStep d e = unless (lowest (writeRungs d e)) c b (begun d (ReadingForWrite e))
+  writeStep d e = unless (lowest (writeRungs d e)) (keeping c b) (begun d (ReadingForWrite e))
 
   -- both, for any phase, entry and number of slots; and what is left to refuse once 4 to 8 are not
   abbrev pub startStep : ℕ → Phase → Bool → ℕ → Gave
   startStep d ph noEntry more =
-      unless (lowest (writeLadder (isAbsent d) (isStopped d) (isBusy d) noEntry (isExhausted d) (isFull d more))) c b
-      (begun d ph)
+      unless
+      (lowest (writeLadder (isAbsent d) (isStopped d) (isBusy d) noEntry (isExhausted d) (isFull d more)))
+      (keeping c b) (begun d ph)
 
   abbrev pub beginStep : ℕ → Phase → ℕ → Gave
   beginStep d ph more =
-      unless (lowest (readLadder false false false (isExhausted d) (isFull d more))) c b (begun d ph)
+      unless (lowest (readLadder false false false (isExhausted d) (isFull d more)))
+      (keeping c b) (begun d ph)
 
 -- ---- K: server k takes the oldest message of client d
 
+-- what stands oldest on the channel
+abbrev pub requestAt : List ℕ → ℕ → ℕ → Unpacked
+requestAt b k d = messageAt b (upIndex (d - 1) (k - 1))
+
+-- the server after it, and what it sends; what is no message is dropped
+abbrev pub servedBy : Server → ℕ → Unpacked → Server
+servedBy x d (Good m) = serverAfter x d m
+servedBy x d (unpacked.Refused r) = x
+
+abbrev pub sentFor : Server → ℕ → Unpacked → List Sent
+sentFor x d (Good m) = serverSends x d m
+sentFor x d (unpacked.Refused r) = []
+
 module _ (t : Settings) (z : ℕ) (s b : List ℕ) where
-  abbrev pub requested : ℕ → ℕ → Message
-  requested k d = messageAt b (upIndex (d - 1) (k - 1))
+  -- the server as its memory shows it
+  abbrev pub serverShown : ℕ → Server
+  serverShown k = server.view (serverAt s (k - 1))
 
   abbrev pub replied : ℕ → ℕ → List Sent
-  replied k d = sentBy d (servedOf (server.loaded (serverAt s (k - 1))) d (requested k d) .sends)
+  replied k d = sentFor (serverShown k) d (requestAt b k d)
 
   abbrev pub served : ℕ → ℕ → Gave
   served k d =
       gave Went
-      (putServer s (k - 1)
-      (server.numbersOf (servedOf (server.loaded (serverAt s (k - 1))) d (requested k d) .server)))
+      (putServer s (k - 1) (server.store (servedBy (serverShown k) d (requestAt b k d))))
       (sendDown z (taken b (upIndex (d - 1) (k - 1))) (k - 1) (replied k d))
 
   -- once 4, 5 and 10 are not refused
   abbrev pub serveOldest : ℕ → ℕ → Gave
   serveOldest k d =
-      unless (lowest (serveLadder false false false (not (roomDown t z b (k - 1) (replied k d))))) s b (served k d)
+      unless (lowest (serveLadder false false false (not (roomDown t z b (k - 1) (replied k d)))))
+      (keeping s b) (served k d)
 
   abbrev pub serveRungs : ℕ → ℕ → List Rung
   serveRungs k d =
@@ -203,17 +225,22 @@ module _ (t : Settings) (z : ℕ) (s b : List ℕ) where
       (eqb (countAt b (upIndex (d - 1) (k - 1))) 0) (not (roomDown t z b (k - 1) (replied k d)))
 
   unfoldable pub serveStep : ℕ → ℕ → Gave
-  serveStep k d = unless (lowest (serveRungs k d)) s b (served k d)
+  serveStep k d = unless (lowest (serveRungs k d)) (keeping s b) (served k d)
 
 -- ---- D: client d takes the oldest message of server k
 
--- the message
-abbrev pub replyAt : List ℕ → ℕ → ℕ → Message
+-- what stands oldest on the channel
+abbrev pub replyAt : List ℕ → ℕ → ℕ → Unpacked
 replyAt b d k = messageAt b (downIndex (d - 1) (k - 1))
+
+-- what the client makes of it, with n servers, of which f may be faulty; what is no message is dropped
+abbrev pub takenBy : ℕ → ℕ → ℕ → model.Client → ℕ → Unpacked → model.Taken
+takenBy n f d x k (Good m) = model.clientTakes n f d x k m
+takenBy n f d x k (unpacked.Refused r) = model.goesOn x
 
 module _ (t : Settings) (c b : List ℕ) where
   abbrev pub tookFrom : ℕ → ℕ → model.Taken
-  tookFrom d k = model.clientTakes (size (t .f)) (t .f) d (shown t c b d) k (replyAt b d k)
+  tookFrom d k = takenBy (size (t .f)) (t .f) d (shown t c b d) k (replyAt b d k)
 
   abbrev pub took : ℕ → ℕ → Gave
   took d k =
@@ -223,7 +250,8 @@ module _ (t : Settings) (c b : List ℕ) where
   -- once 4, 6 and 10 are not refused
   abbrev pub takeOldest : ℕ → ℕ → Gave
   takeOldest d k =
-      unless (lowest (takeLadder false false false (isFull t c b d (length (tookFrom d k .sends))))) c b (took d k)
+      unless (lowest (takeLadder false false false (isFull t c b d (length (tookFrom d k .sends)))))
+      (keeping c b) (took d k)
 
   abbrev pub takeRungs : ℕ → ℕ → List Rung
   takeRungs d k =
@@ -231,7 +259,7 @@ module _ (t : Settings) (c b : List ℕ) where
       (eqb (countAt b (downIndex (d - 1) (k - 1))) 0) (isFull t c b d (length (tookFrom d k .sends)))
 
   unfoldable pub takeStep : ℕ → ℕ → Gave
-  takeStep d k = unless (lowest (takeRungs d k)) c b (took d k)
+  takeStep d k = unless (lowest (takeRungs d k)) (keeping c b) (took d k)
 
   -- ---- C: client d stops, and the channels to it are emptied
 
@@ -244,7 +272,7 @@ module _ (t : Settings) (c b : List ℕ) where
   stopRungs d = stopLadder (isAbsent t c b d) (isStopped t c b d)
 
   unfoldable pub stopStep : ℕ → Gave
-  stopStep d = unless (lowest (stopRungs d)) c b (left d)
+  stopStep d = unless (lowest (stopRungs d)) (keeping c b) (left d)
 
 -- ---- L: faulty server k puts a message on its channel to client d
 
@@ -256,10 +284,6 @@ pub record Told : Type 0 where
 abbrev pub told : Answer → List ℕ → Told
 told a b = record { answer = a; slots = b }
 
-abbrev pub unlessTold : Option Refusal → List ℕ → Told → Told
-unlessTold none b x = x
-unlessTold (some n) b x = told (Refused n) b
-
 module _ (z : ℕ) (b : List ℕ) where
   -- the words of its bytes are put; to a stopped client they are dropped
   abbrev pub lied : ℕ → ℕ → Words → Told
@@ -270,7 +294,7 @@ module _ (z : ℕ) (b : List ℕ) where
 
   -- once 4, 5 and 9 are not refused
   abbrev pub lieWith : ℕ → ℕ → Words → Told
-  lieWith k d w = unlessTold (lowest (lieLadder false false false (noRoomFor k d))) b (lied k d w)
+  lieWith k d w = unless (lowest (lieLadder false false false (noRoomFor k d))) (λ a. told a b) (lied k d w)
 
 abbrev pub lieRungs : Settings → ℕ → List ℕ → ℕ → ℕ → Words → List Rung
 lieRungs t z b k d w =
@@ -278,7 +302,7 @@ lieRungs t z b k d w =
     (not (isReply (unpackOf (bytesIn w)))) (noRoomFor z b k d)
 
 unfoldable pub lieStep : Settings → ℕ → List ℕ → ℕ → ℕ → Words → Told
-lieStep t z b k d w = unlessTold (lowest (lieRungs t z b k d w)) b (lied z b k d w)
+lieStep t z b k d w = unless (lowest (lieRungs t z b k d w)) (λ a. told a b) (lied z b k d w)
 
 abbrev pub onSlots : List ℕ → List ℕ → Told → After
 onSlots s c x = after (x .answer) s c (x .slots)

@@ -1,4 +1,5 @@
 -- What a step asks of the state that it is given. Every sound state has it.
+-- A reader of the public contracts needs none of it.
 -- Assumes nothing.
 use Prim.Native.Nat.{ℕ, suc, _≤_, _<_}
 use mathlib.Core.Bool.{true, false}

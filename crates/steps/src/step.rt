@@ -35,7 +35,6 @@ use channel::Slots;
 use client::Client;
 use message::Entry;
 use message::Message;
-use message::ReadNumber;
 use message::Unpacked;
 use message::Words;
 use refusal::Refusal;
@@ -50,9 +49,6 @@ use state::client_start;
 use state::down;
 use state::server_start;
 use state::up;
-
-// The highest read number.
-const HIGHEST: u32 = 1048575;
 
 // The slots that a read and a write count at their start.
 const READ_SLOTS: u64 = 2;
@@ -72,14 +68,14 @@ fn begin(t: Settings, x: Client, ph: Phase, more: u64, c: &mut [u64], b: &mut Sl
         ≡ inner.beginStep t (now (c .entry)) (now (b .entry)) (x .number) ph more ⌝ }
 {
     let reads = x.reads;
-    if HIGHEST <= reads.0 {
+    if message::is_last_read(reads) {
         return Answer::Refused(Refusal::Exhausted);
     }
     let i = (x.number - 1) as usize;
     if !has_room_up(t, b, i, more) {
         return Answer::Refused(Refusal::FullChannel);
     }
-    let next = ReadNumber(reads.0 + 1);
+    let next = message::next_read(reads);
     broadcast(t, b, i, Message::GetInfo(next));
     let at = client_start(i);
     let end = at + client::WORDS;
@@ -152,10 +148,19 @@ fn write(t: Settings, d: u32, e: Entry, c: &mut [u64], b: &mut Slots) -> Answer
 
 // ---- K
 
-// The server takes the oldest message, unless there is no room for what it sends (12).
-fn serve_oldest(t: Settings, stopped: u64, k: u32, d: u32, s: &mut [u64], b: &mut Slots) -> Answer
+// The server takes message m, the oldest of its channel, unless there is no room for what it sends (12).
+fn serve_message(
+    t: Settings,
+    stopped: u64,
+    k: u32,
+    d: u32,
+    m: Message,
+    s: &mut [u64],
+    b: &mut Slots,
+) -> Answer
     requires { ⌜ (t .clients ≤ 6) × (1 ≤ d) × (d ≤ 6) × (1 ≤ k) × (k ≤ 13) × (length (now s) ≡ 26)
-        × (server.isSound (serverAt (now s) (k - 1)) ≡ true) × CountsFit (now b) ⌝ }
+        × (server.isSound (serverAt (now s) (k - 1)) ≡ true)
+        × (inner.requestAt (now b) k d ≡ Unpacked.Good m) × CountsFit (now b) ⌝ }
     ensures { λ r. ⌜ inner.gave r (now (s .exit)) (now (b .exit))
         ≡ inner.serveOldest t stopped (now (s .entry)) (now (b .entry)) k d ⌝ }
 {
@@ -164,7 +169,7 @@ fn serve_oldest(t: Settings, stopped: u64, k: u32, d: u32, s: &mut [u64], b: &mu
     let from = up(i, j);
     let at = server_start(j);
     let end = at + server::WORDS;
-    let served = server::after(server::load(&s[at..end]), d as u8, oldest(b, from));
+    let served = server::after(server::load(&s[at..end]), d as u8, m);
     let sends = served.sends;
     let next = served.server;
     let fits = has_room_down(t, stopped, b, j, d as u8, sends);
@@ -175,6 +180,21 @@ fn serve_oldest(t: Settings, stopped: u64, k: u32, d: u32, s: &mut [u64], b: &mu
     server::store(&mut s[at..end], next);
     reply(stopped, b, i, j, sends);
     Answer::Went
+}
+
+// The server takes the oldest message. What is none is dropped.
+fn serve_oldest(t: Settings, stopped: u64, k: u32, d: u32, s: &mut [u64], b: &mut Slots) -> Answer
+    requires { ⌜ (t .clients ≤ 6) × (1 ≤ d) × (d ≤ 6) × (1 ≤ k) × (k ≤ 13) × (length (now s) ≡ 26)
+        × (server.isSound (serverAt (now s) (k - 1)) ≡ true) × CountsFit (now b) ⌝ }
+    ensures { λ r. ⌜ inner.gave r (now (s .exit)) (now (b .exit))
+        ≡ inner.serveOldest t stopped (now (s .entry)) (now (b .entry)) k d ⌝ }
+{
+    let from = up((d - 1) as usize, (k - 1) as usize);
+    let Unpacked::Good(m) = oldest(b, from) else {
+        channel::take(b, from);
+        return Answer::Went;
+    };
+    serve_message(t, stopped, k, d, m, s, b)
 }
 
 fn serve(t: Settings, stopped: u64, k: u32, d: u32, s: &mut [u64], b: &mut Slots) -> Answer
@@ -217,7 +237,7 @@ fn take_message(t: Settings, x: Client, k: u32, m: Message, c: &mut [u64], b: &m
     requires { ⌜ (t .f ≤ 4) × (length (now c) ≡ 571) × (1 ≤ x .number) × (x .number ≤ 6) × (1 ≤ k) × (k ≤ size (t .f))
         × (x ≡ client.loaded (x .number) (t .f) (clientAt (now c) (x .number - 1)))
         × (isSoundMemory (t .f) (clientAt (now c) (x .number - 1)) ≡ true)
-        × (m ≡ inner.replyAt (now b) (x .number) k) × SpareEmpty t (now b) ⌝ }
+        × (inner.replyAt (now b) (x .number) k ≡ Unpacked.Good m) × SpareEmpty t (now b) ⌝ }
     ensures { λ r. ⌜ inner.gave r (now (c .exit)) (now (b .exit))
         ≡ inner.takeOldest t (now (c .entry)) (now (b .entry)) (x .number) k ⌝ }
 {
@@ -234,7 +254,7 @@ fn take_message(t: Settings, x: Client, k: u32, m: Message, c: &mut [u64], b: &m
     took.answer
 }
 
-// The client takes the oldest message. One that it does not take is dropped, and nothing is stored.
+// The client takes the oldest message. What is none, or one that it does not take, is dropped, and nothing is stored.
 fn take_oldest(t: Settings, d: u32, k: u32, c: &mut [u64], b: &mut Slots) -> Answer
     requires { ⌜ (t .f ≤ 4) × (length (now c) ≡ 571) × (1 ≤ d) × (d ≤ 6) × (1 ≤ k) × (k ≤ size (t .f))
         × (isSoundMemory (t .f) (clientAt (now c) (d - 1)) ≡ true) × CountsFit (now b) × SpareEmpty t (now b) ⌝ }
@@ -243,7 +263,10 @@ fn take_oldest(t: Settings, d: u32, k: u32, c: &mut [u64], b: &mut Slots) -> Ans
 {
     let i = (d - 1) as usize;
     let from = down(i, (k - 1) as usize);
-    let m = oldest(b, from);
+    let Unpacked::Good(m) = oldest(b, from) else {
+        channel::take(b, from);
+        return Answer::Went;
+    };
     let at = client_start(i);
     let end = at + client::WORDS;
     let x = client::load(&c[at..end], d as u8, t.f);
@@ -304,10 +327,10 @@ fn stop(t: Settings, d: u32, c: &mut [u64], b: &mut Slots) -> Answer
 fn is_reply(w: Words) -> bool
     ensures { λ r. ⌜ r ≡ isReply (unpackOf (bytesIn w)) ⌝ }
 {
-    match message::of_words(w) {
-        Unpacked::Good(m) => client::is_reply(m),
-        Unpacked::Bad => false,
-    }
+    let Unpacked::Good(m) = message::of_words(w) else {
+        return false;
+    };
+    client::is_reply(m)
 }
 
 // The message goes on its channel, unless there is no room for it (12); to a stopped client it is dropped.

@@ -96,15 +96,12 @@ pub fn send_up(t: Settings, b: &mut Slots, i: usize, s: client::Sends)
     }
 }
 
-// The oldest message of a channel.
-pub fn oldest(b: &Slots, c: usize) -> Message
+// What stands oldest on a channel.
+pub fn oldest(b: &Slots, c: usize) -> Unpacked
     requires { ⌜ c < 156 ⌝ }
     ensures { λ r. ⌜ r ≡ messageAt (now (b .entry)) c ⌝ }
 {
-    match message::of_words(channel::oldest(b, c)) {
-        Unpacked::Good(m) => m,
-        Unpacked::Bad => Message::Done,
-    }
+    message::of_words(channel::oldest(b, c))
 }
 
 // Takes the oldest message off a channel if the reply to it fits; if not, the channel stays as it is.

@@ -16,8 +16,8 @@ use Rattle.channel.proofs.Messages.{counts-fit}
 use Rattle.register.specs.Formats.{formats}
 use Rattle.register.specs.Settings.{isHonest}
 use Rattle.register.specs.World.{World}
+use Rattle.register.specs.WellFormed.{WellFormed}
 use Rattle.register.proofs.Bounds.{bounds}
-use Rattle.register.proofs.WellFormed.{WellFormed}
 use Rattle.server.specs.Memory as server
 use Rattle.server.proofs.Memory.{store-sound}
 use Rattle.client.specs.Sound.{isSoundMemory}

@@ -1,12 +1,14 @@
--- A refused step leaves the state and the lent memory as they were (01: 'state and lent memory keep their
--- contents').
+-- A step of a sound state is the model's event, stored (`sound-step`). And where a step answers with a
+-- refusal, all is as it was (01: 'state and lent memory keep their contents'; `refused-keeps`).
 --
--- No event but a refusal answers with one: what a client takes is shown, written, spent or goes on. A refusal
--- changes no part of the world, and the stored form of a sound state's world is that state.
+-- A refusal changes no part of the world (`nothing`), and the stored form of a sound state's world is that
+-- state. No event but a refusal answers with one: what a client takes is shown, written, spent or goes on
+-- (`refused-event`).
 -- Assumes nothing.
-use mathlib.Core.Path.{_≡_, ap, _∙_}
-use mathlib.Core.Bool.{true}
+use mathlib.Core.Path.{_≡_, refl, sym, ap, _∙_}
+use mathlib.Core.Bool.{true, false}
 use mathlib.Core.List.{List}
+use mathlib.Core.Option.{Option, none, some}
 use Prim.Native.Nat.{ℕ}
 use Rattle.basics.proofs.Cases.{by-test, clash}
 use Rattle.refusal.specs.declared.Refusal.{Refusal}
@@ -15,7 +17,9 @@ use Rattle.register.specs.declared.Answer.{Answer}
 use Rattle.register.specs.declared.Answer.the-variants.{Refused}
 use Rattle.register.specs.declared.Step.{Step}
 use Rattle.register.specs.Client.{Client, Taken}
+use Rattle.register.specs.Formats.{formats}
 use Rattle.register.specs.Settings.{Settings}
+use Rattle.register.specs.Steps.{refusalOf, accepted, decided, eventOf}
 use Rattle.register.specs.World.{World, Event, refuses, begins, serves, takes, stops, lies, apply, answerOf}
 use Rattle.register.specs.World.{nextServers, nextClients, nextStopped, nextUp, nextDown, leavesUp}
 use Rattle.register.specs.World.{leavesDown}
@@ -24,11 +28,12 @@ use Rattle.register.proofs.Dropping.{nothing-put}
 use Rattle.register.proofs.Outcomes.{Outcome, dropped, waits, shows, spends, sends, acks, ends, outcome}
 use Rattle.state.specs.declared.Settings as code
 use Rattle.state.specs.Sound.{isSound}
-use Rattle.state.specs.State.{settingsOf, storeServers, storeClients, storeSlots, view}
+use Rattle.state.specs.State.{settingsOf, stepOf, storeServers, storeClients, storeSlots, view}
 use Rattle.state.proofs.SoundFacts.{facts}
 use Rattle.state.proofs.Restored.{servers-back, clients-back, slots-back}
-use Rattle.steps.specs.Inner.{After, after}
-use Rattle.system.specs.Step.{storedBy, eventIn, stepped}
+use Rattle.steps.specs.Inner.{After, after, unless}
+use Rattle.system.specs.Step.{storedBy, stepped}
+use Rattle.system.proofs.Turn.{eventIn}
 
 module _ (S : Settings) (w : World) where
   -- a client that takes a message does not refuse
@@ -63,21 +68,42 @@ module _ (S : Settings) (w : World) where
         down = λ e j. nothing-put (w .stopped e) (w .down e j) i;
       }
 
-module _ (t : code.Settings) (s c b : List ℕ) (x : Step) (n : Refusal) where
-  sound-keeps : isSound t s c b ≡ true
-      → storedBy t (view s c b) (eventIn t (view s c b) x) .answer ≡ Refused n
-      → storedBy t (view s c b) (eventIn t (view s c b) x) ≡ after (Refused n) s c b
+module _ (t : code.Settings) (s c b : List ℕ) (sound : isSound t s c b ≡ true) where
+  -- the world that the state stands for
+  abbrev w : World
+  w = view s c b
+
+  refusal-stored : (n : Refusal) → storedBy t w (refuses n) ≡ after (Refused n) s c b
   unfolding answerOf
-  sound-keeps sound h =
-      let w = view s c b in
+  refusal-stored n =
       let f = facts t s c b sound in
       let at : World → After = λ v. after (Refused n) (storeServers v) (storeClients v) (storeSlots v) in
-      ap (storedBy t w) (refused-event (settingsOf t) w (eventIn t w x) n h)
-      ∙ ap at (nothing (settingsOf t) w n)
+      ap at (nothing (settingsOf t) w n)
       ∙ (λ q. after (Refused n) (servers-back t s c b f q) (clients-back t s c b f q) (slots-back t s c b f q))
 
-  pub refused-keeps : stepped t s c b x .answer ≡ Refused n → stepped t s c b x ≡ after (Refused n) s c b
+  by-ladder : (o : Option Refusal) (e : Event)
+      → unless o (λ a. after a s c b) (storedBy t w e) ≡ storedBy t w (decided (settingsOf t) formats o e)
+  by-ladder none e = refl
+  by-ladder (some n) e = sym (refusal-stored n)
+
+  pub sound-step : (x : Step) → stepped t s c b x ≡ storedBy t w (eventIn t w x)
+  unfolding stepped eventOf
+  sound-step x =
+      let S = settingsOf t in
+      rw sound (by-ladder (refusalOf S formats w (stepOf x)) (accepted S formats w (stepOf x)))
+
+  sound-keeps : (x : Step) (n : Refusal) → stepped t s c b x .answer ≡ Refused n
+      → stepped t s c b x ≡ after (Refused n) s c b
+  sound-keeps x n h =
+      let e = sound-step x in
+      let same = ap (λ (o : After). o .answer) (sym e) ∙ h in
+      e ∙ ap (storedBy t w) (refused-event (settingsOf t) w (eventIn t w x) n same) ∙ refusal-stored n
+
+module _ (t : code.Settings) (s c b : List ℕ) (x : Step) (n : Refusal) where
+  unsound-keeps : isSound t s c b ≡ false → stepped t s c b x .answer ≡ Refused n
+      → stepped t s c b x ≡ after (Refused n) s c b
   unfolding stepped
-  refused-keeps =
-      by-test (isSound t s c b) (λ e. rw e (sound-keeps e))
-      (λ e. rw e (λ h. ap (λ (a : Answer). after a s c b) h))
+  unsound-keeps e = rw e (λ h. ap (λ (a : Answer). after a s c b) h)
+
+  pub refused-keeps : stepped t s c b x .answer ≡ Refused n → stepped t s c b x ≡ after (Refused n) s c b
+  refused-keeps = by-test (isSound t s c b) (λ e. sound-keeps t s c b e x n) unsound-keeps

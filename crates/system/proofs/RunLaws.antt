@@ -16,9 +16,9 @@ use Rattle.register.specs.Settings.{Accepted}
 use Rattle.register.specs.Steps as model
 use Rattle.register.specs.Steps.{eventOf}
 use Rattle.register.specs.World.{World, newWorld, apply, answerOf}
+use Rattle.register.specs.WellFormed.{WellFormed}
 use Rattle.register.proofs.Formats.{lawful}
 use Rattle.register.proofs.Reachable.{well-formed}
-use Rattle.register.proofs.WellFormed.{WellFormed}
 use Rattle.state.specs.declared.Settings.{Settings}
 use Rattle.state.specs.State.{settingsOf, stepOf, storeServers, storeClients, storeSlots}
 use Rattle.steps.specs.Inner.{After}

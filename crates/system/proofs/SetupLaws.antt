@@ -1,10 +1,12 @@
--- What three numbers set up, test by test; and settings that are accepted are allowed.
+-- What three numbers set up, test by test; settings that are accepted are allowed; and what `set_up` leaves.
 --
 -- Why: numbers of more than eight bits are out of range too (`over-f`, `over-clients`). All others have room in
--- the settings, and for these the tests are the ladder's.
+-- the settings, and for these the tests are the ladder's. What `set_up` leaves is one equation; here are its
+-- parts.
 -- Assumes nothing.
-use mathlib.Core.Path.{_≡_, refl, subst}
+use mathlib.Core.Path.{_≡_, refl, sym, ap, subst, _∙_}
 use mathlib.Core.Bool.{true, false}
+use mathlib.Core.List.{List}
 use mathlib.Core.Option.{Option, none, some}
 use Prim.Native.Nat.{ℕ, _≤_, _<_}
 use native.Mathlib.Omega.{arith}
@@ -16,12 +18,15 @@ use Rattle.refusal.specs.declared.Refusal.the-variants.{BadSettings, TooManyFau
 use Rattle.register.specs.Settings.{setupRefusal, inRange}
 use Rattle.register.specs.Settings as settings
 use Rattle.register.specs.Thresholds.{counted}
+use Rattle.register.specs.World.{newWorld}
 use Rattle.server.specs.State.{contains}
 use Rattle.state.specs.declared.Settings.{Settings}
 use Rattle.state.specs.State.{settingsOf}
 use Rattle.state.proofs.SoundFacts.{Allowed}
+use Rattle.system.specs.declared.setup.Setup.{Setup}
 use Rattle.system.specs.declared.setup.Setup.the-variants.{Set, Refused}
-use Rattle.system.specs.Setup.{settingsBy, unlessRefused, setupOf}
+use Rattle.system.specs.Setup.{settingsBy, unlessRefused, setupOf, SetUp, setUp, setUpBy}
+use Rattle.system.specs.Stored.{Stored}
 
 module _ (f clients faulty : ℕ) where
   -- the settings, as the model has them
@@ -73,3 +78,39 @@ allowed-set f clients faulty t h =
     (settingsBy f clients faulty) t (rw e at h) in
     subst Allowed (p .1) (record { accepted = p .0; marked = ltb-true faulty 8192 e }))
     (λ e. let k = rw e at h in clash (cc))
+
+-- ---- what `set_up` leaves
+
+-- the answer is the setup's
+answer-is : (a : Setup) (s c b : List ℕ) → setUpBy a s c b .answer ≡ a
+unfolding setUpBy
+answer-is (Set t) s c b = refl
+answer-is (Refused n) s c b = refl
+
+module _
+    (a : Setup) (s c b : List ℕ) (r : Setup) (s′ c′ b′ : List ℕ)
+    (e : setUp r s′ c′ b′ ≡ setUpBy a s c b) where
+  pub set-up-answer : r ≡ a
+  set-up-answer = ap (λ (z : SetUp). z .answer) e ∙ answer-is a s c b
+
+  -- where the answer is known
+  known : (k : Setup) → r ≡ k → setUp r s′ c′ b′ ≡ setUpBy k s c b
+  known k is = e ∙ ap (λ (z : Setup). setUpBy z s c b) (sym set-up-answer ∙ is)
+
+  -- accepted: the new world is stored
+  pub set-up-stored : (t : Settings) → r ≡ Set t → Stored newWorld s′ c′ b′
+  unfolding setUpBy
+  set-up-stored t is =
+      let k = known (Set t) is in
+      record {
+        servers = ap (λ (z : SetUp). z .servers) k;
+        clients = ap (λ (z : SetUp). z .clients) k;
+        slots = ap (λ (z : SetUp). z .slots) k;
+      }
+
+  -- refused: all is as it was
+  pub set-up-kept : (n : Refusal) → r ≡ Refused n → (s′ ≡ s) × (c′ ≡ c) × (b′ ≡ b)
+  unfolding setUpBy
+  set-up-kept n is =
+      let k = known (Refused n) is in
+      (ap (λ (z : SetUp). z .servers) k, ap (λ (z : SetUp). z .clients) k, ap (λ (z : SetUp). z .slots) k)

@@ -1,9 +1,9 @@
 -- The code's account of a step of a sound state is the step of the state.
 --
 -- A sound state is the stored form of the world that it stands for (`state`), and that world is well formed; so one turn (`Turn`)
--- is the model's step, stored.
+-- is the model's step, stored, and so is the step of the state (`Refusals.sound-step`).
 -- Assumes nothing.
-use mathlib.Core.Path.{_≡_, sym}
+use mathlib.Core.Path.{_≡_, sym, _∙_}
 use mathlib.Core.Bool.{true}
 use mathlib.Core.List.{List}
 use Prim.Native.Nat.{ℕ}
@@ -17,6 +17,7 @@ use Rattle.state.proofs.Restored.{servers-back, clients-back, slots-back}
 use Rattle.steps.specs.Inner.{After, innerOf}
 use Rattle.system.specs.Step.{stepped}
 use Rattle.system.specs.Stored.{Stored}
+use Rattle.system.proofs.Refusals.{sound-step}
 use Rattle.system.proofs.Turn.{is-stored}
 
 module _ (t : Settings) (s c b : List ℕ) (sound : isSound t s c b ≡ true) where
@@ -33,6 +34,6 @@ module _ (t : Settings) (s c b : List ℕ) (sound : isSound t s c b ≡ true) wh
       }
 
   pub step-law : (x : Step) (o : After) → o ≡ innerOf t s c b x → o ≡ stepped t s c b x
-  unfolding stepped
   step-law x o given =
-      rw sound (is-stored t (f .allowed .accepted) (view s c b) (well-view t s c b f) s c b sound-stored x o given)
+      is-stored t (f .allowed .accepted) (view s c b) (well-view t s c b f) s c b sound-stored x o given
+      ∙ sym (sound-step t s c b sound x)

@@ -8,14 +8,19 @@ use Prim.Native.Nat.{ℕ}
 use Rattle.register.specs.declared.Step.{Step}
 use Rattle.register.specs.Formats.{formats}
 use Rattle.register.specs.Settings.{Accepted}
-use Rattle.register.specs.World.{World, apply, answerOf}
-use Rattle.register.proofs.WellFormed.{WellFormed}
+use Rattle.register.specs.Steps.{eventOf}
+use Rattle.register.specs.World.{World, Event, apply, answerOf}
+use Rattle.register.specs.WellFormed.{WellFormed}
 use Rattle.state.specs.declared.Settings.{Settings}
-use Rattle.state.specs.State.{settingsOf}
+use Rattle.state.specs.State.{settingsOf, stepOf}
 use Rattle.steps.specs.Inner.{After, innerOf}
 use Rattle.steps.proofs.InnerIsModel.{inner-is-model}
-use Rattle.system.specs.Step.{storedBy, eventIn}
+use Rattle.system.specs.Step.{storedBy}
 use Rattle.system.specs.Stored.{Stored}
+
+-- the event of a step in a world
+abbrev pub eventIn : Settings → World → Step → Event
+eventIn t w x = eventOf (settingsOf t) formats w (stepOf x)
 
 -- the memory and the answer that a step leaves
 pub record Turned (t : Settings) (w : World) (x : Step) (o : After) : Type 0 where

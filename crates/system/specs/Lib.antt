@@ -2,3 +2,4 @@ pub mod Stored
 pub mod Setup
 pub mod Run
 pub mod Step
+pub mod Along

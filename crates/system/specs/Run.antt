@@ -15,7 +15,8 @@ use Rattle.register.specs.declared.Answer.{Answer}
 use Rattle.register.specs.declared.Answer.the-variants.{Went, Read, Wrote, Spent, Refused}
 use Rattle.register.specs.declared.Step.{Step}
 use Rattle.register.specs.declared.Step.the-variants.{R, W, K, D, C, L}
-use Rattle.register.specs.Formats.{formats, DemandThree}
+use Rattle.register.specs.DemandThree.{DemandThreeOf}
+use Rattle.register.specs.Formats.{formats}
 use Rattle.register.specs.History.{worldAt, answerAt}
 use Rattle.register.specs.Steps as steps
 use Rattle.system.specs.declared.setup.Setup.{Setup}
@@ -88,5 +89,5 @@ pub record Run (t : Settings) (xs out : List ℕ) (n i : ℕ) (s c b written : L
 abbrev pub Outcome : Setup → (xs out s c b s′ c′ b′ out′ : List ℕ) → Type 0
 Outcome (setup.Set t) xs out s c b s′ c′ b′ out′ =
     Run t xs out (howMany xs out) (howMany xs out) s′ c′ b′ out′
-    × DemandThree (settingsOf t) (stepsIn xs (howMany xs out))
+    × DemandThreeOf (settingsOf t) (stepsIn xs (howMany xs out))
 Outcome (setup.Refused n) xs out s c b s′ c′ b′ out′ = (s′ ≡ s) × (c′ ≡ c) × (b′ ≡ b) × (out′ ≡ out)

@@ -1,21 +1,26 @@
 -- A setup in numbers (01, 'Rehearsal': f, the desks, and one mark for each of 13 keepers).
+--
+-- In order: the settings; what a setup answers; the memory that it leaves.
 -- Assumes nothing.
 use Prim.Native.Nat.{ℕ, _^_}
 use mathlib.Core.Bool.{cond}
+use mathlib.Core.List.{List}
 use mathlib.Core.Option.{Option, none, some}
 use lib.Dec.{ltb}
 use Rattle.refusal.specs.declared.Refusal.{Refusal}
-use Rattle.refusal.specs.declared.Refusal.the-variants.{BadSettings}
+use Rattle.refusal.specs.Numbers.{numbered}
 use Rattle.register.specs.Settings.{marks, setupRefusal}
+use Rattle.register.specs.World.{newWorld}
 use Rattle.system.specs.declared.setup.Setup.{Setup}
 use Rattle.system.specs.declared.setup.Setup.the-variants.{Set, Refused}
 use Rattle.state.specs.declared.Settings.{Settings}
-use Rattle.state.specs.State.{settingsOf}
+use Rattle.state.specs.State.{settingsOf, storeServers, storeClients, storeSlots}
 
 -- f, the number of clients, and the marks as bits, server k's bit k - 1
 abbrev pub settingsBy : ℕ → ℕ → ℕ → Settings
 settingsBy f clients faulty = record { f = f; clients = clients; faulty = faulty }
 
+-- 01's answer: SET with the settings, or REFUSED 1, 'no such room', or 2, 'too many liars'
 abbrev pub unlessRefused : Option Refusal → Settings → Setup
 unlessRefused none t = Set t
 unlessRefused (some n) t = Refused n
@@ -23,6 +28,24 @@ unlessRefused (some n) t = Refused n
 -- a mark beyond the 13 is one beyond n
 unfoldable pub setupOf : ℕ → ℕ → ℕ → Setup
 setupOf f clients faulty =
-    cond (ltb faulty (2 ^ marks))
-    (unlessRefused (setupRefusal (settingsOf (settingsBy f clients faulty))) (settingsBy f clients faulty))
-    (Refused BadSettings)
+    unlessRefused
+    (cond (ltb faulty (2 ^ marks)) (setupRefusal (settingsOf (settingsBy f clients faulty)))
+    (some (numbered 1)))
+    (settingsBy f clients faulty)
+
+-- ---- the memory
+
+-- the answer of a setup, and the memory behind it
+pub record SetUp : Type 0 where
+  pub answer : Setup
+  pub servers : List ℕ
+  pub clients : List ℕ
+  pub slots : List ℕ
+
+abbrev pub setUp : Setup → List ℕ → List ℕ → List ℕ → SetUp
+setUp a s c b = record { answer = a; servers = s; clients = c; slots = b }
+
+-- an accepted setup leaves the new world, which is stored as zeros; a refused one leaves all as it was
+unfoldable pub setUpBy : Setup → List ℕ → List ℕ → List ℕ → SetUp
+setUpBy (Set t) s c b = setUp (Set t) (storeServers newWorld) (storeClients newWorld) (storeSlots newWorld)
+setUpBy (Refused n) s c b = setUp (Refused n) s c b

@@ -1,7 +1,8 @@
--- One step of a state: refused where the state is not sound (3), and otherwise the step of the world that the state stands for.
+-- One step of a state: refused where the state is not sound (3), or where the model refuses it, and otherwise
+-- the model's accepted step of the world that the state stands for. A list of steps is in `Along`.
 --
--- In order: what a step gives; a step; any bytes as the message of L. That a step keeps a state sound, and what a list of
--- steps comes to, is in proofs/Histories.
+-- In order: what a step gives; a step; any bytes as the message of L. That a step of a sound state is the
+-- model's event, stored, is in proofs/Refusals; that it keeps a state sound, in proofs/Histories.
 -- Assumes nothing.
 use Prim.Native.Nat.{ℕ, _^_}
 use mathlib.Core.Bool.{cond}
@@ -9,32 +10,33 @@ use mathlib.Core.List.{List}
 use lib.Dec.{eqb}
 use lib.ListN.{length}
 use Rattle.basics.specs.Bytes.{spelt}
-use Rattle.refusal.specs.declared.Refusal.the-variants.{Unsound}
+use Rattle.refusal.specs.Numbers.{numbered}
 use Rattle.message.specs.declared.Words.{Words}
 use Rattle.message.specs.Layout.{messageBytes, words}
 use Rattle.register.specs.declared.Answer.the-variants.{Refused}
 use Rattle.register.specs.declared.Step.{Step}
 use Rattle.register.specs.Formats.{formats}
-use Rattle.register.specs.Steps.{eventOf}
+use Rattle.register.specs.Steps.{refusalOf, accepted}
 use Rattle.register.specs.World.{World, Event, apply, answerOf}
 use Rattle.state.specs.declared.Settings.{Settings}
 use Rattle.state.specs.Sound.{isSound}
 use Rattle.state.specs.State.{settingsOf, stepOf, storeServers, storeClients, storeSlots, view}
-use Rattle.steps.specs.Inner.{After, after}
+use Rattle.steps.specs.Inner.{After, after, unless}
 
--- an answer, and a world stored
+-- what an event answers, and the next world stored
 abbrev pub storedBy : Settings → World → Event → After
 storedBy t w e =
     after (answerOf (settingsOf t) w e) (storeServers (apply (settingsOf t) w e)) (storeClients (apply (settingsOf t) w e))
     (storeSlots (apply (settingsOf t) w e))
 
--- the event of a step in a world
-abbrev pub eventIn : Settings → World → Step → Event
-eventIn t w x = eventOf (settingsOf t) formats w (stepOf x)
-
+-- an unsound state is refused (3), all as it was; a sound one is refused by the model's ladder, all as it was,
+-- or else takes the model's accepted step, stored
 unfoldable pub stepped : Settings → List ℕ → List ℕ → List ℕ → Step → After
 stepped t s c b x =
-    cond (isSound t s c b) (storedBy t (view s c b) (eventIn t (view s c b) x)) (after (Refused Unsound) s c b)
+    cond (isSound t s c b)
+    (unless (refusalOf (settingsOf t) formats (view s c b) (stepOf x)) (λ a. after a s c b)
+    (storedBy t (view s c b) (accepted (settingsOf t) formats (view s c b) (stepOf x))))
+    (after (Refused (numbered 3)) s c b)
 
 -- ---- a message of L
 

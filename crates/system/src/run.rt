@@ -10,7 +10,6 @@ ghost use Rattle.system.specs.Stored.{Stored};
 ghost use Rattle.system.specs.Run.{narrowed, stepBy, stepIn, codeOf, shownBy, putAnswer, Run, Outcome};
 use crate::setup::Setup;
 use crate::setup::set_up;
-use crate::setup::settings_of;
 use basics::least;
 use channel::Slots;
 use message::Entry;
@@ -139,12 +138,11 @@ pub fn run(
         (now (s .entry)) (now (c .entry)) (now (b .entry))
         (now (s .exit)) (now (c .exit)) (now (b .exit)) (now (out .exit)) ⌝ }
 {
-    let setup = settings_of(f, clients, faulty);
+    let setup = set_up(f, clients, faulty, s, c, b);
     match setup {
         Setup::Refused(_) => {}
         Setup::Set(t) => {
             let n = least(steps.len() / STEP, out.len() / ANSWER);
-            set_up(s, c, b);
             take_all(t, steps, n, out, s, c, b);
         }
     }

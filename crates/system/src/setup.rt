@@ -1,8 +1,7 @@
-// The setup: settings checked, by the tests that a sound state's settings pass too, and the state at the start.
+// The setup: settings checked, by the tests that a sound state's settings pass too, and the state at the
+// start. `set_up` is the one entry.
 ghost use mathlib.Core.Path.{_≡_};
-ghost use Rattle.register.specs.World.{newWorld};
-ghost use Rattle.system.specs.Setup.{setupOf};
-ghost use Rattle.system.specs.Stored.{Stored};
+ghost use Rattle.system.specs.Setup.{setupOf, setUp, setUpBy};
 use channel::Slots;
 use refusal::Refusal;
 use state::Clients;
@@ -24,7 +23,7 @@ const OVER_MARKS: u32 = 8192;
 const HIGHEST: u32 = 255;
 
 // The settings that three numbers are, or why they are refused: 1, 2. A number that has no room in the settings is refused 1.
-pub fn settings_of(f: u32, clients: u32, faulty: u32) -> Setup
+fn settings_of(f: u32, clients: u32, faulty: u32) -> Setup
     ensures { λ r. ⌜ r ≡ setupOf f clients faulty ⌝ }
 {
     if OVER_MARKS <= faulty {
@@ -52,11 +51,26 @@ pub fn settings_of(f: u32, clients: u32, faulty: u32) -> Setup
     }
 }
 
-// The state at setup: all zero.
-pub fn set_up(s: &mut Servers, c: &mut Clients, b: &mut Slots)
-    ensures { λ _. ⌜ Stored newWorld (now (s .exit)) (now (c .exit)) (now (b .exit)) ⌝ }
+// A setup: refused (1, 2) with the memory as it was, or accepted with all zero, the state at setup.
+pub fn set_up(
+    f: u32,
+    clients: u32,
+    faulty: u32,
+    s: &mut Servers,
+    c: &mut Clients,
+    b: &mut Slots,
+) -> Setup
+    ensures { λ r. ⌜ setUp r (now (s .exit)) (now (c .exit)) (now (b .exit))
+        ≡ setUpBy (setupOf f clients faulty) (now (s .entry)) (now (c .entry)) (now (b .entry)) ⌝ }
 {
-    *s = [0u64; 26];
-    *c = [0u64; 571];
-    *b = [0u64; 2652];
+    let setup = settings_of(f, clients, faulty);
+    match setup {
+        Setup::Refused(_) => {}
+        Setup::Set(_) => {
+            *s = [0u64; 26];
+            *c = [0u64; 571];
+            *b = [0u64; 2652];
+        }
+    }
+    setup
 }

@@ -1,4 +1,5 @@
--- `days_before`: both rows are tested against the rule at once, and `row-entry` carries the test to the entry that is read.
+-- `days_before`: both rows are tested against the rule at once, and `row-entry` carries the test to the entry
+-- that is read.
 use mathlib.Core.Path.{_≡_, refl, ap}
 use mathlib.Core.Bool.{Bool, true, false}
 use Prim.Native.Nat.{ℕ, _<_}
@@ -20,20 +21,11 @@ row-back : (b : Bool) → eqb (boolByte b) 1 ≡ b
 row-back true = refl
 row-back false = refl
 
-cast-result : tie.Need-cast-result
-cast-result c = search needs
-
 mul-result : tie.Need-mul-result
 mul-result c = omega (arith, row-less (c .args .leap))
 
-mul-result-2 : tie.Need-mul-result-2
-mul-result-2 c = search needs
-
 index-1-result : tie.Need-index-1-result
 index-1-result c = omega (arith, row-less (c .args .leap))
-
-index-2-result : tie.Need-index-2-result
-index-2-result c = search needs
 
 returns : tie.Need-returns
 unfolding daysBefore monthLength
@@ -42,8 +34,11 @@ returns c =
     let row : boolByte (a .leap) < 2 = row-less (a .leap) in
     let place : a .place < 12 = c .before .pre in
     let tested : true ≡ true = refl in
-    rw (row-entry (λ (i k : ℕ). daysBefore (eqb i 1) k) 12) (ap (λ (b : Bool). daysBefore b (a .place)) (row-back (a .leap)))
+    rw (row-entry (λ (i k : ℕ). daysBefore (eqb i 1) k) 12)
+    (ap (λ (b : Bool). daysBefore b (a .place)) (row-back (a .leap)))
 
 pub days-before-spec : {M : Type 1} → statement M
 days-before-spec =
-    tie.close (tie.spec cast-result mul-result mul-result-2 index-1-result index-2-result returns)
+    tie.close
+    (tie.spec
+    (λ c. search needs) mul-result (λ c. search needs) index-1-result (λ c. search needs) returns)

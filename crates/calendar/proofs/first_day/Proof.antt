@@ -1,4 +1,5 @@
--- `first_day`: all 300 entries are tested against the rule at once, and `entry` carries the test to the one that is read.
+-- `first_day`: all 300 entries are tested against the rule at once, and `entry` carries the test to the one
+-- that is read.
 use Prim.Native.Nat.{_<_}
 use mathlib.Core.Path.{_≡_, refl}
 use mathlib.Core.Bool.{true}
@@ -8,12 +9,6 @@ use Rattle.calendar.specs.Calendar.{leap, yearLength, firstDay}
 use Rattle.calendar.proofs.first_day.Statement.{statement}
 use Rattle.calendar.proofs.first_day.Tie as tie
 
-mul-result : tie.Need-mul-result
-mul-result c = search needs
-
-array-read-result : tie.Need-array-read-result
-array-read-result c = search needs
-
 returns : tie.Need-returns
 unfolding firstDay yearLength leap
 returns c =
@@ -22,4 +17,4 @@ returns c =
     rw (entry firstDay)
 
 pub first-day-spec : {M : Type 1} → statement M
-first-day-spec = tie.close (tie.spec mul-result array-read-result returns)
+first-day-spec = tie.close (tie.spec (λ c. search needs) (λ c. search needs) returns)

@@ -20,21 +20,18 @@ returns-2 c = sym (no-date (λ r. ⊎-elim (λ w. omega arith) (λ w. omega (ari
 returns-3 : tie.Need-returns-3
 returns-3 c = sym (no-date (λ r. omega arith))
 
-is-leap-requires : tie.Need-is-leap-requires
-is-leap-requires c κs = search needs
-
-month-length-requires : tie.Need-month-length-requires
-month-length-requires c κs = search needs
-
 returns-4 : tie.Need-returns-4
 returns-4 c =
-    let a = c .before .before .before .before .before .before .before .args in
-    let e : leb (a .day) (c .month-length .result) ≡ leb (a .day) (monthLength (leap (a .year)) (a .month)) = cc in
-    let before-2200 : a .year ≤ 2199 = ltb-false _ _ (c .before .before .before .before .before .if2 .left) in
-    let to-december : a .month ≤ 12 = ltb-false _ _ (c .before .before .before .if4 .left) in
+    let months = c .before .before .before in
+    let years = months .before .before in
+    let a = years .before .before .args in
+    let e : leb (a .day) (c .month-length .result) ≡ leb (a .day) (monthLength (leap (a .year)) (a .month)) =
+    cc in
+    let before-2200 : a .year ≤ 2199 = ltb-false _ _ (years .if2 .left) in
+    let to-december : a .month ≤ 12 = ltb-false _ _ (months .if4 .left) in
     e ∙ sym (last-test (omega arith) before-2200 (omega arith) to-december (omega arith))
 
 pub is-date-spec : {M : Type 1} → statement M
 is-date-spec =
     tie.close
-    (tie.spec returns returns-2 returns-3 is-leap-requires month-length-requires returns-4)
+    (tie.spec returns returns-2 returns-3 (λ c κs. search needs) (λ c κs. search needs) returns-4)

@@ -6,7 +6,7 @@ use mathlib.Core.List.{List}
 use native.Mathlib.Omega.{arith}
 use borrow.Author.Needs.{needs}
 use borrow.Author.Tests.{not-true, not-false}
-use Rattle.basics.specs.Tests.{all, allBelow}
+use Rattle.basics.specs.Tests.{allPass, allBelow}
 use Rattle.basics.proofs.Tests.{below-fails}
 use Rattle.channel.specs.Sound.{channelTests, sound}
 use Rattle.channel.proofs.Passing.{none-pass, more-pass}
@@ -14,7 +14,7 @@ use Rattle.channel.proofs.is_sound.Statement.{statement}
 use Rattle.channel.proofs.is_sound.Tie as tie
 
 abbrev passes : List ℕ → ℕ → Bool
-passes b i = all (channelTests b i)
+passes b i = allPass (channelTests b i)
 
 abbrev Inv-loop : tie.InvT-loop
 Inv-loop b i₀ i = (i ≤ 156) × (allBelow (passes b) i ≡ true)

@@ -7,7 +7,7 @@ use mathlib.Core.Bool.{true, false}
 use mathlib.Core.List.{List, []}
 use native.Mathlib.Omega.{arith}
 use lib.ListN.{length, replicate}
-use borrow.Author.Tests.{eq-eqb, ne-eqb, not-true, not-false}
+use borrow.Author.Tests.{eqb-true, not-true, not-false}
 use Rattle.message.specs.declared.Pair.{Pair}
 use Rattle.register.specs.declared.Answer.the-variants.{Wrote}
 use Rattle.register.specs.declared.Phase.{Phase}
@@ -30,12 +30,6 @@ use borrow.Author.Needs.{needs}
 use Rattle.client.proofs.acknowledged.Statement.{statement}
 use Rattle.client.proofs.acknowledged.Tie as tie
 
-enum-known-ph : tie.Need-enum-known-ph
-enum-known-ph c = search needs
-
-goes-on-requires : tie.Need-goes-on-requires
-goes-on-requires c = search needs
-
 returns : tie.Need-returns
 returns c =
     let s = c .before .before .before in
@@ -44,25 +38,16 @@ returns c =
     ∙ sym (ack-dropped (a .c) (a .r .now) (a .k) (a .a)
     (not-storing (a .c .phase) (a .a) (c .before .match .keys2)))
 
-goes-on-requires-2 : tie.Need-goes-on-requires-2
-goes-on-requires-2 c = search needs
-
 returns-2 : tie.Need-returns-2
 unfolding isStoring
 returns-2 c =
-    let s = c .before .before .before .before .before .before .before .before in
+    let s = c .before .before .before .before .before .before .before in
     let a = s .args in
     let other : isStoring (a .c .phase) (a .a) ≡ false =
-    ap (λ (ph : Phase). isStoring ph (a .a)) (c .before .before .before .before .before .ph .given .1)
-    ∙ ne-eqb _ (a .a .0) (λ e. omega (arith, e, c .before .if1 .taken)) in
+    ap (λ (ph : Phase). isStoring ph (a .a)) (c .before .before .before .before .ph .given .1)
+    ∙ sym (c .before .before .same-counter .ensures) ∙ not-true _ (c .before .if1 .taken) in
     ap (λ (t : Took). after t (a .r .now)) (c .goes-on2 .ensures) ∙ goes-on (a .c) (a .r .now) (s .pre .0)
     ∙ sym (ack-dropped (a .c) (a .r .now) (a .k) (a .a) other)
-
-sub-acknowledge : tie.Need-sub-acknowledge
-sub-acknowledge c = search needs
-
-cast-acknowledge : tie.Need-cast-acknowledge
-cast-acknowledge c = search needs
 
 place : (c : tie.Start) → c .args .k - 1 < 13
 place c =
@@ -74,12 +59,12 @@ long c = of-memory (c .args .c) (c .args .r .now) (c .pre .0) .long
 
 acknowledge-requires : tie.Need-acknowledge-requires
 acknowledge-requires c κs = (
-  long (c .before .before .before .before .before .before .before .before),
-  place (c .before .before .before .before .before .before .before .before),
+  long (c .before .before .before .before .before .before .before),
+  place (c .before .before .before .before .before .before .before),
 )
 
 abbrev at-acknowledge : tie.After-acknowledge → tie.Start
-at-acknowledge c = c .before .before .before .before .before .before .before .before .before
+at-acknowledge c = c .before .before .before .before .before .before .before .before
 
 -- once it is noted: the state is sound, and shows the acknowledgement
 keeps : (c : tie.After-acknowledge)
@@ -91,7 +76,7 @@ keeps c =
     let a = s .args in
     ap (isSound (a .c)) (c .acknowledge .ensures)
     ∙ ack-keeps (a .c) (a .r .now) (a .k - 1) (s .pre .0) (omega (arith, s .pre .1))
-    (ap stores (c .before .before .before .before .before .before .ph .given .1))
+    (ap stores (c .before .before .before .before .before .ph .given .1))
 
 shown : (c : tie.After-acknowledge)
     → view (at-acknowledge c .args .c)
@@ -113,8 +98,8 @@ this-write : (c : tie.After-acknowledge)
 unfolding isStoring
 this-write c =
     let a = at-acknowledge c .args in
-    ap (λ (ph : Phase). isStoring ph (a .a)) (c .before .before .before .before .before .before .ph .given .1)
-    ∙ eq-eqb _ _ (c .before .before .if1 .left)
+    ap (λ (ph : Phase). isStoring ph (a .a)) (c .before .before .before .before .before .ph .given .1)
+    ∙ sym (c .before .before .before .same-counter .ensures) ∙ not-false _ (c .before .before .if1 .left)
 
 acknowledged-requires : tie.Need-acknowledged-requires
 acknowledged-requires c κs =
@@ -123,15 +108,6 @@ acknowledged-requires c κs =
       of-memory x (c .before .before .before .acknowledge .last .0) (keeps (c .before .before .before)) .long,
       client-facts x (of-client x (s .args .r .now) (s .pre .0)) .few,
     )
-
-is-enough-requires : tie.Need-is-enough-requires
-is-enough-requires c = search needs
-
-goes-on-requires-3 : tie.Need-goes-on-requires-3
-goes-on-requires-3 c = search needs
-
-same-length : tie.Need-same-length
-same-length c = search needs
 
 abbrev at-is-enough : tie.After-is-enough → tie.Start
 at-is-enough c = at-acknowledge (c .before .before .before .before .before)
@@ -170,14 +146,11 @@ pair-of-requires c κs =
     let a = s .args in
     let f = client-facts (a .c) (of-client (a .c) (a .r .now) (s .pre .0)) in
     let fits = storing-fits (a .c .phase) _ _
-    (d .before .before .before .before .before .before .ph .given .1) (f .phase) in
-    (omega (arith, fits .1, d .before .before .if1 .left), omega (arith, f .high), fits .0)
-
-ends-requires : tie.Need-ends-requires
-ends-requires c = search needs
-
-same-length-2 : tie.Need-same-length-2
-same-length-2 c = search needs
+    (d .before .before .before .before .before .ph .given .1) (f .phase) in
+    let same = eqb-true (d .before .before .before .before .before .ph .given .0 .1 .0 .0) (a .a .0)
+    (sym (d .before .before .before .same-counter .ensures)
+    ∙ not-false _ (d .before .before .if1 .left)) in
+    (omega (arith, fits .1, same), omega (arith, f .high), fits .0)
 
 returns-4 : tie.Need-returns-4
 returns-4 c =
@@ -186,7 +159,7 @@ returns-4 c =
     let s = at-acknowledge d in
     let a = s .args in
     let m = d .acknowledge .last .0 in
-    let ph = d .before .before .before .before .before .before .ph .given .1 in
+    let ph = d .before .before .before .before .before .ph .given .1 in
     let enough-now = sym (enough-is (c .before .before .before .before .before .before .before))
     ∙ not-false _ (c .before .before .before .before .before .before .if2 .left) in
     ap (λ (l : List ℕ). after (c .ends .result) l) (c .before .before .before .before .clear .ensures)
@@ -205,21 +178,7 @@ pub acknowledged-spec : {M : Type 1} → statement M
 acknowledged-spec =
     tie.close
     (tie.spec
-    enum-known-ph
-    goes-on-requires
-    returns
-    goes-on-requires-2
-    returns-2
-    sub-acknowledge
-    cast-acknowledge
-    acknowledge-requires
-    acknowledged-requires
-    is-enough-requires
-    goes-on-requires-3
-    same-length
-    returns-3
-    clear-requires
-    pair-of-requires
-    ends-requires
-    same-length-2
-    returns-4)
+    (λ c. search needs) (λ c. search needs) returns (λ c κs. search needs) (λ c. search needs)
+    returns-2 (λ c. search needs) (λ c. search needs) acknowledge-requires acknowledged-requires
+    (λ c. search needs) (λ c. search needs) (λ c. search needs) returns-3 clear-requires
+    pair-of-requires (λ c. search needs) (λ c. search needs) returns-4)

@@ -25,11 +25,5 @@ pub code-of-spec : {M : Type 1} → statement M
 code-of-spec =
     tie.close
     (tie.spec
-    (search needs)
-    (search needs)
-    (search needs)
-    (search needs)
-    returns
-    returns-2
-    returns-3
+    (search needs) (search needs) (search needs) (search needs) returns returns-2 returns-3
     returns-4)

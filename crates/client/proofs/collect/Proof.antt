@@ -8,25 +8,13 @@ use borrow.Author.Needs.{needs}
 use Rattle.client.proofs.collect.Statement.{statement}
 use Rattle.client.proofs.collect.Tie as tie
 
-enum-known-m : tie.Need-enum-known-m
-enum-known-m c = search needs
-
 collect-fwd-requires : tie.Need-collect-fwd-requires
 collect-fwd-requires c κs =
     let s = c .before .before .before in
     (s .pre .0, s .pre .1, s .pre .2, not-info (s .args .m) (c .before .match .keys2))
 
-same-length : tie.Need-same-length
-same-length c = search needs
-
 returns : tie.Need-returns
 returns c = c .before .before .collect-fwd .ensures
-
-info-requires : tie.Need-info-requires
-info-requires c = search needs
-
-same-length-2 : tie.Need-same-length-2
-same-length-2 c = search needs
 
 returns-2 : tie.Need-returns-2
 returns-2 c =
@@ -39,10 +27,5 @@ pub collect-spec : {M : Type 1} → statement M
 collect-spec =
     tie.close
     (tie.spec
-    enum-known-m
-    collect-fwd-requires
-    same-length
-    returns
-    info-requires
-    same-length-2
-    returns-2)
+    (λ c. search needs) collect-fwd-requires (λ c. search needs) returns (λ c. search needs)
+    (λ c. search needs) returns-2)

@@ -9,21 +9,12 @@ use borrow.Author.Needs.{needs}
 use Rattle.client.proofs.collect_fwd.Statement.{statement}
 use Rattle.client.proofs.collect_fwd.Tie as tie
 
-enum-known-m : tie.Need-enum-known-m
-enum-known-m c = search needs
-
 returns : tie.Need-returns
 returns c =
     let s = c .before .before in
     let a = s .args in
     not-collected (a .c) (a .r .now) (a .k) (a .m)
     (no-pair (a .c) (a .r .now) (a .k) (a .m) (c .match .keys2) (s .pre .3)) (s .pre .0)
-
-forwarded-requires : tie.Need-forwarded-requires
-forwarded-requires c = search needs
-
-same-length : tie.Need-same-length
-same-length c = search needs
 
 returns-2 : tie.Need-returns-2
 returns-2 c =
@@ -33,4 +24,7 @@ returns-2 c =
     (sym (c .before .before .before .before .before .m .given .1)) (f .ensures)
 
 pub collect-fwd-spec : {M : Type 1} → statement M
-collect-fwd-spec = tie.close (tie.spec enum-known-m returns forwarded-requires same-length returns-2)
+collect-fwd-spec =
+    tie.close
+    (tie.spec
+    (λ c. search needs) returns (λ c. search needs) (λ c. search needs) returns-2)

@@ -17,21 +17,6 @@ use borrow.Author.Needs.{needs}
 use Rattle.client.proofs.conclude.Statement.{statement}
 use Rattle.client.proofs.conclude.Tie as tie
 
-enum-told : tie.Need-enum-told
-enum-told c = search needs
-
-goes-on-requires : tie.Need-goes-on-requires
-goes-on-requires c = search needs
-
-enum-told-2 : tie.Need-enum-told-2
-enum-told-2 c = search needs
-
-ends-requires : tie.Need-ends-requires
-ends-requires c = search needs
-
-enum-known-ph : tie.Need-enum-known-ph
-enum-known-ph c = search needs
-
 -- the outcome in a phase
 by-phase : (c : tie.Start) → Phase → After
 by-phase c ph =
@@ -40,12 +25,6 @@ by-phase c ph =
 
 store-next-requires : tie.Need-store-next-requires
 store-next-requires c κs = (c .before .before .before .pre, c .before .ph .given .1)
-
-enum-told-3 : tie.Need-enum-told-3
-enum-told-3 c = search needs
-
-goes-on-requires-2 : tie.Need-goes-on-requires-2
-goes-on-requires-2 c = search needs
 
 returns : tie.Need-returns
 unfolding concluded by-phase
@@ -59,7 +38,8 @@ returns-2 : tie.Need-returns-2
 unfolding concluded by-phase
 returns-2 c =
     let s = c .before .before .before in
-    ap (λ (t : Took). after t (replicate 91 0)) (c .ends .ensures) ∙ empties (s .args .c) Idle Done (Read (s .args .p))
+    ap (λ (t : Took). after t (replicate 91 0)) (c .ends .ensures)
+    ∙ empties (s .args .c) Idle Done (Read (s .args .p))
     ∙ ap (by-phase s) (sym (c .before .enum-told2 .given .1))
 
 returns-3 : tie.Need-returns-3
@@ -79,15 +59,5 @@ pub conclude-spec : {M : Type 1} → statement M
 conclude-spec =
     tie.close
     (tie.spec
-    enum-told
-    goes-on-requires
-    enum-told-2
-    ends-requires
-    enum-known-ph
-    store-next-requires
-    enum-told-3
-    goes-on-requires-2
-    returns
-    returns-2
-    returns-3
-    returns-4)
+    (search needs) (search needs) (search needs) (search needs) (search needs) store-next-requires
+    (search needs) (search needs) returns returns-2 returns-3 returns-4)

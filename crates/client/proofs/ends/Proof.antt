@@ -4,11 +4,8 @@ use borrow.Author.Needs.{needs}
 use Rattle.client.proofs.ends.Statement.{statement}
 use Rattle.client.proofs.ends.Tie as tie
 
-in-phase-requires : tie.Need-in-phase-requires
-in-phase-requires c = search needs
-
 returns : tie.Need-returns
 returns c = rw (c .in-phase .ensures)
 
 pub ends-spec : {M : Type 1} → statement M
-ends-spec = tie.close (tie.spec in-phase-requires returns)
+ends-spec = tie.close (tie.spec (λ c. search needs) returns)

@@ -27,11 +27,5 @@ pub entry-of-spec : {M : Type 1} → statement M
 entry-of-spec =
     tie.close
     (tie.spec
-    (search needs)
-    (search needs)
-    (search needs)
-    (search needs)
-    returns
-    returns-2
-    returns-3
+    (search needs) (search needs) (search needs) (search needs) returns returns-2 returns-3
     returns-4)

@@ -28,9 +28,6 @@ copied-requires c κs =
     let s = c .before in
     of-memory (s .args .c) (s .args .r .now) (s .pre .0) .long
 
-slice-aggregate-collect : tie.Need-slice-aggregate-collect
-slice-aggregate-collect c = search needs
-
 collect-requires : tie.Need-collect-requires
 collect-requires c κs =
     let s = c .before .before .before in
@@ -63,21 +60,12 @@ returns c =
     (sym (d .collect .ensures .told) ∙ not-true _ (c .if1 .taken)))
     ∙ ap (λ (x : After). x .sends) (from-copy d)
 
-slice-aggregate-choose : tie.Need-slice-aggregate-choose
-slice-aggregate-choose c = search needs
-
 choose-requires : tie.Need-choose-requires
 choose-requires c κs =
     let d = c .before .before .before in
     let x = at-collect d .args .c in
     let h = d .collect .ensures .sound in
     (of-memory x (trial d) h .long, client-facts x (of-client x (trial d) h) .few)
-
-enum-known-p : tie.Need-enum-known-p
-enum-known-p c = search needs
-
-enum-told : tie.Need-enum-told
-enum-told c = search needs
 
 abbrev at-choose : tie.After-choose → tie.After-collect
 at-choose c = c .before .before .before .before
@@ -134,14 +122,5 @@ pub foreseen-spec : {M : Type 1} → statement M
 foreseen-spec =
     tie.close
     (tie.spec
-    copied-requires
-    slice-aggregate-collect
-    collect-requires
-    returns
-    slice-aggregate-choose
-    choose-requires
-    enum-known-p
-    enum-told
-    returns-2
-    conclude-requires
-    returns-3)
+    copied-requires (λ c. search needs) collect-requires returns (λ c. search needs) choose-requires
+    (λ c. search needs) (λ c. search needs) returns-2 conclude-requires returns-3)

@@ -19,9 +19,6 @@ use borrow.Author.Needs.{needs}
 use Rattle.client.proofs.forwarded.Statement.{statement}
 use Rattle.client.proofs.forwarded.Tie as tie
 
-is-reading-requires : tie.Need-is-reading-requires
-is-reading-requires c = search needs
-
 returns : tie.Need-returns
 unfolding isCollected
 returns c =
@@ -29,12 +26,6 @@ returns c =
     let a = s .args in
     not-collected (a .c) (a .r .now) (a .k) (Fwd (a .p))
     (sym (c .before .is-reading .ensures) ∙ not-true _ (c .if1 .taken)) (s .pre .0)
-
-sub-insert : tie.Need-sub-insert
-sub-insert c = search needs
-
-cast-insert : tie.Need-cast-insert
-cast-insert c = search needs
 
 -- the server's place
 place : (c : tie.Start) → c .args .k - 1 < 13
@@ -52,9 +43,6 @@ insert-requires c κs =
       padded (size (a .c .f)) (isReading (a .c .phase)) (stores (a .c .phase)) (a .r .now) m (a .k - 1)
           (place s),
     )
-
-same-length : tie.Need-same-length
-same-length c = search needs
 
 returns-2 : tie.Need-returns-2
 unfolding isCollected withReply
@@ -77,10 +65,4 @@ pub forwarded-spec : {M : Type 1} → statement M
 forwarded-spec =
     tie.close
     (tie.spec
-    is-reading-requires
-    returns
-    sub-insert
-    cast-insert
-    insert-requires
-    same-length
-    returns-2)
+    (search needs) returns (search needs) (search needs) insert-requires (search needs) returns-2)

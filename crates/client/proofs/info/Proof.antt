@@ -6,7 +6,7 @@ use mathlib.Core.Path.{_≡_, sym, ap, _∙_}
 use mathlib.Core.Bool.{true, false}
 use mathlib.Core.List.{List}
 use native.Mathlib.Omega.{arith}
-use borrow.Author.Tests.{eq-eqb, ne-eqb, not-true, not-false}
+use borrow.Author.Tests.{not-true, not-false}
 use Rattle.message.specs.declared.Message.the-variants.{Info}
 use Rattle.message.specs.Pair.{stamp}
 use Rattle.message.proofs.Pairs.{stamp-fits}
@@ -24,9 +24,6 @@ use borrow.Author.Needs.{needs}
 use Rattle.client.proofs.info.Statement.{statement}
 use Rattle.client.proofs.info.Tie as tie
 
-is-reading-requires : tie.Need-is-reading-requires
-is-reading-requires c = search needs
-
 returns : tie.Need-returns
 returns c =
     let s = c .before .before .before in
@@ -37,20 +34,13 @@ returns c =
 
 returns-2 : tie.Need-returns-2
 returns-2 c =
-    let s = c .before .before .before .before .before .before in
+    let s = c .before .before .before .before .before in
     let a = s .args in
     let reading : isReading (a .c .phase) ≡ true =
-    sym (c .before .before .before .before .is-reading .ensures)
-    ∙ not-false _ (c .before .before .before .if1 .left) in
-    let other = ne-eqb (a .t .0) (a .c .reads .0) (λ e. omega (arith, e, c .if2 .taken)) in
+    sym (c .before .before .before .is-reading .ensures) ∙ not-false _ (c .before .before .if1 .left) in
+    let other = sym (c .before .same-read .ensures) ∙ not-true _ (c .if2 .taken) in
     not-collected (a .c) (a .r .now) (a .k) (Info (a .t) (a .p))
     (info-old (a .c) (a .r .now) (a .k) (a .t) (a .p) reading other) (s .pre .0)
-
-sub-i : tie.Need-sub-i
-sub-i c = search needs
-
-cast-i : tie.Need-cast-i
-cast-i c = search needs
 
 -- the server's place and number
 place : (c : tie.Start) → c .args .k - 1 < 13
@@ -69,37 +59,32 @@ fits c = search needs
 
 is-noted-requires : tie.Need-is-noted-requires
 is-noted-requires c κs =
-    let s = c .before .before .before .before .before .before .before in
+    let s = c .before .before .before .before .before .before in
     (long s, place s)
-
-same-length : tie.Need-same-length
-same-length c = search needs
 
 returns-3 : tie.Need-returns-3
 returns-3 c =
-    let s = c .before .before .before .before .before .before .before .before .before in
+    let s = c .before .before .before .before .before .before .before .before in
     let a = s .args in
     let reading : isReading (a .c .phase) ≡ true =
-    sym (c .before .before .before .before .before .before .before .is-reading .ensures)
-    ∙ not-false _ (c .before .before .before .before .before .before .if1 .left) in
+    sym (c .before .before .before .before .before .before .is-reading .ensures)
+    ∙ not-false _ (c .before .before .before .before .before .if1 .left) in
     let noted : isNoted (notedIn (a .r .now) (a .k)) ≡ true =
     ap (λ (j : ℕ). isNoted (notedIn (a .r .now) j)) (sym (number s)) ∙ sym (c .before .is-noted .ensures)
     ∙ c .if3 .taken in
-    let tag = eq-eqb _ _ (c .before .before .before .if2 .left) in
+    let tag = sym (c .before .before .before .before .same-read .ensures)
+    ∙ not-false _ (c .before .before .before .if2 .left) in
     not-collected (a .c) (a .r .now) (a .k) (Info (a .t) (a .p))
     (info-again (a .c) (a .r .now) (a .k) (a .t) (a .p) reading tag noted) (s .pre .0)
-
-stamp-of-requires : tie.Need-stamp-of-requires
-stamp-of-requires c = search needs
 
 note-requires : tie.Need-note-requires
 note-requires c κs =
     let d = c .before in
-    let s = d .before .before .before .before .before .before .before .before .before .before in
+    let s = d .before .before .before .before .before .before .before .before .before in
     (long s, place s)
 
 abbrev at-note : tie.After-note → tie.Start
-at-note c = c .before .before .before .before .before .before .before .before .before .before .before .before
+at-note c = c .before .before .before .before .before .before .before .before .before .before .before
 
 -- the memory with the timestamp noted
 noted-is : (c : tie.After-note)
@@ -111,7 +96,7 @@ noted-is c =
 
 reads-on : (c : tie.After-note) → isReading (at-note c .args .c .phase) ≡ true
 reads-on c =
-    let d = c .before .before .before .before .before .before .before .before .before in
+    let d = c .before .before .before .before .before .before .before .before in
     sym (d .before .is-reading .ensures) ∙ not-false _ (d .if1 .left)
 
 insert-requires : tie.Need-insert-requires
@@ -142,9 +127,6 @@ informed-is c =
     c .insert .ensures
     ∙ ap (λ (m : List ℕ). paired m (a .k - 1) (a .p)) (noted-is (c .before .before .before .before))
 
-same-length-2 : tie.Need-same-length-2
-same-length-2 c = search needs
-
 returns-4 : tie.Need-returns-4
 unfolding withReply
 returns-4 c =
@@ -155,7 +137,8 @@ returns-4 c =
     let noted : isNoted (notedIn (a .r .now) (a .k)) ≡ false =
     ap (λ (j : ℕ). isNoted (notedIn (a .r .now) j)) (sym (number s))
     ∙ sym (d .before .before .before .before .is-noted .ensures) ∙ d .before .before .before .if3 .left in
-    let tag = eq-eqb _ _ (d .before .before .before .before .before .before .if2 .left) in
+    let at-if2 = d .before .before .before .before .before .before in
+    let tag = sym (at-if2 .before .same-read .ensures) ∙ not-false _ (at-if2 .if2 .left) in
     collected (a .c) (a .r .now) (a .k) (Info (a .t) (a .p)) (x .insert .last .0)
     (info-taken (a .c) (a .r .now) (a .k) (a .t) (a .p) (reads-on d) tag noted)
     (ap (view (a .c)) (informed-is x) ∙ info-shown (a .c) (a .r .now) (a .k - 1) (long s) (place s) (a .p)
@@ -168,16 +151,6 @@ pub info-spec : {M : Type 1} → statement M
 info-spec =
     tie.close
     (tie.spec
-    is-reading-requires
-    returns
-    returns-2
-    sub-i
-    cast-i
-    is-noted-requires
-    same-length
-    returns-3
-    stamp-of-requires
-    note-requires
-    insert-requires
-    same-length-2
-    returns-4)
+    (λ c. search needs) returns (λ c κs. search needs) returns-2 (λ c. search needs)
+    (λ c. search needs) is-noted-requires (λ c. search needs) returns-3 (λ c. search needs)
+    note-requires insert-requires (λ c. search needs) returns-4)

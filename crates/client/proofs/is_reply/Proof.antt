@@ -1,27 +1,11 @@
--- `is_reply`: by cases.
+-- `is_reply`: kind by kind; what is none of the three is not.
 -- Assumes nothing.
+use mathlib.Core.Path.{sym}
 use Rattle.register.specs.Steps.{isReply}
+use Rattle.client.proofs.Others.{not-reply}
 use borrow.Author.Needs.{needs}
 use Rattle.client.proofs.is_reply.Statement.{statement}
 use Rattle.client.proofs.is_reply.Tie as tie
-
-enum-told : tie.Need-enum-told
-enum-told c = search needs
-
-enum-told-2 : tie.Need-enum-told-2
-enum-told-2 c = search needs
-
-enum-told-3 : tie.Need-enum-told-3
-enum-told-3 c = search needs
-
-enum-told-4 : tie.Need-enum-told-4
-enum-told-4 c = search needs
-
-enum-told-5 : tie.Need-enum-told-5
-enum-told-5 c = search needs
-
-enum-told-6 : tie.Need-enum-told-6
-enum-told-6 c = search needs
 
 returns : tie.Need-returns
 unfolding isReply
@@ -32,34 +16,15 @@ unfolding isReply
 returns-2 c = rw (c .enum-told2 .given .1)
 
 returns-3 : tie.Need-returns-3
-unfolding isReply
-returns-3 c = rw (c .enum-told3 .given .1)
+returns-3 c =
+    sym (not-reply (c .before .before .before .args .m) (c .before .match2 .keys2) (c .match3 .keys2)
+    (c .before .before .match .keys2))
 
 returns-4 : tie.Need-returns-4
 unfolding isReply
-returns-4 c = rw (c .enum-told4 .given .1)
-
-returns-5 : tie.Need-returns-5
-unfolding isReply
-returns-5 c = rw (c .enum-told5 .given .1)
-
-returns-6 : tie.Need-returns-6
-unfolding isReply
-returns-6 c = rw (c .enum-told6 .given .1)
+returns-4 c = rw (c .enum-told3 .given .1)
 
 pub is-reply-spec : {M : Type 1} → statement M
 is-reply-spec =
-    tie.close
-    (tie.spec
-    enum-told
-    enum-told-2
-    enum-told-3
-    enum-told-4
-    enum-told-5
-    enum-told-6
-    returns
-    returns-2
-    returns-3
-    returns-4
-    returns-5
-    returns-6)
+    tie.close (tie.spec
+    (search needs) returns (search needs) returns-2 (search needs) returns-3 returns-4)

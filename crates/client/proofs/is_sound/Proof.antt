@@ -5,7 +5,7 @@ use mathlib.Core.Bool.{true}
 use native.Mathlib.Omega.{arith}
 use lib.Dec.{eqb, leb, ltb}
 use lib.ListN.{length, getD}
-use borrow.Author.Tests.{lt-leb, le-leb, lt-ltb, le-ltb, eq-eqb, ne-eqb, not-true, not-false}
+use borrow.Author.Tests.{lt-leb, le-leb, eq-eqb, ne-eqb, not-true, not-false}
 use Rattle.replies.proofs.Rising.{and-true}
 use Rattle.client.specs.Sound.{isSoundEntry, isSoundCounter, areSoundReplies, isSoundMemory}
 use borrow.Author.Needs.{needs}
@@ -20,20 +20,24 @@ few c = le-leb _ 4 (c .if1 .left)
 long : (c : tie.Else2) → eqb (length (c .before .before .before .args .m .now)) 95 ≡ true
 long c = eq-eqb _ 95 (c .if2 .left)
 
-reads : (c : tie.Else3) → ltb (getD (c .before .before .before .before .before .args .m .now) 0 0) 1048576 ≡ true
-reads c = lt-ltb _ 1048576 (c .if3 .left)
+reads : (c : tie.Else3) → ltb (getD (c .before .before .before .before .before .before .args .m .now) 0 0)
+    1048576 ≡ true
+reads c = sym (c .before .fits-read .ensures) ∙ not-false _ (c .if3 .left)
 
-code : (c : tie.Else4) → leb (getD (c .before .before .before .before .before .before .before .args .m .now) 1 0) 3 ≡ true
+code : (c : tie.Else4)
+    → leb (getD (c .before .before .before .before .before .before .before .before .args .m .now) 1 0) 3
+    ≡ true
 code c = le-leb _ 3 (c .if4 .left)
 
 abbrev at-else5 : tie.Else5 → tie.Start
-at-else5 c = c .before .before .before .before .before .before .before .before .before .before
+at-else5 c = c .before .before .before .before .before .before .before .before .before .before .before
 
-entry : (c : tie.Else5) → isSoundEntry (getD (at-else5 c .args .m .now) 1 0) (getD (at-else5 c .args .m .now) 2 0) ≡ true
+entry : (c : tie.Else5) → isSoundEntry (getD (at-else5 c .args .m .now) 1 0)
+    (getD (at-else5 c .args .m .now) 2 0) ≡ true
 entry c = sym (c .before .is-sound-entry .ensures) ∙ not-false _ (c .if5 .left)
 
 abbrev at-else6 : tie.Else6 → tie.Start
-at-else6 c = c .before .before .before .before .before .before .before .before .before .before .before .before .before
+at-else6 c = at-else5 (c .before .before .before)
 
 counter : (c : tie.Else6)
     → isSoundCounter (getD (at-else6 c .args .m .now) 1 0) (getD (at-else6 c .args .m .now) 3 0) ≡ true
@@ -54,14 +58,14 @@ returns-2 c =
 returns-3 : tie.Need-returns-3
 unfolding isSoundMemory
 returns-3 c =
-    let d = c .before .before in
-    rw (few (d .before), long d, le-ltb _ 1048576 (c .if3 .taken))
+    let d = c .before .before .before in
+    rw (few (d .before), long d, sym (c .before .fits-read .ensures) ∙ not-true _ (c .if3 .taken))
 
 returns-4 : tie.Need-returns-4
 unfolding isSoundMemory
 returns-4 c =
     let e = c .before .before in
-    let d = e .before .before in
+    let d = e .before .before .before in
     rw (few (d .before), long d, reads e, lt-leb _ 3 (c .if4 .taken))
 
 returns-5 : tie.Need-returns-5
@@ -69,7 +73,7 @@ unfolding isSoundMemory
 returns-5 c =
     let g = c .before .before .before in
     let e = g .before .before in
-    let d = e .before .before in
+    let d = e .before .before .before in
     rw (
       few (d .before),
       long d,
@@ -85,7 +89,7 @@ returns-6 c =
     let h = c .before .before .before in
     let g = h .before .before .before in
     let e = g .before .before in
-    let d = e .before .before in
+    let d = e .before .before .before in
     rw (
       few (d .before),
       long d,
@@ -103,7 +107,7 @@ returns-7 c =
     let h = i .before .before .before in
     let g = h .before .before .before in
     let e = g .before .before in
-    let d = e .before .before in
+    let d = e .before .before .before in
     let a = at-else6 i .args in
     rw (few (d .before), long d, reads e, code g, entry h, counter i)
     (c .are-replies-sound .ensures ∙ sym (and-true (areSoundReplies (a .f) (a .m .now))))
@@ -112,17 +116,6 @@ pub is-sound-spec : {M : Type 1} → statement M
 is-sound-spec =
     tie.close
     (tie.spec
-    returns
-    returns-2
-    (λ c. search needs)
-    returns-3
-    (λ c. search needs)
-    returns-4
-    (λ c. search needs)
-    (λ c κs. search needs)
-    returns-5
-    (λ c. search needs)
-    (λ c κs. search needs)
-    returns-6
-    (λ c κs. search needs)
-    returns-7)
+    returns returns-2 (λ c. search needs) (λ c κs. search needs) returns-3 (λ c. search needs)
+    returns-4 (λ c. search needs) (λ c κs. search needs) returns-5 (λ c. search needs)
+    (λ c κs. search needs) returns-6 (λ c κs. search needs) returns-7)

@@ -25,14 +25,8 @@ busy Reading e = refl
 busy (ReadingForWrite w) e = refl
 busy (Storing w c) e = refl
 
-is-idle-requires : tie.Need-is-idle-requires
-is-idle-requires c = search needs
-
 returns : tie.Need-returns
 returns c = sym (idle (c .before .before .args .ph) (sym (c .before .is-idle .ensures) ∙ c .if1 .taken))
-
-is-reading-requires : tie.Need-is-reading-requires
-is-reading-requires c = search needs
 
 returns-2 : tie.Need-returns-2
 returns-2 c =
@@ -41,4 +35,4 @@ returns-2 c =
     ap not (c .is-reading .ensures) ∙ sym (busy ph not-idle)
 
 pub is-storing-spec : {M : Type 1} → statement M
-is-storing-spec = tie.close (tie.spec is-idle-requires returns is-reading-requires returns-2)
+is-storing-spec = tie.close (tie.spec (λ c. search needs) returns (λ c. search needs) returns-2)

@@ -1,5 +1,5 @@
--- `is_taken`: FWD, WRITE_ACK and INFO by their tests, on the phase and the read number of the memory, which are the
--- client's; another kind is not taken.
+-- `is_taken`: FWD, WRITE_ACK and INFO by their tests, on the phase and the read number of the memory, which
+-- are the client's; another kind is not taken.
 -- Assumes nothing.
 use Prim.Native.Nat.{ℕ, suc, _-_}
 use mathlib.Core.Path.{_≡_, refl, sym, ap, _∙_}
@@ -8,7 +8,7 @@ use mathlib.Core.List.{List}
 use native.Mathlib.Omega.{arith}
 use lib.Dec.{eqb}
 use lib.ListN.{drop}
-use borrow.Author.Tests.{eq-eqb, ne-eqb, not-true, not-false}
+use borrow.Author.Tests.{not-true, not-false}
 use Rattle.message.specs.declared.Message.{Message}
 use Rattle.message.specs.declared.Message.the-variants.{Info}
 use Rattle.message.specs.declared.Pair.{Pair}
@@ -55,7 +55,8 @@ returns-2 : tie.Need-returns-2
 unfolding isTaken
 returns-2 c =
     let s = c .before .before .before .before .before .before in
-    c .is-storing-with .ensures ∙ ap (λ (ph : Phase). isStoring ph (c .before .before .x .given .0 .0)) (phase-is s)
+    c .is-storing-with .ensures
+    ∙ ap (λ (ph : Phase). isStoring ph (c .before .before .x .given .0 .0)) (phase-is s)
     ∙ ap (answer s) (sym (c .before .before .x .given .1))
 
 returns-3 : tie.Need-returns-3
@@ -69,7 +70,8 @@ reading-is : (c : tie.After-is-reading2)
     → isReading (phaseIn (c .before .before .before .before .before .before .before .args .m .now))
     ≡ c .is-reading2 .result
 reading-is c =
-    sym (c .is-reading2 .ensures ∙ ap isReading (phase-is (c .before .before .before .before .before .before .before)))
+    sym (c .is-reading2 .ensures
+    ∙ ap isReading (phase-is (c .before .before .before .before .before .before .before)))
 
 returns-4 : tie.Need-returns-4
 returns-4 c =
@@ -80,49 +82,35 @@ returns-4 c =
 
 returns-5 : tie.Need-returns-5
 returns-5 c =
-    let d = c .before .before .before .before in
+    let d = c .before .before .before in
     let s = d .before .before .before .before .before .before .before in
     sym (ap (answer s) (d .before .before .x2 .given .1)
     ∙ info-by (view (s .args .m .now)) (s .args .k) _ _ _ _ _
-    (reading-is d ∙ not-false _ (c .before .before .before .if1 .left))
+    (reading-is d ∙ not-false _ (c .before .before .if1 .left))
     (ap (λ (t : ReadNumber). eqb (d .before .before .x2 .given .0 .0 .0) (t .0)) (sym (reads-is s))
-    ∙ ne-eqb (d .before .before .x2 .given .0 .0 .0) (s .args .c .reads .0) (λ e. omega (arith, e, c .if2 .taken)))
-    refl)
+    ∙ sym (c .before .same-read .ensures) ∙ not-true _ (c .if2 .taken)) refl)
 
 returns-6 : tie.Need-returns-6
 returns-6 c =
-    let d = c .before .before .before .before .before .before in
+    let d = c .before .before .before .before .before in
     let s = d .before .before .before .before .before .before .before in
     let a = s .args in
     let number : suc (a .k - 1) ≡ a .k = omega (arith, s .pre .1) in
     let noted : isNoted (notedIn (drop 4 (a .m .now)) (a .k)) ≡ c .is-noted .result =
-    sym (c .is-noted .ensures ∙ ap (λ (l : List ℕ). isNoted (notedIn l (suc (a .k - 1)))) (rest-whole (a .m .now))
+    sym (c .is-noted .ensures ∙ ap (λ (l : List ℕ). isNoted (notedIn l (suc (a .k - 1))))
+    (rest-whole (a .m .now))
     ∙ ap (λ (j : ℕ). isNoted (notedIn (drop 4 (a .m .now)) j)) number) in
     sym (ap (answer s) (d .before .before .x2 .given .1)
     ∙ info-by (view (a .m .now)) (a .k) _ _ _ _ _
-    (reading-is d ∙ not-false _ (c .before .before .before .before .before .if1 .left))
+    (reading-is d ∙ not-false _ (c .before .before .before .before .if1 .left))
     (ap (λ (t : ReadNumber). eqb (d .before .before .x2 .given .0 .0 .0) (t .0)) (sym (reads-is s))
-    ∙ eq-eqb _ _ (c .before .before .if2 .left)) noted)
+    ∙ sym (c .before .before .before .same-read .ensures) ∙ not-false _ (c .before .before .if2 .left)) noted)
 
 pub is-taken-spec : {M : Type 1} → statement M
 is-taken-spec =
     tie.close
     (tie.spec
-    (search needs)
-    (λ c κs. search needs)
-    returns
-    (search needs)
-    (λ c κs. search needs)
-    returns-2
-    (search needs)
-    returns-3
-    (λ c κs. search needs)
-    returns-4
-    returns-5
-    (λ c. search needs)
-    (λ c. search needs)
-    (λ c. search needs)
-    (λ c. search needs)
-    (λ c. search needs)
-    (λ c κs. search needs)
-    returns-6)
+    (search needs) (λ c κs. search needs) returns (search needs) (λ c κs. search needs) returns-2
+    (search needs) returns-3 (λ c κs. search needs) returns-4 (λ c κs. search needs) returns-5
+    (λ c. search needs) (λ c. search needs) (λ c. search needs) (λ c. search needs)
+    (λ c. search needs) (λ c κs. search needs) returns-6)

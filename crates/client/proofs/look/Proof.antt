@@ -22,20 +22,10 @@ use Rattle.client.proofs.look.Tie as tie
 choose-requires : tie.Need-choose-requires
 choose-requires c κs =
     let s = c .before .before in
-    let x = s .args .c in
-    (of-memory x (s .args .r .now) (s .pre .0) .long, client-facts x (of-client x (s .args .r .now) (s .pre .0)) .few)
-
-enum-known-p : tie.Need-enum-known-p
-enum-known-p c = search needs
-
-enum-told : tie.Need-enum-told
-enum-told c = search needs
-
-goes-on-requires : tie.Need-goes-on-requires
-goes-on-requires c = search needs
-
-same-length : tie.Need-same-length
-same-length c = search needs
+    let x = s .args .c in (
+      of-memory x (s .args .r .now) (s .pre .0) .long,
+      client-facts x (of-client x (s .args .r .now) (s .pre .0)) .few,
+    )
 
 abbrev at-choose : tie.After-choose → tie.Start
 at-choose c = c .before .before .before
@@ -47,7 +37,8 @@ choice : (c : tie.After-choose) (o : Choice) → c .choose .result ≡ o
     (view (at-choose c .args .c) (at-choose c .args .r .now)) ≡ choiceOf o
 choice c o e =
     let x = c .before .before .before .args .c in
-    choice-held (size (x .f)) (x .f) (x .number) (x .phase) (x .reads) (c .before .before .before .args .r .now)
+    choice-held (size (x .f)) (x .f) (x .number) (x .phase) (x .reads)
+    (c .before .before .before .args .r .now)
     ∙ sym (c .choose .ensures) ∙ ap choiceOf e
 
 -- the outcome of a choice
@@ -62,7 +53,8 @@ returns c =
     let s = c .before .before .before .before .before .before in
     ap (λ (t : Took). after t (s .args .r .now)) (c .goes-on .ensures)
     ∙ goes-on (s .args .c) (s .args .r .now) (s .pre .0)
-    ∙ ap (by-choice s) (sym (choice (c .before .before .before) Choice.Nothing (c .before .enum-told .given .1)))
+    ∙ ap (by-choice s) (sym (choice (c .before .before .before) Choice.Nothing
+    (c .before .enum-told .given .1)))
 
 clear-requires : tie.Need-clear-requires
 clear-requires c κs =
@@ -74,9 +66,6 @@ conclude-requires c κs =
     let s = c .before .before .before .before .before .before .before .before .before .before in
     of-client (s .args .c) (s .args .r .now) (s .pre .0)
 
-same-length-2 : tie.Need-same-length-2
-same-length-2 c = search needs
-
 returns-2 : tie.Need-returns-2
 unfolding looked by-choice
 returns-2 c =
@@ -85,7 +74,8 @@ returns-2 c =
     ap (λ (m : List ℕ). after (c .conclude .result) m) (c .before .before .before .clear .ensures)
     ∙ c .conclude .ensures
     ∙ ap (λ (t : Taken). stored x t)
-    (concluded-same (size (x .f)) (x .f) (x .number) (view x (replicate 91 0)) (view x (s .args .r .now)) (x .phase)
+    (concluded-same (size (x .f)) (x .f) (x .number) (view x (replicate 91 0)) (view x (s .args .r .now))
+    (x .phase)
     _ refl (s .pre .1))
     ∙ ap (by-choice s) (sym (choice (c .before .before .before .before .before .before .before .before) _
     (c .before .before .before .before .before .before .p .given .1)))
@@ -94,13 +84,5 @@ pub look-spec : {M : Type 1} → statement M
 look-spec =
     tie.close
     (tie.spec
-    choose-requires
-    enum-known-p
-    enum-told
-    goes-on-requires
-    same-length
-    returns
-    clear-requires
-    conclude-requires
-    same-length-2
-    returns-2)
+    choose-requires (search needs) (search needs) (search needs) (search needs) returns
+    clear-requires conclude-requires (search needs) returns-2)

@@ -16,12 +16,20 @@ returns-2 c = rw (ne-eqb _ 0 (c .before .if1 .left), eq-eqb _ 1 (c .if2 .taken))
 returns-3 : tie.Need-returns-3
 unfolding phaseOf
 returns-3 c =
-    rw (ne-eqb _ 0 (c .before .before .if1 .left), ne-eqb _ 1 (c .before .if2 .left), eq-eqb _ 2 (c .if3 .taken))
+    rw (
+      ne-eqb _ 0 (c .before .before .if1 .left),
+      ne-eqb _ 1 (c .before .if2 .left),
+      eq-eqb _ 2 (c .if3 .taken),
+    )
 
 returns-4 : tie.Need-returns-4
 unfolding phaseOf
 returns-4 c =
-    rw (ne-eqb _ 0 (c .before .before .if1 .left), ne-eqb _ 1 (c .before .if2 .left), ne-eqb _ 2 (c .if3 .left))
+    rw (
+      ne-eqb _ 0 (c .before .before .if1 .left),
+      ne-eqb _ 1 (c .before .if2 .left),
+      ne-eqb _ 2 (c .if3 .left),
+    )
 
 pub phase-of-spec : {M : Type 1} → statement M
 phase-of-spec = tie.close (tie.spec returns returns-2 returns-3 returns-4)

@@ -10,19 +10,17 @@ returns : tie.Need-returns
 returns c =
     let s = c .before .before .before .before .before in
     head-put (s .args .m .now) _ _ _ _ (s .pre)
-    ∙ rw (c .before .before .code-of .ensures, c .before .entry-of .ensures, c .counter-in .ensures)
+    ∙ rw (
+      c .before .before .before .read-word .ensures,
+      c .before .before .code-of .ensures,
+      c .before .entry-of .ensures,
+      c .counter-in .ensures,
+    )
 
 pub store-spec : {M : Type 1} → statement M
 store-spec =
     tie.close
     (tie.spec
-    (search needs)
-    (λ c. search needs)
-    (λ c κs. search needs)
-    (λ c. search needs)
-    (λ c κs. search needs)
-    (λ c. search needs)
-    (λ c κs. search needs)
-    (λ c. search needs)
-    (λ c. search needs)
-    returns)
+    (λ c κs. search needs) (λ c. search needs) (λ c κs. search needs) (λ c. search needs)
+    (λ c κs. search needs) (λ c. search needs) (λ c κs. search needs) (λ c. search needs)
+    (λ c. search needs) returns)

@@ -34,7 +34,8 @@ client-is c = sym (c .before .is-client .ensures) ∙ not-false _ (c .if2 .left)
 abbrev at-else3 : tie.Else3 → tie.Else1
 at-else3 c = c .before .before .before .before
 
-server-is : (c : tie.Else3) → isServer (at-else1 (at-else3 c) .args .f) (at-else1 (at-else3 c) .args .k) ≡ true
+server-is : (c : tie.Else3) → isServer (at-else1 (at-else3 c) .args .f) (at-else1 (at-else3 c) .args .k)
+    ≡ true
 server-is c = sym (c .before .is-server .ensures) ∙ not-false _ (c .if3 .left)
 
 abbrev at-unpack : tie.After-unpack → tie.Start
@@ -50,7 +51,8 @@ returns : tie.Need-returns
 unfolding takeOf
 returns c =
     rw (sym (c .before .before .is-sound .ensures) ∙ not-true _ (c .before .if1 .taken))
-    (ap (λ (o : Outcome). after o (c .before .before .before .before .before .before .args .m .now)) (c .refuse .ensures))
+    (ap (λ (o : Outcome). after o (c .before .before .before .before .before .before .args .m .now))
+    (c .refuse .ensures))
 
 returns-2 : tie.Need-returns-2
 unfolding takeOf
@@ -64,7 +66,12 @@ unfolding takeOf
 returns-3 c =
     let e = c .before .before .before in
     let d = e .before .before in
-    rw (sound-is d, client-is e, sym (c .before .before .is-server .ensures) ∙ not-true _ (c .before .if3 .taken))
+    rw (
+      sound-is d,
+      client-is e,
+      sym (c .before .before .is-server .ensures)
+          ∙ not-true _ (c .before .if3 .taken),
+    )
     (ap (λ (o : Outcome). after o (at-else1 d .args .m .now)) (c .refuse3 .ensures))
 
 returns-4 : tie.Need-returns-4
@@ -73,7 +80,7 @@ returns-4 c =
     let u = c .before .before .before in
     let g = u .before in
     let d = at-else3 g in
-    let bad = unpacked-is u Unpacked.Bad (c .before .enum-told .given .1) in
+    let bad = unpacked-is u _ (c .before .enum-told .given .1) in
     rw (sound-is d, client-is (g .before .before), server-is g, bad)
     (ap (λ (o : Outcome). after o (at-else1 d .args .m .now)) (c .refuse4 .ensures))
 
@@ -134,36 +141,17 @@ returns-6 c =
           ∙ not-false _ (r .if4 .left),
     )
     (c .before .before .take-message .ensures
-    ∙ ap (λ (y : Client). takenOf (y .number) (y .f) (a .m .now) (a .k) (r .before .before .before .x .given .0 .0))
+    ∙ ap (λ (y : Client). takenOf (y .number) (y .f) (a .m .now) (a .k)
+    (r .before .before .before .x .given .0 .0))
     (l .load .ensures))
 
 pub take-spec : {M : Type 1} → statement M
 take-spec =
     tie.close
     (tie.spec
-    (λ c κs. search needs)
-    (λ c κs. search needs)
-    (λ c. search needs)
-    returns
-    (λ c κs. search needs)
-    (λ c κs. search needs)
-    (λ c. search needs)
-    returns-2
-    (λ c κs. search needs)
-    (λ c κs. search needs)
-    (λ c. search needs)
-    returns-3
-    (λ c κs. search needs)
-    (λ c. search needs)
-    (λ c. search needs)
-    (λ c κs. search needs)
-    (λ c. search needs)
-    returns-4
-    (λ c κs. search needs)
-    (λ c κs. search needs)
-    (λ c. search needs)
-    returns-5
-    load-requires
-    take-message-requires
-    (λ c. search needs)
-    returns-6)
+    (λ c κs. search needs) (λ c κs. search needs) (λ c. search needs) returns (λ c κs. search needs)
+    (λ c κs. search needs) (λ c. search needs) returns-2 (λ c κs. search needs)
+    (λ c κs. search needs) (λ c. search needs) returns-3 (λ c κs. search needs) (λ c. search needs)
+    (λ c. search needs) (λ c κs. search needs) (λ c. search needs) returns-4 (λ c κs. search needs)
+    (λ c κs. search needs) (λ c. search needs) returns-5 load-requires take-message-requires
+    (λ c. search needs) returns-6)

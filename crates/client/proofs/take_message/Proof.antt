@@ -1,4 +1,5 @@
--- `take_message`: the replies are lent to the step and put back, and the head of the client after it is stored.
+-- `take_message`: the replies are lent to the step and put back, and the head of the client after it is
+-- stored.
 -- Assumes nothing.
 use Prim.Native.Nat.{ℕ}
 use mathlib.Core.Path.{_≡_, ap, _∙_}
@@ -52,7 +53,8 @@ returns c =
     in-memory (a .c) (t .taken .result) r (c .before .before .store .last .0)
     (clientTakes (size (a .c .f)) (a .c .f) (a .c .number) (view (a .m .now)) (a .k) (a .x))
     (t .taken .ensures
-    ∙ ap (λ (y : model.Client). stored (a .c) (clientTakes (size (a .c .f)) (a .c .f) (a .c .number) y (a .k) (a .x)))
+    ∙ ap (λ (y : model.Client). stored (a .c)
+    (clientTakes (size (a .c .f)) (a .c .f) (a .c .number) y (a .k) (a .x)))
     (ap (inner.view (a .c)) (rest-whole (a .m .now)) ∙ loaded-view (a .c) (a .m .now) (s .pre .0)))
     (c .before .before .store .ensures
     ∙ ap (λ (l : List ℕ). headOf (x .phase) (x .reads) ++ l) (rest-put (a .m .now) r (long s)))
@@ -61,10 +63,5 @@ pub take-message-spec : {M : Type 1} → statement M
 take-message-spec =
     tie.close
     (tie.spec
-    sub-taken
-    part-taken-start
-    (λ c. search needs)
-    taken-requires
-    store-requires
-    (λ c. search needs)
+    sub-taken part-taken-start (λ c. search needs) taken-requires store-requires (λ c. search needs)
     returns)

@@ -7,25 +7,13 @@ use borrow.Author.Needs.{needs}
 use Rattle.client.proofs.taken.Statement.{statement}
 use Rattle.client.proofs.taken.Tie as tie
 
-enum-known-m : tie.Need-enum-known-m
-enum-known-m c = search needs
-
 taken-pair-requires : tie.Need-taken-pair-requires
 taken-pair-requires c κs =
     let s = c .before .before .before in
     (s .pre .0, s .pre .1, s .pre .2, not-ack (s .args .m) (c .before .match .keys2))
 
-same-length : tie.Need-same-length
-same-length c = search needs
-
 returns : tie.Need-returns
 returns c = c .before .before .taken-pair .ensures
-
-acknowledged-requires : tie.Need-acknowledged-requires
-acknowledged-requires c = search needs
-
-same-length-2 : tie.Need-same-length-2
-same-length-2 c = search needs
 
 returns-2 : tie.Need-returns-2
 returns-2 c =
@@ -37,10 +25,5 @@ pub taken-spec : {M : Type 1} → statement M
 taken-spec =
     tie.close
     (tie.spec
-    enum-known-m
-    taken-pair-requires
-    same-length
-    returns
-    acknowledged-requires
-    same-length-2
-    returns-2)
+    (λ c. search needs) taken-pair-requires (λ c. search needs) returns (λ c. search needs)
+    (λ c. search needs) returns-2)

@@ -13,15 +13,6 @@ use borrow.Author.Needs.{needs}
 use Rattle.client.proofs.taken_pair.Statement.{statement}
 use Rattle.client.proofs.taken_pair.Tie as tie
 
-collect-requires : tie.Need-collect-requires
-collect-requires c = search needs
-
-goes-on-requires : tie.Need-goes-on-requires
-goes-on-requires c = search needs
-
-same-length : tie.Need-same-length
-same-length c = search needs
-
 returns : tie.Need-returns
 returns c =
     let d = c .before .before .before .before .collect in
@@ -43,9 +34,6 @@ look-requires c κs =
           (sym (d .ensures .told) ∙ not-false _ (c .before .if1 .left)),
     )
 
-same-length-2 : tie.Need-same-length-2
-same-length-2 c = search needs
-
 returns-2 : tie.Need-returns-2
 returns-2 c =
     let d = c .before .before .before .before .before .before .before .collect in
@@ -58,10 +46,5 @@ pub taken-pair-spec : {M : Type 1} → statement M
 taken-pair-spec =
     tie.close
     (tie.spec
-    collect-requires
-    goes-on-requires
-    same-length
-    returns
-    look-requires
-    same-length-2
-    returns-2)
+    (λ c. search needs) (λ c. search needs) (λ c. search needs) returns look-requires
+    (λ c. search needs) returns-2)

@@ -6,26 +6,11 @@ use borrow.Author.Needs.{needs}
 use Rattle.exchange.proofs.reach.Statement.{statement}
 use Rattle.exchange.proofs.reach.Tie as tie
 
-part-clients-end : tie.Need-part-clients-end
-part-clients-end c =
-    let all : length (c .before .args .g .clients) ≡ 190 = search needs in
-    omega arith
-
 pub reach-spec : {M : Type 1} → statement M
 reach-spec =
     tie.close
     (tie.spec
-    (λ c. search needs)
-    (λ c. search needs)
-    (λ c. search needs)
-    (λ c. search needs)
-    (λ c. search needs)
-    part-clients-end
-    (λ c. search needs)
-    (λ c. search needs)
-    (λ c. search needs)
-    (λ c. search needs)
-    (λ c. search needs)
-    (λ c κs. search needs)
-    (λ c κs. search needs)
-    (λ c. search needs))
+    (λ c. search needs) (λ c. search needs) (λ c. search needs) (λ c. search needs) (λ c. search needs)
+    (λ c. let all : length (c .before .args .g .clients) ≡ 190 = search needs in omega arith)
+    (λ c. search needs) (λ c. search needs) (λ c. search needs) (λ c. search needs)
+    (λ c. search needs) (λ c κs. search needs) (λ c κs. search needs) (λ c. search needs))

@@ -1,4 +1,5 @@
--- `exchange::serve` is safe: ten messages of each client are kept, and the memory of four servers holds the part of each. Assumes nothing.
+-- `exchange::serve` is safe: ten messages of each client are kept, and the memory of four servers holds the
+-- part of each. Assumes nothing.
 use mathlib.Core.Path.{_≡_}
 use native.Mathlib.Omega.{arith}
 use lib.ListN.{length}
@@ -13,28 +14,15 @@ part-bytes-end c =
 
 part-servers-end : tie.Need-part-servers-end
 part-servers-end c =
-    let all : length (c .before .before .before .before .args .g .servers) ≡ 8 = search needs in
+    let sent = c .before .before in
+    let all : length (sent .before .before .args .g .servers) ≡ 8 = search needs in
     omega arith
 
 pub serve-spec : {M : Type 1} → statement M
 serve-spec =
     tie.close
     (tie.spec
-    (λ c. search needs)
-    (λ c. search needs)
-    (λ c. search needs)
-    (λ c. search needs)
-    (λ c. search needs)
-    (λ c. search needs)
-    part-bytes-end
-    (λ c. search needs)
-    (λ c. search needs)
-    (λ c. search needs)
-    (λ c. search needs)
-    (λ c. search needs)
-    (λ c. search needs)
-    (λ c. search needs)
-    part-servers-end
-    (λ c κs. search needs)
-    (λ c κs. search needs)
-    (λ c. search needs))
+    (λ c. search needs) (λ c. search needs) (λ c. search needs) (λ c. search needs) (λ c. search needs)
+    (λ c. search needs) part-bytes-end (λ c. search needs) (λ c. search needs) (λ c. search needs)
+    (λ c. search needs) (λ c. search needs) (λ c. search needs) (λ c. search needs) part-servers-end
+    (λ c κs. search needs) (λ c κs. search needs) (λ c. search needs))

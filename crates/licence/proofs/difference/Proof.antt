@@ -5,12 +5,6 @@ use Rattle.licence.proofs.Differences.{diff-fits, diff-is}
 use Rattle.licence.proofs.difference.Statement.{statement}
 use Rattle.licence.proofs.difference.Tie as tie
 
-cast-result : tie.Need-cast-result
-cast-result c = search needs
-
-cast-result-2 : tie.Need-cast-result-2
-cast-result-2 c = search needs
-
 sub-result : tie.Need-sub-result
 sub-result c = diff-fits (c .args .last) (c .args .today) (c .pre .0) (c .pre .1)
 
@@ -18,4 +12,4 @@ returns : tie.Need-returns
 returns c = diff-is (c .args .last) (c .args .today) (c .pre .0) (c .pre .1)
 
 pub difference-spec : {M : Type 1} → statement M
-difference-spec = tie.close (tie.spec cast-result cast-result-2 sub-result returns)
+difference-spec = tie.close (tie.spec (λ c. search needs) (λ c. search needs) sub-result returns)

@@ -13,12 +13,6 @@ returns : tie.Need-returns
 unfolding isLicence
 returns c = simp (le-ltb (c .before .args .e) (2 ^ 40) (omega arith))
 
-split-requires : tie.Need-split-requires
-split-requires c κs = search needs
-
-is-licensed-requires : tie.Need-is-licensed-requires
-is-licensed-requires c κs = search needs
-
 returns-2 : tie.Need-returns-2
 unfolding isLicence
 returns-2 c =
@@ -26,4 +20,4 @@ returns-2 c =
     (c .is-licensed .ensures ∙ ap isLicensed (c .before .split .ensures))
 
 pub is-licence-spec : {M : Type 1} → statement M
-is-licence-spec = tie.close (tie.spec returns split-requires is-licensed-requires returns-2)
+is-licence-spec = tie.close (tie.spec returns (λ c κs. search needs) (λ c κs. search needs) returns-2)

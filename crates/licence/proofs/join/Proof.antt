@@ -10,9 +10,6 @@ use Rattle.licence.proofs.Licensed.{narrow}
 use Rattle.licence.proofs.join.Statement.{statement}
 use Rattle.licence.proofs.join.Tie as tie
 
-is-licensed-requires : tie.Need-is-licensed-requires
-is-licensed-requires c κs = search needs
-
 returns : tie.Need-returns
 unfolding joinedOf
 returns c = simp (sym (c .before .is-licensed .ensures) ∙ not-true _ (c .if1 .taken))
@@ -28,4 +25,4 @@ unfolding joinedOf
 returns-2 c = simp (passed (c .before)) (ap Joined.Entry (c .packed .ensures))
 
 pub join-spec : {M : Type 1} → statement M
-join-spec = tie.close (tie.spec is-licensed-requires returns packed-requires returns-2)
+join-spec = tie.close (tie.spec (λ c κs. search needs) returns packed-requires returns-2)

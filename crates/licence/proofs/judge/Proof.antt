@@ -1,4 +1,5 @@
--- `judge`: the tests are the definition's, in its order. The days left are read back from their 32 bits (`back`).
+-- `judge`: the tests are the definition's, in its order. The days left are read back from their 32 bits
+-- (`back`).
 -- Assumes nothing.
 use mathlib.Core.Path.{_≡_, _∙_, ap, sym}
 use mathlib.Core.Bool.{true, false}
@@ -36,7 +37,11 @@ returns-3 : tie.Need-returns-3
 unfolding verdictBy
 returns-3 c =
     let s = c .before .before .before .args .state in
-    rw (not-negative (c .before .before), ne-eqb s 3 (λ w. c .before .if2 .left (omega arith)), eq-eqb s 2 (omega arith))
+    rw (
+      not-negative (c .before .before),
+      ne-eqb s 3 (λ w. c .before .if2 .left (omega arith)),
+      eq-eqb s 2 (omega arith),
+    )
 
 returns-4 : tie.Need-returns-4
 unfolding verdictBy

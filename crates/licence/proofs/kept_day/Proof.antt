@@ -8,15 +8,13 @@ use Rattle.licence.specs.Renewal.{keptDay}
 use Rattle.licence.proofs.kept_day.Statement.{statement}
 use Rattle.licence.proofs.kept_day.Tie as tie
 
-is-leap-requires : tie.Need-is-leap-requires
-is-leap-requires c κs = search needs
-
 returns : tie.Need-returns
 unfolding keptDay
 returns c =
+    let day = c .before .before in
     simp (
-      eq-eqb _ _ (c .before .before .before .before .if1 .taken),
-      c .before .before .if2 .taken,
+      eq-eqb _ _ (day .before .before .if1 .taken),
+      day .if2 .taken,
       sym (c .before .is-leap .ensures) ∙ not-true _ (c .if3 .taken),
     )
 
@@ -33,4 +31,4 @@ returns-2 c =
     (c .if1 .came)
 
 pub kept-day-spec : {M : Type 1} → statement M
-kept-day-spec = tie.close (tie.spec is-leap-requires returns returns-2)
+kept-day-spec = tie.close (tie.spec (λ c κs. search needs) returns returns-2)

@@ -8,9 +8,6 @@ use Rattle.licence.specs.Entry.{kindOf}
 use Rattle.licence.proofs.kind_of.Statement.{statement}
 use Rattle.licence.proofs.kind_of.Tie as tie
 
-is-licence-requires : tie.Need-is-licence-requires
-is-licence-requires c κs = search needs
-
 returns : tie.Need-returns
 unfolding kindOf
 returns c = simp (sym (c .before .is-licence .ensures) ∙ c .if1 .taken)
@@ -32,4 +29,4 @@ returns-3 c =
     )
 
 pub kind-of-spec : {M : Type 1} → statement M
-kind-of-spec = tie.close (tie.spec is-licence-requires returns returns-2 returns-3)
+kind-of-spec = tie.close (tie.spec (λ c κs. search needs) returns returns-2 returns-3)

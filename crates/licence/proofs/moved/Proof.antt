@@ -5,9 +5,6 @@ use Rattle.licence.specs.Renewal.{later}
 use Rattle.licence.proofs.moved.Statement.{statement}
 use Rattle.licence.proofs.moved.Tie as tie
 
-kept-day-requires : tie.Need-kept-day-requires
-kept-day-requires c κs = search needs
-
 returns : tie.Need-returns
 unfolding later
 returns c =
@@ -21,4 +18,4 @@ returns c =
     }
 
 pub moved-spec : {M : Type 1} → statement M
-moved-spec = tie.close (tie.spec kept-day-requires returns)
+moved-spec = tie.close (tie.spec (λ c κs. search needs) returns)

@@ -14,21 +14,6 @@ use Rattle.licence.specs.Entry.{joined, Narrow}
 use Rattle.licence.proofs.packed.Statement.{statement}
 use Rattle.licence.proofs.packed.Tie as tie
 
-cast-result : tie.Need-cast-result
-cast-result c = search needs
-
-cast-result-2 : tie.Need-cast-result-2
-cast-result-2 c = search needs
-
-cast-result-3 : tie.Need-cast-result-3
-cast-result-3 c = search needs
-
-cast-result-4 : tie.Need-cast-result-4
-cast-result-4 c = search needs
-
-cast-result-5 : tie.Need-cast-result-5
-cast-result-5 c = search needs
-
 -- the shifted fields, one by one, as a sum
 adds : (f : Fields) → Narrow f →
     bitOr
@@ -52,9 +37,11 @@ adds f n =
     )
 
 returns : tie.Need-returns
-returns c = adds (c .before .before .before .before .before .args .f) (c .before .before .before .before .before .pre)
+returns c = let start = c .before .before .before .before .before in adds (start .args .f) (start .pre)
 
 pub packed-spec : {M : Type 1} → statement M
 packed-spec =
     tie.close
-    (tie.spec cast-result cast-result-2 cast-result-3 cast-result-4 cast-result-5 returns)
+    (tie.spec
+    (λ c. search needs) (λ c. search needs) (λ c. search needs) (λ c. search needs) (λ c. search needs)
+    returns)

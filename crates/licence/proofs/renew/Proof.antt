@@ -1,4 +1,5 @@
--- `renew`: the refusals are the definition's, in its order; a licence's fields stay within their widths in a year up to 2199.
+-- `renew`: the refusals are the definition's, in its order; a licence's fields stay within their widths in a
+-- year up to 2199.
 -- Assumes nothing.
 use mathlib.Core.Path.{_≡_, _∙_, ap, sym, subst}
 use mathlib.Core.Bool.{true}
@@ -15,9 +16,6 @@ use Rattle.licence.proofs.Renewed.{later-narrow}
 use Rattle.licence.proofs.renew.Statement.{statement}
 use Rattle.licence.proofs.renew.Tie as tie
 
-is-licence-requires : tie.Need-is-licence-requires
-is-licence-requires c κs = search needs
-
 returns : tie.Need-returns
 unfolding renewedOf isRenewable
 returns c = simp (sym (c .before .is-licence .ensures) ∙ not-true _ (c .if1 .taken))
@@ -29,53 +27,46 @@ returns-2 : tie.Need-returns-2
 unfolding renewedOf isRenewable
 returns-2 c = simp (passed (c .before), lt-leb (c .before .before .before .args .years) 10 (omega arith))
 
-split-requires : tie.Need-split-requires
-split-requires c κs = search needs
-
-span-of-requires : tie.Need-span-of-requires
-span-of-requires c κs = search needs
-
-cast-year : tie.Need-cast-year
-cast-year c = search needs
-
 add-year : tie.Need-add-year
 add-year c = omega (arith, ap (λ (f : Fields). f .year) (c .before .before .split .ensures))
 
+-- the entry is tested before its year is moved
+abbrev tested : tie.After-struct-known → tie.Else1
+tested c = c .before .before .before .before
+
 -- the code's year is the definition's
-same-year : (c : tie.After-struct-known) →
+same-year : (c : tie.After-struct-known) → let a = tested c .before .before .args in
     c .before .before .split .result .year + c .before .span-of .result
-    ≡ fieldsOf (c .before .before .before .before .before .before .args .e) .year
-    + span (c .before .before .before .before .before .before .args .years)
+    ≡ fieldsOf (a .e) .year + span (a .years)
 same-year c = cc
 
 returns-3 : tie.Need-returns-3
 unfolding renewedOf isRenewable
 returns-3 c =
-    let a = c .before .before .before .before .before .before .before .args in
+    let moved = c .before in
+    let a = tested moved .before .before .args in
     simp (
-      passed (c .before .before .before .before .before),
+      passed (tested moved),
       le-leb (a .years) 10 (omega arith),
-      lt-leb (fieldsOf (a .e) .year + span (a .years)) 2199 (omega (arith, same-year (c .before))),
+      lt-leb (fieldsOf (a .e) .year + span (a .years)) 2199 (omega (arith, same-year moved)),
     )
-
-moved-requires : tie.Need-moved-requires
-moved-requires c κs = search needs
 
 packed-requires : tie.Need-packed-requires
 packed-requires c κs =
-    let s = c .before .before .before .before .split .ensures in
-    let l = ap isLicensed s ∙ entry-fields _ (passed (c .before .before .before .before .before .before)) in
+    let moved = c .before .before in
+    let l = ap isLicensed (moved .before .before .split .ensures) ∙ entry-fields _ (passed (tested moved)) in
     subst (λ (f : Fields). Narrow f) (sym (c .moved .ensures))
     (later-narrow _ _ l (omega arith) (omega arith) (search needs))
 
 returns-4 : tie.Need-returns-4
 unfolding renewedOf isRenewable
 returns-4 c =
-    let a = c .before .before .before .before .before .before .before .before .before .args in
-    let y = same-year (c .before .before .before) in
-    let s = c .before .before .before .before .before .split .ensures in
+    let moved = c .before .before .before in
+    let a = tested moved .before .before .args in
+    let y = same-year moved in
+    let s = moved .before .before .split .ensures in
     simp (
-      passed (c .before .before .before .before .before .before .before),
+      passed (tested moved),
       le-leb (a .years) 10 (omega arith),
       le-leb (fieldsOf (a .e) .year + span (a .years)) 2199 (omega (arith, y)),
     )
@@ -85,14 +76,5 @@ pub renew-spec : {M : Type 1} → statement M
 renew-spec =
     tie.close
     (tie.spec
-    is-licence-requires
-    returns
-    returns-2
-    split-requires
-    span-of-requires
-    cast-year
-    add-year
-    returns-3
-    moved-requires
-    packed-requires
-    returns-4)
+    (search needs) returns returns-2 (search needs) (search needs) (search needs) add-year returns-3
+    (search needs) packed-requires returns-4)

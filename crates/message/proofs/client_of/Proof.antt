@@ -11,14 +11,8 @@ returns : tie.Need-returns
 unfolding client
 returns c = and-mask (c .before .args .p .0 / 2 ^ 40) 4
 
-cast-result : tie.Need-cast-result
-cast-result c = search needs
-
-shr-result : tie.Need-shr-result
-shr-result c = search needs
-
 cast-result-2 : tie.Need-cast-result-2
 cast-result-2 c = omega (arith, mask-lt (c .before .args .p .0 / 2 ^ 40) 4)
 
 pub client-of-spec : {M : Type 1} → statement M
-client-of-spec = tie.close (tie.spec cast-result shr-result cast-result-2 returns)
+client-of-spec = tie.close (tie.spec (λ c. search needs) (λ c. search needs) cast-result-2 returns)

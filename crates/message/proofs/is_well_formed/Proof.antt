@@ -10,24 +10,6 @@ use borrow.Author.Needs.{needs}
 use Rattle.message.proofs.is_well_formed.Statement.{statement}
 use Rattle.message.proofs.is_well_formed.Tie as tie
 
-enum-known-m : tie.Need-enum-known-m
-enum-known-m c = search needs
-
-enum-known-m-2 : tie.Need-enum-known-m-2
-enum-known-m-2 c = search needs
-
-enum-told : tie.Need-enum-told
-enum-told c = search needs
-
-enum-known-m-3 : tie.Need-enum-known-m-3
-enum-known-m-3 c = search needs
-
-enum-known-m-4 : tie.Need-enum-known-m-4
-enum-known-m-4 c = search needs
-
-enum-known-m-5 : tie.Need-enum-known-m-5
-enum-known-m-5 c = search needs
-
 returns : tie.Need-returns
 unfolding wellFormed
 returns c = sym (ap wellFormed (c .before .before .m .given .1))
@@ -67,15 +49,5 @@ pub is-well-formed-spec : {M : Type 1} → statement M
 is-well-formed-spec =
     tie.close
     (tie.spec
-    enum-known-m
-    enum-known-m-2
-    enum-told
-    enum-known-m-3
-    enum-known-m-4
-    enum-known-m-5
-    returns
-    returns-2
-    returns-3
-    returns-4
-    returns-5
-    returns-6)
+    (search needs) (search needs) (search needs) (search needs) (search needs) (search needs)
+    returns returns-2 returns-3 returns-4 returns-5 returns-6)

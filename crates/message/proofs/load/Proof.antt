@@ -8,18 +8,6 @@ use borrow.Author.Needs.{needs}
 use Rattle.message.proofs.load.Statement.{statement}
 use Rattle.message.proofs.load.Tie as tie
 
-read-bytes-requires : tie.Need-read-bytes-requires
-read-bytes-requires c κs = search needs
-
-cast-t4 : tie.Need-cast-t4
-cast-t4 c = search needs
-
-add-read-bytes : tie.Need-add-read-bytes
-add-read-bytes c = search needs
-
-read-bytes-requires-2 : tie.Need-read-bytes-requires-2
-read-bytes-requires-2 c κs = search needs
-
 returns : tie.Need-returns
 returns c =
     let a = c .before .before .before .args in
@@ -30,4 +18,6 @@ returns c =
 
 pub load-spec : {M : Type 1} → statement M
 load-spec =
-    tie.close (tie.spec read-bytes-requires cast-t4 add-read-bytes read-bytes-requires-2 returns)
+    tie.close
+    (tie.spec
+    (λ c κs. search needs) (λ c. search needs) (λ c. search needs) (λ c κs. search needs) returns)

@@ -1,4 +1,5 @@
--- `of_words`: the first word is kind and tag, and the cases of the code are those of `byWords`, one for each kind.
+-- `of_words`: the first word is kind and tag, and the cases of the code are those of `byWords`, one for each
+-- kind.
 use mathlib.Core.Path.{_≡_, sym, ap, _∙_}
 use Prim.Native.Nat.{ℕ, _-_, _/_, _^_, _<_}
 use native.Mathlib.Omega.{arith}
@@ -16,35 +17,12 @@ found : (w : Words) → w .1 < 2 ^ 64 → (k : ℕ) → w .0 / 2 ^ 20 ≡ k
     → messageOf (wordsNumber w) ≡ byWords k (bitAnd (w .0) (2 ^ 20 - 1)) (w .1)
 found w small k e = of-words-is w small ∙ ap (λ (j : ℕ). byWords j (bitAnd (w .0) (2 ^ 20 - 1)) (w .1)) e
 
-if-zero-requires : tie.Need-if-zero-requires
-if-zero-requires c κs = search needs
-
-if-zero-requires-2 : tie.Need-if-zero-requires-2
-if-zero-requires-2 c κs = search needs
-
-if-zero-requires-3 : tie.Need-if-zero-requires-3
-if-zero-requires-3 c κs = search needs
-
-if-zero-requires-4 : tie.Need-if-zero-requires-4
-if-zero-requires-4 c κs = search needs
-
-cast-t17 : tie.Need-cast-t17
-cast-t17 c = search needs
-
-shr-t18 : tie.Need-shr-t18
-shr-t18 c = search needs
-
-cast-t19 : tie.Need-cast-t19
-cast-t19 c = search needs
-
-if-zero-requires-5 : tie.Need-if-zero-requires-5
-if-zero-requires-5 c κs = search needs
-
 returns : tie.Need-returns
 unfolding byWords
 returns c =
+    let matched = c .before in
     c .if-zero .ensures
-    ∙ sym (found (c .before .before .before .before .args .w) (omega arith) 1 (c .before .match .keys1))
+    ∙ sym (found (matched .before .before .before .args .w) (omega arith) 1 (matched .match .keys1))
 
 returns-2 : tie.Need-returns-2
 unfolding byWords
@@ -53,26 +31,30 @@ returns-2 c = sym (found (c .before .before .before .args .w) (omega arith) 2 (c
 returns-3 : tie.Need-returns-3
 unfolding byWords
 returns-3 c =
+    let matched = c .before in
     c .if-zero2 .ensures
-    ∙ sym (found (c .before .before .before .before .args .w) (omega arith) 3 (c .before .match .keys3))
+    ∙ sym (found (matched .before .before .before .args .w) (omega arith) 3 (matched .match .keys3))
 
 returns-4 : tie.Need-returns-4
 unfolding byWords
 returns-4 c =
+    let matched = c .before in
     c .if-zero3 .ensures
-    ∙ sym (found (c .before .before .before .before .args .w) (omega arith) 4 (c .before .match .keys4))
+    ∙ sym (found (matched .before .before .before .args .w) (omega arith) 4 (matched .match .keys4))
 
 returns-5 : tie.Need-returns-5
 unfolding byWords
 returns-5 c =
+    let matched = c .before in
     c .if-zero4 .ensures
-    ∙ sym (found (c .before .before .before .before .args .w) (omega arith) 5 (c .before .match .keys5))
+    ∙ sym (found (matched .before .before .before .args .w) (omega arith) 5 (matched .match .keys5))
 
 returns-6 : tie.Need-returns-6
 unfolding byWords
 returns-6 c =
-    let w = c .before .before .before .before .args .w in
-    c .if-zero5 .ensures ∙ rw (and-mask (w .1) 44) (sym (found w (omega arith) 6 (c .before .match .keys6)))
+    let matched = c .before in
+    let w = matched .before .before .before .args .w in
+    c .if-zero5 .ensures ∙ rw (and-mask (w .1) 44) (sym (found w (omega arith) 6 (matched .match .keys6)))
 
 returns-7 : tie.Need-returns-7
 unfolding byWords
@@ -92,18 +74,6 @@ pub of-words-spec : {M : Type 1} → statement M
 of-words-spec =
     tie.close
     (tie.spec
-    if-zero-requires
-    if-zero-requires-2
-    if-zero-requires-3
-    if-zero-requires-4
-    cast-t17
-    shr-t18
-    cast-t19
-    if-zero-requires-5
-    returns
-    returns-2
-    returns-3
-    returns-4
-    returns-5
-    returns-6
+    (search needs) (search needs) (search needs) (search needs) (search needs) (search needs)
+    (search needs) (search needs) returns returns-2 returns-3 returns-4 returns-5 returns-6
     returns-7)

@@ -27,20 +27,9 @@ returns c =
     let b = c .before .before .pre in
     let e = joined (a .c .0) (a .by) (a .e .0) (b .0) (b .1) (b .2) in λ i. record { 0 = e i }
 
-cast-t4 : tie.Need-cast-t4
-cast-t4 c = search needs
-
-cast-t5 : tie.Need-cast-t5
-cast-t5 c = search needs
-
-shl-t6 : tie.Need-shl-t6
-shl-t6 c = search needs
-
-cast-t8 : tie.Need-cast-t8
-cast-t8 c = search needs
-
-shl-t9 : tie.Need-shl-t9
-shl-t9 c = search needs
-
 pub pair-of-spec : {M : Type 1} → statement M
-pair-of-spec = tie.close (tie.spec cast-t4 cast-t5 shl-t6 cast-t8 shl-t9 returns)
+pair-of-spec =
+    tie.close
+    (tie.spec
+    (λ c. search needs) (λ c. search needs) (λ c. search needs) (λ c. search needs) (λ c. search needs)
+    returns)

@@ -29,26 +29,15 @@ loop-holds : tie.Need-loop-holds Inv-loop μ-loop
 unfolding spelt
 loop-holds c = (omega arith, omega arith, refl)
 
-add-push : tie.Need-add-push Inv-loop μ-loop
-add-push c = omega arith
-
-shared-slice-read-push : tie.Need-shared-slice-read-push Inv-loop μ-loop
-shared-slice-read-push c = omega arith
-
 push-requires : tie.Need-push-requires Inv-loop μ-loop
 push-requires c κs =
     let l = c .before .before .loop in room (l .x) (l .i) (omega arith) (l .inv .1)
 
-add-i : tie.Need-add-i Inv-loop μ-loop
-add-i c = omega arith
-
-loop-less : tie.Need-loop-less Inv-loop μ-loop
-loop-less c = omega arith
-
 loop-again : tie.Need-loop-again Inv-loop μ-loop
 loop-again c =
-    let l = c .before .before .before .loop in
-    let a = c .before .before .before .before .before .args in
+    let turn = c .before .before .before in
+    let l = turn .loop in
+    let a = turn .before .before .args in
     let b = getD (a .s .now) (a .at + l .i) 0 in
     let byte : b < 256 = omega (arith, c .before .shared-slice-known2 .given (a .at + l .i)) in (
       omega arith,
@@ -62,19 +51,12 @@ returns c =
     let a = c .before .before .before .args in
     let l = c .before .loop in
     let all : l .i ≡ a .count = omega arith in
-    subst (λ (n : ℕ). (l .x < 256 ^ n) × (l .x ≡ spelt 0 (take n (drop (a .at) (a .s .now))))) all (l .inv .1, l .inv .2)
+    subst (λ (n : ℕ). (l .x < 256 ^ n) × (l .x ≡ spelt 0 (take n (drop (a .at) (a .s .now))))) all
+    (l .inv .1, l .inv .2)
 
 pub read-bytes-spec : {M : Type 1} → statement M
 read-bytes-spec =
     tie.close
     (tie.spec
-    Inv-loop
-    μ-loop
-    loop-holds
-    add-push
-    shared-slice-read-push
-    push-requires
-    add-i
-    loop-less
-    loop-again
-    returns)
+    Inv-loop μ-loop loop-holds (λ c. omega arith) (λ c. omega arith) push-requires (λ c. omega arith)
+    (λ c. omega arith) loop-again returns)

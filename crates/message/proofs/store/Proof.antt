@@ -10,36 +10,24 @@ use borrow.Author.Needs.{needs}
 use Rattle.message.proofs.store.Statement.{statement}
 use Rattle.message.proofs.store.Tie as tie
 
-cast-write-bytes : tie.Need-cast-write-bytes
-cast-write-bytes c = search needs
+-- where places come from
+abbrev start : tie.After-write-bytes → tie.Start
+start c = c .before .before .before .before
 
-write-bytes-requires : tie.Need-write-bytes-requires
-write-bytes-requires c κs = search needs
-
-add-write-bytes : tie.Need-add-write-bytes
-add-write-bytes c = search needs
-
-write-bytes-requires-2 : tie.Need-write-bytes-requires-2
-write-bytes-requires-2 c κs = search needs
-
-same-length : tie.Need-same-length
-same-length c = search needs
+abbrev between : tie.After-write-bytes2 → tie.After-write-bytes
+between c = c .before .before .before .before
 
 returns : tie.Need-returns
 returns c =
-    let a = c .before .before .before .before .before .before .before .before .before .before .args in
-    let first = c .before .before .before .before .before .before .write-bytes in
-    let second = c .before .before .write-bytes2 in
-    second .ensures ∙ ap (λ (s : List ℕ). sets s (a .at + 3) (bigEndian 8 (a .w .1))) (first .ensures)
+    let second = c .before .before in
+    let first = between second in
+    let a = start first .args in
+    second .write-bytes2 .ensures
+    ∙ ap (λ (s : List ℕ). sets s (a .at + 3) (bigEndian 8 (a .w .1))) (first .write-bytes .ensures)
     ∙ sets-two (a .out .now) (a .at) 3 8 (a .w .0) (a .w .1) (omega arith)
 
 pub store-spec : {M : Type 1} → statement M
 store-spec =
     tie.close
     (tie.spec
-    cast-write-bytes
-    write-bytes-requires
-    add-write-bytes
-    write-bytes-requires-2
-    same-length
-    returns)
+    (search needs) (search needs) (search needs) (search needs) (search needs) returns)

@@ -16,20 +16,15 @@ returns : tie.Need-returns
 unfolding unpackOf
 returns c = simp (ne-eqb (length (c .before .before .args .s .now)) 11 (λ e. omega arith))
 
-load-requires : tie.Need-load-requires
-load-requires c κs = search needs
-
-of-words-requires : tie.Need-of-words-requires
-of-words-requires c κs = search needs
-
 returns-2 : tie.Need-returns-2
 returns-2 c =
-    let s = c .before .before .before .before .args .s .now in
+    let known = c .before .before .before in
+    let s = known .before .args .s .now in
     let eleven : length s ≡ 11 = omega arith in
     let all : take 11 s ≡ s = take-all 11 s (omega arith) in
-    let bytes = are-bytes s (λ i. omega (arith, c .before .before .before .shared-slice-known .given i)) in
+    let bytes = are-bytes s (λ i. omega (arith, known .shared-slice-known .given i)) in
     c .of-words .ensures ∙ ap (λ (w : Words). messageOf (wordsNumber w)) (c .before .load .ensures)
     ∙ rw all (of-words-unpacks s eleven bytes)
 
 pub unpack-spec : {M : Type 1} → statement M
-unpack-spec = tie.close (tie.spec returns load-requires of-words-requires returns-2)
+unpack-spec = tie.close (tie.spec returns (λ c κs. search needs) (λ c κs. search needs) returns-2)

@@ -11,50 +11,8 @@ use borrow.Author.Needs.{needs}
 use Rattle.message.proofs.words_of.Statement.{statement}
 use Rattle.message.proofs.words_of.Tie as tie
 
-enum-known-m : tie.Need-enum-known-m
-enum-known-m c = search needs
-
-head-requires : tie.Need-head-requires
-head-requires c κs = search needs
-
-enum-known-m-2 : tie.Need-enum-known-m-2
-enum-known-m-2 c = search needs
-
-head-requires-2 : tie.Need-head-requires-2
-head-requires-2 c κs = search needs
-
-enum-told : tie.Need-enum-told
-enum-told c = search needs
-
-head-requires-3 : tie.Need-head-requires-3
-head-requires-3 c κs = search needs
-
-enum-known-m-3 : tie.Need-enum-known-m-3
-enum-known-m-3 c = search needs
-
-head-requires-4 : tie.Need-head-requires-4
-head-requires-4 c κs = search needs
-
-enum-known-m-4 : tie.Need-enum-known-m-4
-enum-known-m-4 c = search needs
-
-head-requires-5 : tie.Need-head-requires-5
-head-requires-5 c κs = search needs
-
-enum-known-m-5 : tie.Need-enum-known-m-5
-enum-known-m-5 c = search needs
-
-head-requires-6 : tie.Need-head-requires-6
-head-requires-6 c κs = search needs
-
 cast-t16 : tie.Need-cast-t16
 cast-t16 c = omega (arith, mask-lt (c .before .before .before .m5 .given .0 .0 .0) 20)
-
-cast-t17 : tie.Need-cast-t17
-cast-t17 c = search needs
-
-shl-t18 : tie.Need-shl-t18
-shl-t18 c = search needs
 
 returns : tie.Need-returns
 returns c = words-are _ _ _ (c .head .ensures) refl ∙ ap wordsOf (sym (c .before .before .m .given .1))
@@ -80,31 +38,14 @@ returns-5 c =
 returns-6 : tie.Need-returns-6
 returns-6 c =
     let n = c .before .before .before .m5 .given .0 .0 .0 in
-    words-are _ _ _ (c .before .head6 .ensures) (rw (and-mask n 20) (shl-exact 20 44 64 (mod-lt n (pow-pos 20)) (lit≤ tt)))
+    words-are _ _ _ (c .before .head6 .ensures)
+    (rw (and-mask n 20) (shl-exact 20 44 64 (mod-lt n (pow-pos 20)) (lit≤ tt)))
     ∙ ap wordsOf (sym (c .before .before .before .m5 .given .1))
 
 pub words-of-spec : {M : Type 1} → statement M
 words-of-spec =
     tie.close
     (tie.spec
-    enum-known-m
-    head-requires
-    enum-known-m-2
-    head-requires-2
-    enum-told
-    head-requires-3
-    enum-known-m-3
-    head-requires-4
-    enum-known-m-4
-    head-requires-5
-    enum-known-m-5
-    head-requires-6
-    cast-t16
-    cast-t17
-    shl-t18
-    returns
-    returns-2
-    returns-3
-    returns-4
-    returns-5
-    returns-6)
+    (search needs) (search needs) (search needs) (search needs) (search needs) (search needs)
+    (search needs) (search needs) (search needs) (search needs) (search needs) (search needs)
+    cast-t16 (search needs) (search needs) returns returns-2 returns-3 returns-4 returns-5 returns-6)

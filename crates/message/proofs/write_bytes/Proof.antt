@@ -30,35 +30,16 @@ turn x k out i n b e h =
 loop-holds : tie.Need-loop-holds Inv-loop μ-loop
 loop-holds c = (refl, omega arith, refl, refl)
 
-sub-left : tie.Need-sub-left Inv-loop μ-loop
-sub-left c = omega arith
-
-mul-byte : tie.Need-mul-byte Inv-loop μ-loop
-mul-byte c = omega arith
-
-cast-byte : tie.Need-cast-byte Inv-loop μ-loop
-cast-byte c = omega arith
-
-byte-requires : tie.Need-byte-requires Inv-loop μ-loop
-byte-requires c κs = omega arith
-
-slice-write-out : tie.Need-slice-write-out Inv-loop μ-loop
-slice-write-out c = omega arith
-
-add-i : tie.Need-add-i Inv-loop μ-loop
-add-i c = omega arith
-
-loop-less : tie.Need-loop-less Inv-loop μ-loop
-loop-less c = omega arith
-
 loop-again : tie.Need-loop-again Inv-loop μ-loop
 loop-again c =
-    let l = c .before .before .loop in
-    let a = c .before .before .before .before .args in (
+    let turned = c .before .before in
+    let l = turned .loop in
+    let a = turned .before .before .args in (
       omega arith,
       omega arith,
       length-set (l .out) (l .i) (c .byte .result) ∙ l .inv .2,
-      turn (a .x) (l .left - 1) (l .out) (l .i) (l .left) (c .byte .result) (c .byte .ensures) (omega arith) ∙ l .inv .3,
+      turn (a .x) (l .left - 1) (l .out) (l .i) (l .left) (c .byte .result) (c .byte .ensures) (omega arith)
+          ∙ l .inv .3,
     )
 
 same-length : tie.Need-same-length Inv-loop μ-loop
@@ -69,22 +50,13 @@ unfolding bigEndian
 returns c =
     let l = c .before .loop in
     let none : l .left ≡ 0 = omega arith in
-    sym (ap (λ (n : ℕ). sets (l .out) (l .i) (bigEndian n (c .before .before .before .args .x))) none) ∙ l .inv .3
+    let x = c .before .before .before .args .x in
+    sym (ap (λ (n : ℕ). sets (l .out) (l .i) (bigEndian n x)) none) ∙ l .inv .3
 
 pub write-bytes-spec : {M : Type 1} → statement M
 write-bytes-spec =
     tie.close
     (tie.spec
-    Inv-loop
-    μ-loop
-    loop-holds
-    sub-left
-    mul-byte
-    cast-byte
-    byte-requires
-    slice-write-out
-    add-i
-    loop-less
-    loop-again
-    same-length
-    returns)
+    Inv-loop μ-loop loop-holds (λ c. omega arith) (λ c. omega arith) (λ c. omega arith)
+    (λ c κs. omega arith) (λ c. omega arith) (λ c. omega arith) (λ c. omega arith) loop-again
+    same-length returns)

@@ -12,7 +12,7 @@ use mathlib.Core.Path.{_≡_, refl}
 use mathlib.Core.List.{List, [], _∷_, _++_}
 use Prim.Native.Nat.{ℕ}
 use lib.Dec.{eqb}
-use Rattle.basics.specs.Counting.{count}
+use Rattle.basics.specs.Counting.{countBelow}
 use Rattle.basics.specs.Tests.{allBelow}
 use Rattle.register.specs.declared.Answer.the-variants.{Read, Wrote}
 use Rattle.register.specs.Settings.{Settings, Accepted, inRange, setupRefusal}
@@ -25,7 +25,7 @@ abbrev pub four : Settings
 four = record { f = 1; clients = 3; faulty = λ k. eqb k 4 }
 
 set-up : Accepted four
-unfolding setupRefusal inRange allBelow count
+unfolding setupRefusal inRange allBelow countBelow
 set-up = refl
 
 -- INFO of read t with the pair of counter 1 and client 2, with the initial pair; WRITE_ACK with counter 1

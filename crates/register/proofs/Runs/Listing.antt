@@ -4,7 +4,7 @@
 use mathlib.Core.Path.{_≡_, refl}
 use mathlib.Core.Bool.{false}
 use mathlib.Core.List.{List, [], _∷_}
-use Rattle.basics.specs.Counting.{count}
+use Rattle.basics.specs.Counting.{countBelow}
 use Rattle.basics.specs.Tests.{allBelow}
 use Rattle.register.specs.declared.Answer.the-variants.{Went, Read, Wrote}
 use Rattle.register.specs.Settings.{Settings, Accepted, inRange, setupRefusal}
@@ -17,7 +17,7 @@ abbrev alone : Settings
 alone = record { f = 0; clients = 1; faulty = λ k. false }
 
 set-up : Accepted alone
-unfolding setupRefusal inRange allBelow count
+unfolding setupRefusal inRange allBelow countBelow
 set-up = refl
 
 abbrev steps : List Step

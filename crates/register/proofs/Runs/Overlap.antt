@@ -10,9 +10,9 @@ use mathlib.Core.Path.{_≡_, refl}
 use mathlib.Core.List.{List, [], _∷_, _++_}
 use Prim.Native.Nat.{ℕ, zero, suc, _+_, _*_}
 use lib.Dec.{eqb}
-use Rattle.basics.specs.Counting.{count}
+use Rattle.basics.specs.Counting.{countBelow}
 use Rattle.basics.specs.Tests.{allBelow}
-use Rattle.refusal.specs.declared.Refusal.the-variants as no
+use Rattle.refusal.specs.Numbers.{numbered}
 use Rattle.register.specs.declared.Answer.the-variants.{Went, Read, Wrote, Refused}
 use Rattle.register.specs.Settings.{Settings, Accepted, inRange, setupRefusal}
 use Rattle.register.specs.Steps.{Step, R, W, K, D, C, L}
@@ -24,7 +24,7 @@ abbrev four : Settings
 four = record { f = 1; clients = 2; faulty = λ k. eqb k 4 }
 
 set-up : Accepted four
-unfolding setupRefusal inRange allBelow count
+unfolding setupRefusal inRange allBelow countBelow
 set-up = refl
 
 -- INFO of read 1 with counter c, client d and the entry
@@ -51,11 +51,11 @@ refused =
     ∷ R 2 ∷ []
 
 overlap : answers four formats (begun ++ shown ++ stored-by-all ++ refused)
-    ≡ went 20 ++ Read (pairBy 1 1) ∷ went 4 ++ Wrote (pairBy 1 1) ∷ Went ∷ Refused no.Stopped
-    ∷ Refused no.NoSuchProcess
-    ∷ Refused no.WrongRole ∷ Refused no.WrongRole ∷ Refused no.NoEntry ∷ Refused no.Malformed
-    ∷ Refused no.EmptyChannel ∷ Went
-    ∷ Refused no.Busy ∷ []
+    ≡ went 20 ++ Read (pairBy 1 1) ∷ went 4 ++ Wrote (pairBy 1 1) ∷ Went ∷ Refused (numbered 6)
+    ∷ Refused (numbered 4)
+    ∷ Refused (numbered 5) ∷ Refused (numbered 5) ∷ Refused (numbered 8) ∷ Refused (numbered 9)
+    ∷ Refused (numbered 10) ∷ Went
+    ∷ Refused (numbered 7) ∷ []
 unfolding answers
 overlap = refl
 
@@ -64,6 +64,6 @@ abbrev lies : ℕ → List Step
 lies zero = []
 lies (suc n) = L 4 2 (info 1 1) ∷ lies n
 
-ninth : answers four formats (lies 9) ≡ went 8 ++ Refused no.FullChannel ∷ []
+ninth : answers four formats (lies 9) ≡ went 8 ++ Refused (numbered 12) ∷ []
 unfolding answers
 ninth = refl

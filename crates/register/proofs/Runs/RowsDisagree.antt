@@ -16,7 +16,6 @@ use lib.ListN.{getD}
 use borrow.Author.Tests.{leb-true}
 use Rattle.basics.specs.Members.{Member, At}
 use Rattle.basics.specs.Tests.{allBelow}
-use Rattle.basics.proofs.Cases.{by-either}
 use Rattle.basics.proofs.Tests.{below}
 use Rattle.message.specs.declared.Pair.{Pair}
 use Rattle.register.specs.declared.Answer.{Answer}
@@ -25,13 +24,14 @@ use Rattle.register.specs.Steps.{Step}
 use Rattle.register.specs.History.{answerAt, WriteBegins, AnswersRead, AnswersWrite, ReadEnds}
 use Rattle.register.specs.History.{WriteEnds}
 use Rattle.register.specs.History.{Sends}
-use Rattle.register.specs.DemandThree.{Earlier, Row}
+use Rattle.register.specs.DemandThree.{Earlier, Legal, first, behind, Row}
 use Rattle.register.specs.Formats.{formats}
 use Rattle.register.proofs.Runs.{answers, theEntry, pairBy}
-use Rattle.register.proofs.Runs.Disagree.{four, first, early, second, late}
+use Rattle.register.proofs.Runs.Disagree.{four, early, second, late}
+use Rattle.register.proofs.Runs.Disagree as run
 
 abbrev steps : List Step
-steps = first ++ early ++ second ++ late
+steps = run.first ++ early ++ second ++ late
 
 -- ---- what the run answers
 
@@ -165,9 +165,18 @@ record RightAfter (row : List ℕ) (b : ℕ) : Type 0 where
 
 right-after : (b j : ℕ) (row : List ℕ) → Row four formats steps b j shown row → RightAfter row b
 right-after b j row h =
-    by-either (h .legal) (λ q. absurd (let z : shown .0 ≡ 0 = ap (λ (p : Pair). p .0) (q .0) in omega arith))
-    (λ q. let is : 0 ≡ q .0 = q .2 .only 0 2 6 first-sends in
-    record { place = q .1; write = subst (λ (w : ℕ). At row w (q .1)) (sym is) (q .4); read = q .5 })
+    by-place (h .legal)
+  where
+    by-place : Legal four formats steps b j shown row → RightAfter row b
+    by-place (first q) =
+        absurd (let z : shown .0 ≡ 0 = ap (λ (p : Pair). p .0) (q .shown) in omega arith)
+    by-place (behind q) =
+        let is : 0 ≡ q .write = q .only .only 0 2 6 first-sends in
+        record {
+          place = q .place;
+          write = subst (λ (w : ℕ). At row w (q .place)) (sym is) (q .stands);
+          read = q .next;
+        }
 
 later-member : (b j : ℕ) (row : List ℕ) → Row four formats steps b j shown row → Member 16 row
 later-member b j row h = h .members 16 .1 (inr (record {

@@ -40,7 +40,7 @@ loop-holds c =
     })
     (sym (input .new-input .ensures)) (sym (out .new-output .ensures))
 
--- ---- places of a turn: its start, the read, the block closed and not empty, and the lines taken
+-- ---- places of a turn: its start, the read, the block closed and not empty, the lines taken, and their text written
 
 abbrev starting : tie.After-read-behind Inv-loop μ-loop → tie.At-loop Inv-loop μ-loop
 starting c = c .before .before .before
@@ -54,8 +54,11 @@ closing c = c .before .before
 abbrev testing : tie.After-b Inv-loop μ-loop → tie.Else1 Inv-loop μ-loop
 testing c = c .before .before .before .before .before
 
+abbrev writing : tie.After-input6 Inv-loop μ-loop → tie.After-take-lines Inv-loop μ-loop
+writing c = c .before .before .before .before .before
+
 abbrev taking : tie.After-input7 Inv-loop μ-loop → tie.After-take-lines Inv-loop μ-loop
-taking c = c .before .before .before .before .before .before
+taking c = writing (c .before .before)
 
 -- ---- the block
 
@@ -137,14 +140,13 @@ printed-long c =
 array-share-prefix-out : tie.Need-array-share-prefix-out Inv-loop μ-loop
 array-share-prefix-out c = let fits = printed-fits (c .before) in search needs
 
-slice-aggregate-write-all : tie.Need-slice-aggregate-write-all Inv-loop μ-loop
-slice-aggregate-write-all c = sym (length-take-le _ _ (printed-long (c .before .before)))
+slice-aggregate-write-out : tie.Need-slice-aggregate-write-out Inv-loop μ-loop
+slice-aggregate-write-out c = sym (length-take-le _ _ (printed-long (c .before .before)))
 
 -- ---- what is kept, and the next turn
 
 slice-aggregate-keep : tie.Need-slice-aggregate-keep Inv-loop μ-loop
-slice-aggregate-keep c =
-    let taken = c .before .before .before .before in sym (closed-long (closing (testing (taken .before))))
+slice-aggregate-keep c = sym (closed-long (closing (testing (writing c .before))))
 
 -- a turn was left
 some-left : (c : tie.After-take-lines Inv-loop μ-loop) → 0 < starting (reading (closing (testing (c .before)))) .loop .turns
@@ -189,7 +191,8 @@ main-spec =
     slice-aggregate-take-lines-2
     take-lines-requires
     array-share-prefix-out
-    slice-aggregate-write-all
+    slice-aggregate-write-out
+    (search needs)
     (search needs)
     slice-aggregate-keep
     (search needs)

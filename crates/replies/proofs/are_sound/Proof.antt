@@ -31,15 +31,6 @@ loop-holds : tie.Need-loop-holds Inv-loop μ-loop
 unfolding allBelow
 loop-holds c = (omega arith, refl)
 
-both-requires : tie.Need-both-requires Inv-loop μ-loop
-both-requires c = search needs
-
-both-requires-2 : tie.Need-both-requires-2 Inv-loop μ-loop
-both-requires-2 c = search needs
-
-is-sound-at-requires : tie.Need-is-sound-at-requires Inv-loop μ-loop
-is-sound-at-requires c = search needs
-
 abbrev test : List ℕ → ℕ → Bool → Bool → ℕ → Bool
 test r n reading storing i = isSoundAt (ltb i n && reading) (ltb i n && storing) r i
 
@@ -55,17 +46,12 @@ returns-2 c =
     let s = c .before .before .before .before .before .before .before .before in
     let a = s .args in
     let i = c .before .before .before .before .before .loop .i in
-    let e = here (a .r .now) (a .n) (a .reading) (a .storing) i _ _ _ (c .before .before .before .both .ensures)
+    let e = here (a .r .now) (a .n) (a .reading) (a .storing) i
+    _ _ _ (c .before .before .before .both .ensures)
     (c .before .before .both2 .ensures) (c .before .is-sound-at .ensures) in
     rw (eq-eqb (length (a .r .now)) 91 (c .before .before .before .before .before .before .if1 .left))
     (sym (below-fails (test (a .r .now) (a .n) (a .reading) (a .storing)) 13 i (omega arith)
     (sym e ∙ not-true _ (c .if2 .taken))))
-
-add-i : tie.Need-add-i Inv-loop μ-loop
-add-i c = search needs
-
-loop-less : tie.Need-loop-less Inv-loop μ-loop
-loop-less c = search needs
 
 loop-again : tie.Need-loop-again Inv-loop μ-loop
 loop-again c =
@@ -93,15 +79,5 @@ pub are-sound-spec : {M : Type 1} → statement M
 are-sound-spec =
     tie.close
     (tie.spec
-    Inv-loop
-    μ-loop
-    returns
-    loop-holds
-    both-requires
-    both-requires-2
-    is-sound-at-requires
-    returns-2
-    add-i
-    loop-less
-    loop-again
-    returns-3)
+    Inv-loop μ-loop returns loop-holds (search needs) (search needs) (search needs) returns-2
+    (search needs) (search needs) loop-again returns-3)

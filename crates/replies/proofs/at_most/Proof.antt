@@ -1,5 +1,5 @@
--- `at_most`: the loop counts the noted timestamps at or below t. The invariant is that the count so far is the
--- definition's.
+-- `at_most`: the loop counts the noted timestamps at or below t. The invariant is that the count so far is
+-- the definition's.
 -- Assumes nothing.
 use Prim.Native.Nat.{ℕ, suc, _≤_, _-_}
 use mathlib.Core.Path.{_≡_, sym, ap, _∙_}
@@ -7,7 +7,7 @@ use mathlib.Core.Bool.{Bool}
 use mathlib.Core.List.{List}
 use native.Mathlib.Omega.{arith}
 use borrow.Author.Needs.{needs}
-use Rattle.basics.specs.Counting.{count}
+use Rattle.basics.specs.Counting.{countBelow}
 use Rattle.register.specs.Client.{isAtMost}
 use Rattle.replies.specs.Replies.{notedIn}
 use Rattle.replies.proofs.Places.{noted-at}
@@ -19,35 +19,17 @@ abbrev test : List ℕ → ℕ → ℕ → Bool
 test r t i = isAtMost t (notedIn r (suc i))
 
 abbrev Inv-loop : tie.InvT-loop
-Inv-loop r n t c₀ i₀ c i = (i ≤ n) × (c ≤ i) × (c ≡ count (test r (t .0)) i)
+Inv-loop r n t c₀ i₀ c i = (i ≤ n) × (c ≤ i) × (c ≡ countBelow (test r (t .0)) i)
 
 abbrev μ-loop : tie.MeasureT-loop
 μ-loop r n t c₀ i₀ c i = n - i
 
 loop-holds : tie.Need-loop-holds Inv-loop μ-loop
-unfolding count
+unfolding countBelow
 loop-holds c = search needs
-
-mul-is-at-most : tie.Need-mul-is-at-most Inv-loop μ-loop
-mul-is-at-most c = search needs
-
-shared-slice-read-is-at-most : tie.Need-shared-slice-read-is-at-most Inv-loop μ-loop
-shared-slice-read-is-at-most c = search needs
-
-is-at-most-requires : tie.Need-is-at-most-requires Inv-loop μ-loop
-is-at-most-requires c κs = search needs
-
-cast-c : tie.Need-cast-c Inv-loop μ-loop
-cast-c c = search needs
 
 add-c : tie.Need-add-c Inv-loop μ-loop
 add-c c = record { fits = omega (arith, bool-le (c .is-at-most .result)) }
-
-add-i : tie.Need-add-i Inv-loop μ-loop
-add-i c = search needs
-
-loop-less : tie.Need-loop-less Inv-loop μ-loop
-loop-less c = search needs
 
 loop-again : tie.Need-loop-again Inv-loop μ-loop
 loop-again c =
@@ -70,15 +52,5 @@ pub at-most-spec : {M : Type 1} → statement M
 at-most-spec =
     tie.close
     (tie.spec
-    Inv-loop
-    μ-loop
-    loop-holds
-    mul-is-at-most
-    shared-slice-read-is-at-most
-    is-at-most-requires
-    cast-c
-    add-c
-    add-i
-    loop-less
-    loop-again
-    returns)
+    Inv-loop μ-loop loop-holds (search needs) (search needs) (search needs) (search needs) add-c
+    (search needs) (search needs) loop-again returns)

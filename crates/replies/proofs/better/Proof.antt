@@ -1,4 +1,5 @@
--- `better`: from the last pair of the set down, the choice is that of the pairs passed. The invariant is this equation.
+-- `better`: from the last pair of the set down, the choice is that of the pairs passed. The invariant is this
+-- equation.
 -- Assumes nothing.
 use Prim.Native.Nat.{ℕ, suc, _+_, _-_, _*_, _≤_}
 use mathlib.Core.Path.{_≡_, sym, ap, _∙_}
@@ -23,43 +24,17 @@ test r f = counts (size f) f 0 (heldIn r)
 
 abbrev Inv-loop : tie.InvT-loop
 Inv-loop r f i at c₀ j₀ c j =
-    (j ≤ 4) × (j ≤ length (setIn r (suc i))) × (choiceOf c ≡ bestOf (test r f) (drop j (setIn r (suc i))) (choiceOf c₀))
+    (j ≤ 4) × (j ≤ length (setIn r (suc i)))
+    × (choiceOf c ≡ bestOf (test r f) (drop j (setIn r (suc i))) (choiceOf c₀))
 
 abbrev μ-loop : tie.MeasureT-loop
 μ-loop r f i at c₀ j₀ c j = j
-
-mul-at : tie.Need-mul-at Inv-loop μ-loop
-mul-at c = search needs
-
-add-at : tie.Need-add-at Inv-loop μ-loop
-add-at c = search needs
-
-size-of-requires : tie.Need-size-of-requires Inv-loop μ-loop
-size-of-requires c κs = search needs
 
 loop-holds : tie.Need-loop-holds Inv-loop μ-loop
 loop-holds c =
     let a = c .before .before .args in
     let e = c .size-of .ensures in
     (e .1, omega (arith, e .0), sym (best-none (test (a .r .now) (a .f)) _ (choiceOf (a .best)) _ (e .0)))
-
-sub-j : tie.Need-sub-j Inv-loop μ-loop
-sub-j c = search needs
-
-add-t10 : tie.Need-add-t10 Inv-loop μ-loop
-add-t10 c = search needs
-
-mul-t11 : tie.Need-mul-t11 Inv-loop μ-loop
-mul-t11 c = search needs
-
-shared-slice-read-t13 : tie.Need-shared-slice-read-t13 Inv-loop μ-loop
-shared-slice-read-t13 c = search needs
-
-consider-requires : tie.Need-consider-requires Inv-loop μ-loop
-consider-requires c κs = search needs
-
-loop-less : tie.Need-loop-less Inv-loop μ-loop
-loop-less c = search needs
 
 loop-again : tie.Need-loop-again Inv-loop μ-loop
 loop-again c =
@@ -94,17 +69,5 @@ pub better-spec : {M : Type 1} → statement M
 better-spec =
     tie.close
     (tie.spec
-    Inv-loop
-    μ-loop
-    mul-at
-    add-at
-    size-of-requires
-    loop-holds
-    sub-j
-    add-t10
-    mul-t11
-    shared-slice-read-t13
-    consider-requires
-    loop-less
-    loop-again
-    returns)
+    Inv-loop μ-loop (search needs) (search needs) (search needs) loop-holds (search needs)
+    (search needs) (search needs) (search needs) (search needs) (search needs) loop-again returns)

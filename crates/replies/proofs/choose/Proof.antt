@@ -12,7 +12,7 @@ use lib.Dec.{eqb}
 use lib.ListN.{getD}
 use borrow.Author.Needs.{needs}
 use borrow.Author.Tests.{not-true, not-false}
-use Rattle.basics.specs.Counting.{count}
+use Rattle.basics.specs.Counting.{countBelow}
 use Rattle.message.specs.declared.Pair.{Pair}
 use Rattle.register.specs.Thresholds.{size, counted, enough}
 use Rattle.register.specs.Client.{isNoted, counts, highestOf, allPairs, chosen}
@@ -35,24 +35,13 @@ Inv-loop r f n best₀ i₀ b i = (i ≤ n) × (choiceOf b ≡ best r f i)
 abbrev μ-loop : tie.MeasureT-loop
 μ-loop r f n best₀ i₀ b i = n - i
 
-servers-requires : tie.Need-servers-requires Inv-loop μ-loop
-servers-requires c κs = search needs
-
-cast-n : tie.Need-cast-n Inv-loop μ-loop
-cast-n c = search needs
-
-used-requires : tie.Need-used-requires Inv-loop μ-loop
-used-requires c κs = search needs
-
-is-enough-requires : tie.Need-is-enough-requires Inv-loop μ-loop
-is-enough-requires c κs = search needs
-
 -- whether enough are noted, from what the calls answer
-spoken : (r : List ℕ) (f n u : ℕ) (b : Bool) → f ≤ 4 → n ≡ size f → u ≡ count (isUsed r 0) n → b ≡ enough (size f) f u
+spoken : (r : List ℕ) (f n u : ℕ) (b : Bool) → f ≤ 4 → n ≡ size f → u ≡ countBelow (isUsed r 0) n
+    → b ≡ enough (size f) f u
     → b ≡ enough (size f) f (counted (λ k. isNoted (notedIn r k)) (size f))
 spoken r f n u b small en eu eb =
     eb ∙ ap (enough (size f) f)
-    (eu ∙ ap (count (isUsed r 0)) en
+    (eu ∙ ap (countBelow (isUsed r 0)) en
     ∙ count-same (isUsed r 0) (λ i. isNoted (notedIn r (suc i))) (size f)
     (λ i less. ap (λ (x : ℕ). not (eqb (getD r x 0) 0)) (zero-add i)
     ∙ sym (ap isNoted (noted-at r i (omega arith)) ∙ noted-used (getD r i 0))))
@@ -70,15 +59,6 @@ loop-holds : tie.Need-loop-holds Inv-loop μ-loop
 unfolding highestOf allPairs
 loop-holds c = search needs
 
-better-requires : tie.Need-better-requires Inv-loop μ-loop
-better-requires c κs = search needs
-
-add-i : tie.Need-add-i Inv-loop μ-loop
-add-i c = search needs
-
-loop-less : tie.Need-loop-less Inv-loop μ-loop
-loop-less c = search needs
-
 loop-again : tie.Need-loop-again Inv-loop μ-loop
 loop-again c =
     let a = c .before .before .before .before .before .before .before .before .args in
@@ -95,7 +75,8 @@ unfolding chosen
 returns-2 c =
     let a = c .before .before .before .before .before .before .before .args in
     let l = c .before .loop in
-    let e = spoken (a .r .now) (a .f) _ _ _ (c .before .before .before .before .before .before .before .pre .1)
+    let e = spoken (a .r .now) (a .f)
+    _ _ _ (c .before .before .before .before .before .before .before .pre .1)
     (c .before .before .before .before .before .servers .ensures)
     (c .before .before .before .before .used .ensures) (c .before .before .before .is-enough .ensures) in
     let n = c .before .before .before .before .before .servers .ensures in
@@ -106,16 +87,5 @@ pub choose-spec : {M : Type 1} → statement M
 choose-spec =
     tie.close
     (tie.spec
-    Inv-loop
-    μ-loop
-    servers-requires
-    cast-n
-    used-requires
-    is-enough-requires
-    returns
-    loop-holds
-    better-requires
-    add-i
-    loop-less
-    loop-again
-    returns-2)
+    Inv-loop μ-loop (search needs) (search needs) (search needs) (search needs) returns loop-holds
+    (search needs) (search needs) (search needs) loop-again returns-2)

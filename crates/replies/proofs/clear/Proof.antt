@@ -16,21 +16,6 @@ Inv-loop r₀ i₀ r i = (i ≤ 91) × (length r ≡ length r₀) × (r ≡ repl
 abbrev μ-loop : tie.MeasureT-loop
 μ-loop r₀ i₀ r i = 91 - i
 
-loop-holds : tie.Need-loop-holds Inv-loop μ-loop
-loop-holds c = search needs
-
-mul-r : tie.Need-mul-r Inv-loop μ-loop
-mul-r c = search needs
-
-slice-write-r : tie.Need-slice-write-r Inv-loop μ-loop
-slice-write-r c = search needs
-
-add-i : tie.Need-add-i Inv-loop μ-loop
-add-i c = search needs
-
-loop-less : tie.Need-loop-less Inv-loop μ-loop
-loop-less c = search needs
-
 loop-again : tie.Need-loop-again Inv-loop μ-loop
 loop-again c =
     let l = c .before .loop in
@@ -39,9 +24,6 @@ loop-again c =
       length-set (l .r) (l .i) 0 ∙ l .inv .1,
       ap (λ (x : List ℕ). set x (l .i) 0) (l .inv .2) ∙ fill-more (l .i) 0 r (omega arith),
     )
-
-same-length : tie.Need-same-length Inv-loop μ-loop
-same-length c = search needs
 
 returns : tie.Need-returns Inv-loop μ-loop
 returns c =
@@ -56,13 +38,5 @@ pub clear-spec : {M : Type 1} → statement M
 clear-spec =
     tie.close
     (tie.spec
-    Inv-loop
-    μ-loop
-    loop-holds
-    mul-r
-    slice-write-r
-    add-i
-    loop-less
-    loop-again
-    same-length
-    returns)
+    Inv-loop μ-loop (search needs) (search needs) (search needs) (search needs) (search needs)
+    loop-again (search needs) returns)

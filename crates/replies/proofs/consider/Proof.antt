@@ -11,18 +11,13 @@ use Rattle.replies.proofs.Choosing.{above-takes, other-leaves, either-w
 use Rattle.replies.proofs.consider.Statement.{statement}
 use Rattle.replies.proofs.consider.Tie as tie
 
-is-above-requires : tie.Need-is-above-requires
-is-above-requires c κs = search needs
-
 returns : tie.Need-returns
 returns c =
     let a = c .before .before .before .args in
-    sym (either-way (counts (size (a .f)) (a .f) 0 (heldIn (a .r .now)) (a .p)) (higher (a .p) (choiceOf (a .c)))
+    sym (either-way (counts (size (a .f)) (a .f) 0 (heldIn (a .r .now)) (a .p))
+    (higher (a .p) (choiceOf (a .c)))
     (choiceOf (a .c)) (other-leaves (a .p) (choiceOf (a .c))
     (sym (c .before .is-above .ensures) ∙ not-true _ (c .if1 .taken))))
-
-does-count-requires : tie.Need-does-count-requires
-does-count-requires c κs = search needs
 
 returns-2 : tie.Need-returns-2
 returns-2 c = rw (sym (c .before .does-count .ensures) ∙ not-true _ (c .if2 .taken))
@@ -36,4 +31,4 @@ returns-3 c =
 
 pub consider-spec : {M : Type 1} → statement M
 consider-spec =
-    tie.close (tie.spec is-above-requires returns does-count-requires returns-2 returns-3)
+    tie.close (tie.spec (λ c κs. search needs) returns (λ c κs. search needs) returns-2 returns-3)

@@ -16,21 +16,6 @@ use Rattle.replies.specs.Loops.{heldIn}
 use Rattle.replies.proofs.does_count.Statement.{statement}
 use Rattle.replies.proofs.does_count.Tie as tie
 
-servers-requires : tie.Need-servers-requires
-servers-requires c κs = search needs
-
-cast-n : tie.Need-cast-n
-cast-n c = search needs
-
-stamp-of-requires : tie.Need-stamp-of-requires
-stamp-of-requires c κs = search needs
-
-at-most-requires : tie.Need-at-most-requires
-at-most-requires c κs = search needs
-
-is-not-old-requires : tie.Need-is-not-old-requires
-is-not-old-requires c κs = search needs
-
 -- the first threshold, from what the calls answer
 not-old : (r : List ℕ) (f : ℕ) (p : Pair) (n t below : ℕ) (b : Bool) → b ≡ notOldBy f below
     → below ≡ counted (λ k. isAtMost t (notedIn r k)) n → t ≡ stamp p → n ≡ size f
@@ -50,12 +35,6 @@ returns c =
     (c .before .before .before .before .servers .ensures) in
     rw (sym e ∙ not-true _ (c .if1 .taken))
 
-holders-requires : tie.Need-holders-requires
-holders-requires c κs = search needs
-
-is-valid-requires : tie.Need-is-valid-requires
-is-valid-requires c κs = search needs
-
 returns-2 : tie.Need-returns-2
 unfolding counts valid
 returns-2 c =
@@ -73,12 +52,5 @@ pub does-count-spec : {M : Type 1} → statement M
 does-count-spec =
     tie.close
     (tie.spec
-    servers-requires
-    cast-n
-    stamp-of-requires
-    at-most-requires
-    is-not-old-requires
-    returns
-    holders-requires
-    is-valid-requires
-    returns-2)
+    (search needs) (search needs) (search needs) (search needs) (search needs) returns
+    (search needs) (search needs) returns-2)

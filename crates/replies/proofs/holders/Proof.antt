@@ -1,4 +1,5 @@
--- `holders`: the loop counts the sets that have p. The invariant is that the count so far is the definition's.
+-- `holders`: the loop counts the sets that have p. The invariant is that the count so far is the
+-- definition's.
 -- Assumes nothing.
 use Prim.Native.Nat.{ℕ, suc, _≤_, _-_}
 use mathlib.Core.Path.{_≡_}
@@ -6,7 +7,7 @@ use mathlib.Core.Bool.{Bool}
 use mathlib.Core.List.{List}
 use native.Mathlib.Omega.{arith}
 use borrow.Author.Needs.{needs}
-use Rattle.basics.specs.Counting.{count}
+use Rattle.basics.specs.Counting.{countBelow}
 use Rattle.message.specs.declared.Pair.{Pair}
 use Rattle.register.specs.PairSet.{has}
 use Rattle.replies.specs.Replies.{setIn}
@@ -18,29 +19,17 @@ abbrev test : List ℕ → Pair → ℕ → Bool
 test r p i = has p (setIn r (suc i))
 
 abbrev Inv-loop : tie.InvT-loop
-Inv-loop r n p c₀ i₀ c i = (i ≤ n) × (c ≤ i) × (c ≡ count (test r p) i)
+Inv-loop r n p c₀ i₀ c i = (i ≤ n) × (c ≤ i) × (c ≡ countBelow (test r p) i)
 
 abbrev μ-loop : tie.MeasureT-loop
 μ-loop r n p c₀ i₀ c i = n - i
 
 loop-holds : tie.Need-loop-holds Inv-loop μ-loop
-unfolding count
+unfolding countBelow
 loop-holds c = search needs
-
-holds-requires : tie.Need-holds-requires Inv-loop μ-loop
-holds-requires c κs = search needs
-
-cast-c : tie.Need-cast-c Inv-loop μ-loop
-cast-c c = search needs
 
 add-c : tie.Need-add-c Inv-loop μ-loop
 add-c c = record { fits = omega (arith, bool-le (c .holds .result)) }
-
-add-i : tie.Need-add-i Inv-loop μ-loop
-add-i c = search needs
-
-loop-less : tie.Need-loop-less Inv-loop μ-loop
-loop-less c = search needs
 
 loop-again : tie.Need-loop-again Inv-loop μ-loop
 loop-again c =
@@ -61,4 +50,6 @@ returns c =
 pub holders-spec : {M : Type 1} → statement M
 holders-spec =
     tie.close
-    (tie.spec Inv-loop μ-loop loop-holds holds-requires cast-c add-c add-i loop-less loop-again returns)
+    (tie.spec
+    Inv-loop μ-loop loop-holds (λ c κs. search needs) (λ c. search needs) add-c (λ c. search needs)
+    (λ c. search needs) loop-again returns)

@@ -13,36 +13,13 @@ use Rattle.message.specs.declared.Pair.{Pair}
 use Rattle.message.specs.Pair.{same, initial}
 use Rattle.replies.specs.Replies.{setIn, putSet}
 use Rattle.replies.specs.Loops.{rankOf, placedAt}
-use Rattle.replies.proofs.Insertion.{At, rank-le, insert-present, insert-absent, placed-length, add-present}
+use Rattle.replies.proofs.Insertion.{At, rank-le, insert-present, insert-absent, placed-length}
+use Rattle.replies.proofs.Insertion.{add-present}
 use Rattle.replies.proofs.Insertion.{add-room, add-full}
 use Rattle.replies.proofs.Places.{pair-at}
 use Rattle.replies.proofs.Placing.{put-same}
 use Rattle.replies.proofs.insert.Statement.{statement}
 use Rattle.replies.proofs.insert.Tie as tie
-
-size-of-requires : tie.Need-size-of-requires
-size-of-requires c κs = search needs
-
-rank-requires : tie.Need-rank-requires
-rank-requires c κs = search needs
-
-mul-if2 : tie.Need-mul-if2
-mul-if2 c = search needs
-
-add-if2 : tie.Need-add-if2
-add-if2 c = search needs
-
-add-if2-2 : tie.Need-add-if2-2
-add-if2-2 c = search needs
-
-mul-if2-2 : tie.Need-mul-if2-2
-mul-if2-2 c = search needs
-
-slice-read-if2 : tie.Need-slice-read-if2
-slice-read-if2 c = search needs
-
-same-length : tie.Need-same-length
-same-length c = search needs
 
 abbrev S : tie.Start → List Pair
 S c = setIn (c .args .r .now) (suc (c .args .i))
@@ -111,16 +88,14 @@ absent c less =
     ∙ ne-eqb _ _ (λ e. w .3 .left (ap (λ (j : ℕ). getD (a .r .now) (39 + a .i * 4 + j) 0) place ∙ sym e)))
     (λ w. let past = w .left in let z : ⊥ = omega (arith, place, size, past) in absurd z) (c .if1 .came)
 
-same-length-2 : tie.Need-same-length-2
-same-length-2 c = search needs
-
 returns-2 : tie.Need-returns-2
 returns-2 c =
     let s = c .before .before .before .before .before .before .before .before .before .before .before in
     let a = s .args in
     let size = c .before .before .before .before .before .before .before .before .size-of .ensures .0 in
     let L = placedAt (rankOf (a .p) (S s)) (a .p) (S s) in
-    let long : length L ≡ length (S s) + 1 = placed-length (rankOf (a .p) (S s)) (a .p) (S s) (rank-le (a .p) (S s)) in
+    let long : length L ≡ length (S s) + 1 =
+    placed-length (rankOf (a .p) (S s)) (a .p) (S s) (rank-le (a .p) (S s)) in
     c .before .before .place .ensures
     ∙ rw (add-room 4 (a .p) (S s) L
     (insert-absent (a .p) (S s) (absent (c .before .before .before .before .before)))
@@ -128,16 +103,14 @@ returns-2 c =
     (ap (λ (j : ℕ). putSet (a .r .now) (a .i) (placedAt j (a .p) (S s)))
     (c .before .before .before .before .before .before .rank .ensures))
 
-same-length-3 : tie.Need-same-length-3
-same-length-3 c = search needs
-
 returns-3 : tie.Need-returns-3
 returns-3 c =
     let s = c .before .before .before .before .before .before .before .before .before .before .before in
     let a = s .args in
     let size = c .before .before .before .before .before .before .before .before .size-of .ensures .0 in
     let L = placedAt (rankOf (a .p) (S s)) (a .p) (S s) in
-    let long : length L ≡ length (S s) + 1 = placed-length (rankOf (a .p) (S s)) (a .p) (S s) (rank-le (a .p) (S s)) in
+    let long : length L ≡ length (S s) + 1 =
+    placed-length (rankOf (a .p) (S s)) (a .p) (S s) (rank-le (a .p) (S s)) in
     c .before .before .place2 .ensures
     ∙ rw (add-full 4 (a .p) (S s) L
     (insert-absent (a .p) (S s) (absent (c .before .before .before .before .before)))
@@ -149,18 +122,6 @@ pub insert-spec : {M : Type 1} → statement M
 insert-spec =
     tie.close
     (tie.spec
-    size-of-requires
-    rank-requires
-    mul-if2
-    add-if2
-    add-if2-2
-    mul-if2-2
-    slice-read-if2
-    same-length
-    returns
-    place-requires
-    place-requires-2
-    same-length-2
-    returns-2
-    same-length-3
-    returns-3)
+    (search needs) (search needs) (search needs) (search needs) (search needs) (search needs)
+    (search needs) (search needs) returns place-requires place-requires-2 (search needs) returns-2
+    (search needs) returns-3)

@@ -5,15 +5,6 @@ use borrow.Author.Needs.{needs}
 use Rattle.replies.proofs.is_above.Statement.{statement}
 use Rattle.replies.proofs.is_above.Tie as tie
 
-enum-known-c : tie.Need-enum-known-c
-enum-known-c c = search needs
-
-is-below-requires : tie.Need-is-below-requires
-is-below-requires c κs = search needs
-
-enum-told : tie.Need-enum-told
-enum-told c = search needs
-
 returns : tie.Need-returns
 returns c = c .is-below .ensures ∙ rw (c .before .before .c .given .1)
 
@@ -21,4 +12,7 @@ returns-2 : tie.Need-returns-2
 returns-2 c = rw (c .enum-told .given .1)
 
 pub is-above-spec : {M : Type 1} → statement M
-is-above-spec = tie.close (tie.spec enum-known-c is-below-requires enum-told returns returns-2)
+is-above-spec =
+    tie.close
+    (tie.spec
+    (λ c. search needs) (λ c κs. search needs) (λ c. search needs) returns returns-2)

@@ -12,14 +12,9 @@ returns : tie.Need-returns
 unfolding isAtMost noteOf
 returns c = rw (c .if1 .taken)
 
-cast-result : tie.Need-cast-result
-cast-result c = search needs
-
-add-result : tie.Need-add-result
-add-result c = search needs
-
 returns-2 : tie.Need-returns-2
-returns-2 c = sym (at-most-used (c .before .before .args .w) (c .before .before .args .t .0) (c .before .if1 .left))
+returns-2 c = sym (at-most-used (c .before .before .args .w) (c .before .before .args .t .0)
+    (c .before .if1 .left))
 
 pub is-at-most-spec : {M : Type 1} → statement M
-is-at-most-spec = tie.close (tie.spec returns cast-result add-result returns-2)
+is-at-most-spec = tie.close (tie.spec returns (λ c. search needs) (λ c. search needs) returns-2)

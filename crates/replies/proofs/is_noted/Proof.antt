@@ -8,16 +8,10 @@ use Rattle.replies.proofs.Places.{noted-at, noted-used}
 use Rattle.replies.proofs.is_noted.Statement.{statement}
 use Rattle.replies.proofs.is_noted.Tie as tie
 
-mul-result : tie.Need-mul-result
-mul-result c = search needs
-
-shared-slice-read-result : tie.Need-shared-slice-read-result
-shared-slice-read-result c = search needs
-
 returns : tie.Need-returns
 returns c =
     let a = c .before .args in
     sym (ap isNoted (noted-at (a .r .now) (a .i) (search needs)) ∙ noted-used (getD (a .r .now) (a .i) 0))
 
 pub is-noted-spec : {M : Type 1} → statement M
-is-noted-spec = tie.close (tie.spec mul-result shared-slice-read-result returns)
+is-noted-spec = tie.close (tie.spec (λ c. search needs) (λ c. search needs) returns)

@@ -20,33 +20,9 @@ Inv-loop r i m at j₀ j = (j ≤ 4) × (allBelow (isPast r i) j ≡ true)
 abbrev μ-loop : tie.MeasureT-loop
 μ-loop r i m at j₀ j = 4 - j
 
-add-m : tie.Need-add-m Inv-loop μ-loop
-add-m c = search needs
-
-mul-m : tie.Need-mul-m Inv-loop μ-loop
-mul-m c = search needs
-
-shared-slice-read-m : tie.Need-shared-slice-read-m Inv-loop μ-loop
-shared-slice-read-m c = search needs
-
-mul-at : tie.Need-mul-at Inv-loop μ-loop
-mul-at c = search needs
-
-add-at : tie.Need-add-at Inv-loop μ-loop
-add-at c = search needs
-
 loop-holds : tie.Need-loop-holds Inv-loop μ-loop
 unfolding allBelow
 loop-holds c = (omega arith, refl)
-
-add-if2 : tie.Need-add-if2 Inv-loop μ-loop
-add-if2 c = search needs
-
-mul-if2 : tie.Need-mul-if2 Inv-loop μ-loop
-mul-if2 c = search needs
-
-shared-slice-read-if2 : tie.Need-shared-slice-read-if2 Inv-loop μ-loop
-shared-slice-read-if2 c = search needs
 
 returns : tie.Need-returns Inv-loop μ-loop
 unfolding isPadded
@@ -56,18 +32,13 @@ returns c =
     sym (below-fails (isPast (a .r .now) (a .i)) 4 j (omega arith)
     (rw (le-ltb j _ (c .before .before .if1 .taken), ne-eqb _ _ (c .if2 .taken))))
 
-add-j : tie.Need-add-j Inv-loop μ-loop
-add-j c = search needs
-
-loop-less : tie.Need-loop-less Inv-loop μ-loop
-loop-less c = search needs
-
 loop-again : tie.Need-loop-again Inv-loop μ-loop
 loop-again c =
     let a = c .before .before .before .before .args in
     let l = c .before .before .loop in
     let here : isPast (a .r .now) (a .i) (l .j) ≡ true =
-    ⊎-elim (λ w. rw (le-ltb (l .j) _ (w .0 .taken), eq-eqb _ _ (w .2 .left))) (λ w. rw (lt-ltb (l .j) _ (w .left)))
+    ⊎-elim (λ w. rw (le-ltb (l .j) _ (w .0 .taken), eq-eqb _ _ (w .2 .left)))
+    (λ w. rw (lt-ltb (l .j) _ (w .left)))
     (c .if1 .came) in
     (omega arith, all-more (isPast (a .r .now) (a .i)) (l .j) (l .inv .1) here)
 
@@ -83,19 +54,6 @@ pub is-padded-spec : {M : Type 1} → statement M
 is-padded-spec =
     tie.close
     (tie.spec
-    Inv-loop
-    μ-loop
-    add-m
-    mul-m
-    shared-slice-read-m
-    mul-at
-    add-at
-    loop-holds
-    add-if2
-    mul-if2
-    shared-slice-read-if2
-    returns
-    add-j
-    loop-less
-    loop-again
-    returns-2)
+    Inv-loop μ-loop (search needs) (search needs) (search needs) (search needs) (search needs)
+    loop-holds (search needs) (search needs) (search needs) returns (search needs) (search needs)
+    loop-again returns-2)

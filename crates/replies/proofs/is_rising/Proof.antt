@@ -18,42 +18,6 @@ Inv-loop r i m at j₀ j = (j ≤ m) × (isRising (setIn r (suc i)) ≡ isRising
 abbrev μ-loop : tie.MeasureT-loop
 μ-loop r i m at j₀ j = m - j
 
-size-of-requires : tie.Need-size-of-requires Inv-loop μ-loop
-size-of-requires c = search needs
-
-mul-at : tie.Need-mul-at Inv-loop μ-loop
-mul-at c = search needs
-
-add-at : tie.Need-add-at Inv-loop μ-loop
-add-at c = search needs
-
-loop-holds : tie.Need-loop-holds Inv-loop μ-loop
-loop-holds c = search needs
-
-add-loop : tie.Need-add-loop Inv-loop μ-loop
-add-loop c = search needs
-
-add-if1 : tie.Need-add-if1 Inv-loop μ-loop
-add-if1 c = search needs
-
-add-if1-2 : tie.Need-add-if1-2 Inv-loop μ-loop
-add-if1-2 c = search needs
-
-mul-if1 : tie.Need-mul-if1 Inv-loop μ-loop
-mul-if1 c = search needs
-
-shared-slice-read-if1 : tie.Need-shared-slice-read-if1 Inv-loop μ-loop
-shared-slice-read-if1 c = search needs
-
-add-if1-3 : tie.Need-add-if1-3 Inv-loop μ-loop
-add-if1-3 c = search needs
-
-mul-if1-2 : tie.Need-mul-if1-2 Inv-loop μ-loop
-mul-if1-2 c = search needs
-
-shared-slice-read-if1-2 : tie.Need-shared-slice-read-if1-2 Inv-loop μ-loop
-shared-slice-read-if1-2 c = search needs
-
 returns : tie.Need-returns Inv-loop μ-loop
 returns c =
     let s = c .before .before .before .before .before .before .before in
@@ -64,12 +28,6 @@ returns c =
     sym (c .before .before .before .before .loop .inv .1
     ∙ rising-stops _ j _ _ (two-at (a .r .now) (a .i) (s .pre .0) (s .pre .1) j inside)
     (le-ltb _ _ (c .if1 .taken)))
-
-add-j : tie.Need-add-j Inv-loop μ-loop
-add-j c = search needs
-
-loop-less : tie.Need-loop-less Inv-loop μ-loop
-loop-less c = search needs
 
 loop-again : tie.Need-loop-again Inv-loop μ-loop
 loop-again c =
@@ -95,22 +53,6 @@ pub is-rising-spec : {M : Type 1} → statement M
 is-rising-spec =
     tie.close
     (tie.spec
-    Inv-loop
-    μ-loop
-    size-of-requires
-    mul-at
-    add-at
-    loop-holds
-    add-loop
-    add-if1
-    add-if1-2
-    mul-if1
-    shared-slice-read-if1
-    add-if1-3
-    mul-if1-2
-    shared-slice-read-if1-2
-    returns
-    add-j
-    loop-less
-    loop-again
-    returns-2)
+    Inv-loop μ-loop (search needs) (search needs) (search needs) (search needs) (search needs)
+    (search needs) (search needs) (search needs) (search needs) (search needs) (search needs)
+    (search needs) returns (search needs) (search needs) loop-again returns-2)

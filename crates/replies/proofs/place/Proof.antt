@@ -13,77 +13,14 @@ use Rattle.replies.proofs.Placing.{widened-is, word-drop, put-as-stores
 use Rattle.replies.proofs.place.Statement.{statement}
 use Rattle.replies.proofs.place.Tie as tie
 
-mul-at : tie.Need-mul-at
-mul-at c = search needs
-
-add-at : tie.Need-add-at
-add-at c = search needs
-
-widened-requires : tie.Need-widened-requires
-widened-requires c κs = search needs
-
-add-widened : tie.Need-add-widened
-add-widened c = search needs
-
-widened-requires-2 : tie.Need-widened-requires-2
-widened-requires-2 c κs = search needs
-
-add-widened-2 : tie.Need-add-widened-2
-add-widened-2 c = search needs
-
-widened-requires-3 : tie.Need-widened-requires-3
-widened-requires-3 c κs = search needs
-
-add-widened-3 : tie.Need-add-widened-3
-add-widened-3 c = search needs
-
-widened-requires-4 : tie.Need-widened-requires-4
-widened-requires-4 c κs = search needs
-
-add-r : tie.Need-add-r
-add-r c = search needs
-
-sub-r : tie.Need-sub-r
-sub-r c = search needs
-
-add-r-2 : tie.Need-add-r-2
-add-r-2 c = search needs
-
-mul-r : tie.Need-mul-r
-mul-r c = search needs
-
-slice-write-r : tie.Need-slice-write-r
-slice-write-r c = search needs
-
-mul-r-2 : tie.Need-mul-r-2
-mul-r-2 c = search needs
-
 slice-write-r-2 : tie.Need-slice-write-r-2
 slice-write-r-2 c = simp length-set (omega arith)
-
-add-r-3 : tie.Need-add-r-3
-add-r-3 c = search needs
-
-mul-r-3 : tie.Need-mul-r-3
-mul-r-3 c = search needs
 
 slice-write-r-3 : tie.Need-slice-write-r-3
 slice-write-r-3 c = simp length-set (omega arith)
 
-add-r-4 : tie.Need-add-r-4
-add-r-4 c = search needs
-
-mul-r-4 : tie.Need-mul-r-4
-mul-r-4 c = search needs
-
 slice-write-r-4 : tie.Need-slice-write-r-4
 slice-write-r-4 c = simp length-set (omega arith)
-
-add-r-5 : tie.Need-add-r-5
-add-r-5 c = search needs
-
-mul-r-5 : tie.Need-mul-r-5
-mul-r-5 c = search needs
 
 slice-write-r-5 : tie.Need-slice-write-r-5
 slice-write-r-5 c = simp length-set (omega arith)
@@ -100,12 +37,14 @@ number c k x less e =
     let a = c .args in
     let q = c .pre in
     let inside : a .j ≤ length (setIn (a .r .now) (suc (a .i))) = omega arith in
-    e ∙ widened-is (a .r .now) (a .i) (q .0) (q .1) (q .6) (a .j) (a .p) inside (a .out + k) (omega arith) (omega arith)
+    e ∙ widened-is (a .r .now) (a .i) (q .0) (q .1) (q .6) (a .j) (a .p) inside (a .out + k) (omega arith)
+    (omega arith)
     ∙ sym (word-drop (a .out) (placedAt (a .j) (a .p) (setIn (a .r .now) (suc (a .i)))) k)
 
 size : (c : tie.Start)
     → c .args .m + 1 - c .args .out
-    ≡ length (drop (c .args .out) (placedAt (c .args .j) (c .args .p) (setIn (c .args .r .now) (suc (c .args .i)))))
+    ≡ length (drop (c .args .out)
+    (placedAt (c .args .j) (c .args .p) (setIn (c .args .r .now) (suc (c .args .i)))))
 size c =
     let a = c .args in
     let S = setIn (a .r .now) (suc (a .i)) in
@@ -126,36 +65,15 @@ returns c =
       number s 3 (c .widened4 .result) (omega arith) (c .widened4 .ensures),
       size s,
     )
-    (sym (put-as-stores (a .r .now) (a .i) (drop (a .out) (placedAt (a .j) (a .p) (setIn (a .r .now) (suc (a .i)))))))
+    (sym (put-as-stores (a .r .now) (a .i)
+    (drop (a .out) (placedAt (a .j) (a .p) (setIn (a .r .now) (suc (a .i)))))))
 
 pub place-spec : {M : Type 1} → statement M
 place-spec =
     tie.close
     (tie.spec
-    mul-at
-    add-at
-    widened-requires
-    add-widened
-    widened-requires-2
-    add-widened-2
-    widened-requires-3
-    add-widened-3
-    widened-requires-4
-    add-r
-    sub-r
-    add-r-2
-    mul-r
-    slice-write-r
-    mul-r-2
-    slice-write-r-2
-    add-r-3
-    mul-r-3
-    slice-write-r-3
-    add-r-4
-    mul-r-4
-    slice-write-r-4
-    add-r-5
-    mul-r-5
-    slice-write-r-5
-    same-length
-    returns)
+    (search needs) (search needs) (search needs) (search needs) (search needs) (search needs)
+    (search needs) (search needs) (search needs) (search needs) (search needs) (search needs)
+    (search needs) (search needs) (search needs) slice-write-r-2 (search needs) (search needs)
+    slice-write-r-3 (search needs) (search needs) slice-write-r-4 (search needs) (search needs)
+    slice-write-r-5 same-length returns)

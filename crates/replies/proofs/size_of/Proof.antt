@@ -7,28 +7,24 @@ use Rattle.replies.proofs.Places.{size-below, size-full}
 use Rattle.replies.proofs.size_of.Statement.{statement}
 use Rattle.replies.proofs.size_of.Tie as tie
 
-add-m : tie.Need-add-m
-add-m c = search needs
-
-mul-m : tie.Need-mul-m
-mul-m c = search needs
-
-shared-slice-read-m : tie.Need-shared-slice-read-m
-shared-slice-read-m c = search needs
-
 returns : tie.Need-returns
 returns c =
     let a = c .before .before .args in (
-      sym (size-below (a .r .now) (a .i) (c .before .before .pre .0) (c .before .before .pre .1) (omega arith)),
+      sym (size-below (a .r .now) (a .i) (c .before .before .pre .0) (c .before .before .pre .1)
+          (omega arith)),
       omega arith,
     )
 
 returns-2 : tie.Need-returns-2
 returns-2 c =
     let a = c .before .before .args in (
-      sym (size-full (a .r .now) (a .i) (c .before .before .pre .0) (c .before .before .pre .1) (omega arith)),
+      sym (size-full (a .r .now) (a .i) (c .before .before .pre .0) (c .before .before .pre .1)
+          (omega arith)),
       omega arith,
     )
 
 pub size-of-spec : {M : Type 1} → statement M
-size-of-spec = tie.close (tie.spec add-m mul-m shared-slice-read-m returns returns-2)
+size-of-spec =
+    tie.close
+    (tie.spec
+    (λ c. search needs) (λ c. search needs) (λ c. search needs) returns returns-2)

@@ -5,9 +5,6 @@ use Rattle.register.specs.Server.{stored}
 use Rattle.server.proofs.higher.Statement.{statement}
 use Rattle.server.proofs.higher.Tie as tie
 
-is-earlier-requires : tie.Need-is-earlier-requires
-is-earlier-requires c κs = search needs
-
 returns : tie.Need-returns
 unfolding stored
 returns c = rw (sym (c .before .is-earlier .ensures) ∙ c .if1 .taken)
@@ -17,4 +14,4 @@ unfolding stored
 returns-2 c = rw (sym (c .before .is-earlier .ensures) ∙ c .if1 .left)
 
 pub higher-spec : {M : Type 1} → statement M
-higher-spec = tie.close (tie.spec is-earlier-requires returns returns-2)
+higher-spec = tie.close (tie.spec (λ c κs. search needs) returns returns-2)

@@ -1,5 +1,5 @@
--- `server::serve` meets its contract: sound memory is loaded as a sound server, and what is stored is the model's next one
--- (`Laws.served-in`). Assumes nothing.
+-- `server::serve` meets its contract: sound memory is loaded as a sound server, and what is stored is the
+-- model's next one (`Laws.served-in`). Assumes nothing.
 use mathlib.Core.Path.{ap, _∙_}
 use borrow.Author.Needs.{needs}
 use Rattle.server.specs.declared.Server.{Server}
@@ -28,8 +28,12 @@ returns c =
     let a = c .before .before .before .before in
     let st = a .before .before .before .before in
     served-in (st .args .m .now) (st .args .d) (st .args .x) (a .after .result) _
-    (a .after .ensures ∙ ap (λ (s : Server). servedOf s (st .args .d) (st .args .x)) (a .before .load .ensures))
+    (a .after .ensures ∙ ap (λ (s : Server). servedOf s (st .args .d) (st .args .x))
+    (a .before .load .ensures))
     (c .before .before .store .ensures)
 
 pub serve-spec : {M : Type 1} → statement M
-serve-spec = tie.close (tie.spec load-requires after-requires store-requires (λ c. search needs) returns)
+serve-spec =
+    tie.close
+    (tie.spec
+    load-requires after-requires store-requires (λ c. search needs) returns)

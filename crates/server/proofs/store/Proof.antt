@@ -11,4 +11,5 @@ returns c = two-set (c .before .before .args .m .now) _ _ (c .before .before .pr
 
 pub store-spec : {M : Type 1} → statement M
 store-spec =
-    tie.close (tie.spec (search needs) (search needs) (λ c. search needs) (λ c. search needs) returns)
+    tie.close (tie.spec
+    (search needs) (search needs) (λ c. search needs) (λ c. search needs) returns)

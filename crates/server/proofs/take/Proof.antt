@@ -28,13 +28,15 @@ returns : tie.Need-returns
 unfolding resultOf
 returns c =
     let a = c .before .before .before .before .before .args in
-    sym (unsound (a .m .now) (a .d) (a .bytes .now) (sym (c .before .is-sound .ensures) ∙ not-true _ (c .if1 .taken)))
+    sym (unsound (a .m .now) (a .d) (a .bytes .now)
+    (sym (c .before .is-sound .ensures) ∙ not-true _ (c .if1 .taken)))
 
 returns-2 : tie.Need-returns-2
 unfolding resultOf
 returns-2 c =
     let a = c .before .before .before .before .before .before .args in
-    let h : isSound (a .m .now) ≡ true = sym (c .before .before .is-sound .ensures) ∙ not-false _ (c .before .if1 .left) in
+    let h : isSound (a .m .now) ≡ true = sym (c .before .before .is-sound .ensures)
+    ∙ not-false _ (c .before .if1 .left) in
     sym (⊎-elim (λ w. no-process-low (a .m .now) (a .d) (a .bytes .now) h (w .taken))
     (λ w. no-process-high (a .m .now) (a .d) (a .bytes .now) h (w .0 .left) (ltb-true 6 (a .d) (w .1 .taken)))
     (c .if2 .came))
@@ -54,7 +56,8 @@ returns-4 c =
     let a = start (u .before) .args in
     let good = sym (u .unpack .ensures) ∙ c .before .before .before .message .given .1 in
     let other = sym (c .before .is-taken .ensures) ∙ not-true _ (c .if4 .taken) in
-    sym (malformed (a .m .now) (a .d) (a .bytes .now) (is-sound (u .before)) (low (u .before)) (top (u .before))
+    sym (malformed (a .m .now) (a .d) (a .bytes .now) (is-sound (u .before)) (low (u .before))
+    (top (u .before))
     (ap isRequest good ∙ other))
 
 serve-requires : tie.Need-serve-requires
@@ -78,20 +81,7 @@ pub take-spec : {M : Type 1} → statement M
 take-spec =
     tie.close
     (tie.spec
-    (λ c κs. search needs)
-    (λ c. search needs)
-    returns
-    (λ c. search needs)
-    returns-2
-    (λ c κs. search needs)
-    (λ c. search needs)
-    (λ c. search needs)
-    (λ c. search needs)
-    returns-3
-    (λ c κs. search needs)
-    (λ c. search needs)
-    returns-4
-    (λ c. search needs)
-    serve-requires
-    (λ c. search needs)
-    returns-5)
+    (λ c κs. search needs) (λ c. search needs) returns (λ c. search needs) returns-2
+    (λ c κs. search needs) (λ c. search needs) (λ c. search needs) (λ c. search needs) returns-3
+    (λ c κs. search needs) (λ c. search needs) returns-4 (λ c. search needs) serve-requires
+    (λ c. search needs) returns-5)

@@ -3,7 +3,7 @@
 use mathlib.Core.Path.{_≡_, sym, ap, _∙_}
 use borrow.Author.Needs.{needs}
 use Rattle.message.specs.declared.Unpacked.{Unpacked}
-use Rattle.message.specs.declared.Unpacked.the-variants.{Good, Bad}
+use Rattle.message.specs.declared.Unpacked.the-variants.{Good, Refused}
 use Rattle.message.specs.Layout.{unpackOf}
 use Rattle.exports.specs.Fields.{unpackedNumber, unpackedFields}
 use Rattle.exports.proofs.messages.exports_unpack.Statement.{statement}
@@ -11,12 +11,13 @@ use Rattle.exports.proofs.messages.exports_unpack.Tie as tie
 
 returns : tie.Need-returns
 returns c =
-    let made = c .before .before .before in
+    let refused = c .before .before in
+    let made = refused .before .before in
     let a = made .before .before .args in
-    let told = c .before .enum-told .given .1 in
-    let bad : unpackOf (a .bytes .now) ≡ Bad = sym (made .unpack .ensures) ∙ told in (
-      c .number .ensures ∙ ap unpackedNumber (sym bad),
-      ap (λ (u : Unpacked). unpackedFields u (a .fields .now)) (sym bad),
+    let told = refused .u .given in
+    let none : unpackOf (a .bytes .now) ≡ Refused (told .0 .0) = sym (made .unpack .ensures) ∙ told .1 in (
+      c .number .ensures ∙ ap unpackedNumber (sym none),
+      ap (λ (u : Unpacked). unpackedFields u (a .fields .now)) (sym none),
     )
 
 returns-2 : tie.Need-returns-2
@@ -24,8 +25,8 @@ returns-2 c =
     let good = c .before .before in
     let made = good .before .before in
     let a = made .before .before .args in
-    let m = good .u .given .0 .0 in
-    let is : unpackOf (a .bytes .now) ≡ Good m = sym (made .unpack .ensures) ∙ good .u .given .1 in (
+    let m = good .u2 .given .0 .0 in
+    let is : unpackOf (a .bytes .now) ≡ Good m = sym (made .unpack .ensures) ∙ good .u2 .given .1 in (
       ap unpackedNumber (sym is),
       c .fields-of .ensures ∙ ap (λ (u : Unpacked). unpackedFields u (a .fields .now)) (sym is),
     )

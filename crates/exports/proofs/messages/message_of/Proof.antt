@@ -1,13 +1,32 @@
 -- `message_of`: refused first, field by field; then the words have the number that the fields join to.
 -- Assumes nothing.
-use mathlib.Core.Path.{_∙_}
-use Prim.Native.Nat.{_^_}
+use mathlib.Core.Path.{_≡_, sym, ap, _∙_}
+use mathlib.Core.Bool.{true}
+use Prim.Native.Nat.{ℕ, _^_, _<_}
+use native.Mathlib.Nat.{mod-eq-of-lt}
+use native.Mathlib.Omega.{arith}
+use lib.Dec.{ltb}
 use borrow.Author.Needs.{needs}
-use borrow.Author.Tests.{lt-ltb, le-ltb}
+use borrow.Author.Tests.{lt-ltb, le-ltb, ltb-true, not-true, not-false}
+use Rattle.message.specs.declared.WriteCounter.{WriteCounter}
+use Rattle.message.specs.Pair.{pairOf}
 use Rattle.exports.specs.Fields.{messageBy}
 use Rattle.exports.proofs.FieldLaws.{words-message}
 use Rattle.exports.proofs.messages.message_of.Statement.{statement}
 use Rattle.exports.proofs.messages.message_of.Tie as tie
+
+-- what the tests leave
+kind : (c : tie.Else1) → ltb (c .before .args .kind) 16 ≡ true
+kind c = lt-ltb _ 16 (c .if1 .left)
+
+tag : (c : tie.Else2) → ltb (c .before .before .before .args .tag) (2 ^ 20) ≡ true
+tag c = sym (c .before .fits-read .ensures) ∙ not-false _ (c .if2 .left)
+
+abbrev start : tie.Else3 → tie.Start
+start c = c .before .before .before .before .before
+
+counter : (c : tie.Else3) → ltb (start c .args .counter) (2 ^ 20) ≡ true
+counter c = sym (c .before .fits-counter .ensures) ∙ not-false _ (c .if3 .left)
 
 returns : tie.Need-returns
 unfolding messageBy
@@ -15,54 +34,79 @@ returns c = rw (le-ltb _ 16 (c .if1 .taken))
 
 returns-2 : tie.Need-returns-2
 unfolding messageBy
-returns-2 c = rw (lt-ltb _ 16 (c .before .if1 .left), le-ltb _ (2 ^ 20) (c .if2 .taken))
+returns-2 c = rw (kind (c .before .before), sym (c .before .fits-read .ensures) ∙ not-true _ (c .if2 .taken))
 
 returns-3 : tie.Need-returns-3
 unfolding messageBy
 returns-3 c =
-    rw (
-      lt-ltb _ 16 (c .before .before .if1 .left),
-      lt-ltb _ (2 ^ 20) (c .before .if2 .left),
-      le-ltb _ (2 ^ 20) (c .if3 .taken),
-    )
+    let e2 = c .before .before in
+    let no = sym (c .before .fits-counter .ensures) ∙ not-true _ (c .if3 .taken) in
+    rw (kind (e2 .before .before), tag e2, no)
 
 returns-4 : tie.Need-returns-4
 unfolding messageBy
 returns-4 c =
-    rw (
-      lt-ltb _ 16 (c .before .before .before .if1 .left),
-      lt-ltb _ (2 ^ 20) (c .before .before .if2 .left),
-      lt-ltb _ (2 ^ 20) (c .before .if3 .left),
-      le-ltb _ 16 (c .if4 .taken),
-    )
+    let e3 = c .before in
+    let e2 = e3 .before .before in
+    rw (kind (e2 .before .before), tag e2, counter e3, le-ltb _ 16 (c .if4 .taken))
 
 returns-5 : tie.Need-returns-5
 unfolding messageBy
 returns-5 c =
+    let e3 = c .before .before in
+    let e2 = e3 .before .before in
     rw (
-      lt-ltb _ 16 (c .before .before .before .before .if1 .left),
-      lt-ltb _ (2 ^ 20) (c .before .before .before .if2 .left),
-      lt-ltb _ (2 ^ 20) (c .before .before .if3 .left),
+      kind (e2 .before .before),
+      tag e2,
+      counter e3,
       lt-ltb _ 16 (c .before .if4 .left),
       le-ltb _ (2 ^ 40) (c .if5 .taken),
     )
 
-returns-6 : tie.Need-returns-6
-returns-6 c =
-    let e5 = c .before .before in
+counter-small : (c : tie.Else3) → start c .args .counter < 2 ^ 20
+counter-small c = ltb-true _ _ (counter c)
+
+-- the counter that is made is the one given
+counter-is : (c : tie.After-counter-from) → let a = start (c .before .before .before) .args in
+    _≡_ {A = WriteCounter} (c .counter-from .result) (record { 0 = a .counter })
+counter-is c =
+    let small = counter-small (c .before .before .before) in
+    c .counter-from .ensures ∙ ap (λ (k : ℕ). record { 0 = k }) (mod-eq-of-lt (omega (arith, small)))
+
+pair-of-requires : tie.Need-pair-of-requires
+pair-of-requires c κs =
+    let e5 = c .before in
     let e4 = e5 .before in
     let e3 = e4 .before in
-    let e2 = e3 .before in
-    let e1 = e2 .before in
+    let is = ap (λ (w : WriteCounter). w .0) (counter-is c) in
+    (omega (arith, counter-small e3, is), e4 .if4 .left, e5 .if5 .left)
+
+cast-t19 : tie.Need-cast-t19
+cast-t19 c =
+    let e3 = c .before .before .before .before in
+    let e2 = e3 .before .before in
+    let n = e2 .before .before .before .args .tag in
+    let small : n < 2 ^ 20 = ltb-true n (2 ^ 20) (tag e2) in
+    omega (arith, small)
+
+returns-6 : tie.Need-returns-6
+returns-6 c =
+    let made = c .before .before in
+    let e5 = made .before in
+    let e4 = e5 .before in
+    let e3 = e4 .before in
+    let e2 = e3 .before .before in
+    let e1 = e2 .before .before in
     let a = e1 .before .args in
     let p = c .before .pair-of in
     c .of-words .ensures
-    ∙ words-message (a .kind) (a .tag) (a .counter) (a .client) (a .entry) (e1 .if1 .left) (e2 .if2 .left)
-    (e3 .if3 .left) (e4 .if4 .left) (e5 .if5 .left) (p .result) (p .ensures)
+    ∙ words-message (a .kind) (a .tag) (a .counter) (a .client) (a .entry) (e1 .if1 .left)
+    (ltb-true _ _ (tag e2)) (counter-small e3) (e4 .if4 .left) (e5 .if5 .left) (p .result)
+    (p .ensures ∙ ap (λ (w : WriteCounter). pairOf w (a .client) (record { 0 = a .entry })) (counter-is made))
 
 pub message-of-spec : {M : Type 1} → statement M
 message-of-spec =
     tie.close
     (tie.spec
-    returns returns-2 returns-3 returns-4 returns-5 (search needs) (search needs) (search needs)
-    (search needs) (search needs) (search needs) returns-6)
+    returns (search needs) returns-2 (search needs) returns-3 returns-4 returns-5 (search needs)
+    (search needs) pair-of-requires (search needs) cast-t19 (search needs) returns-6)

@@ -11,21 +11,15 @@ use Rattle.script.proofs.lines.keep.Statement.{statement}
 use Rattle.script.proofs.lines.keep.Tie as tie
 
 abbrev Inv-loop : tie.InvT-loop
-Inv-loop s₀ at end stop n i₀ s i = (i ≤ n) × (s ≡ moved s₀ at i)
+Inv-loop text₀ at end stop n i₀ text i = (i ≤ n) × (text ≡ moved text₀ at i)
 
 abbrev μ-loop : tie.MeasureT-loop
-μ-loop s₀ at end stop n i₀ s i = n - i
-
-least-requires : tie.Need-least-requires Inv-loop μ-loop
-least-requires c κs = search needs
+μ-loop text₀ at end stop n i₀ text i = n - i
 
 returns : tie.Need-returns Inv-loop μ-loop
 returns c =
     let a = c .before .before .before .args in
-    kept-written (a .s .now) (a .at) (a .end) 0 (omega arith)
-
-least-requires-2 : tie.Need-least-requires-2 Inv-loop μ-loop
-least-requires-2 c κs = search needs
+    kept-written (a .text .now) (a .at) (a .end) 0 (omega arith)
 
 loop-holds : tie.Need-loop-holds Inv-loop μ-loop
 loop-holds c = (search needs, refl)
@@ -35,7 +29,7 @@ module _ (c : tie.At-loop Inv-loop μ-loop) where
   start = c .before .before .before .before .before
 
   abbrev block : List ℕ
-  block = start .args .s .now
+  block = start .args .text .now
 
   -- how many bytes are kept
   count : c .before .least2 .result ≡ min (min (start .args .end) (length block) - start .args .at) most
@@ -49,23 +43,17 @@ module _ (c : tie.At-loop Inv-loop μ-loop) where
       let first : least .result ≡ min (start .args .end) (length block) = least .ensures in
       within block (start .args .at) (start .args .end) (c .before .least2 .result) count (omega arith)
 
-  wide : length (c .loop .s) ≡ length block
+  wide : length (c .loop .text) ≡ length block
   wide = ap length (c .loop .inv .1) ∙ length-moved block (start .args .at) (c .loop .i) (omega (arith, fits))
 
-add-b : tie.Need-add-b Inv-loop μ-loop
-add-b c = omega (arith, fits (c .before))
+add-byte : tie.Need-add-byte Inv-loop μ-loop
+add-byte c = omega (arith, fits (c .before))
 
-slice-read-b : tie.Need-slice-read-b Inv-loop μ-loop
-slice-read-b c = rw (wide (c .before .before)) (omega (arith, fits (c .before .before)))
+slice-read-byte : tie.Need-slice-read-byte Inv-loop μ-loop
+slice-read-byte c = rw (wide (c .before .before)) (omega (arith, fits (c .before .before)))
 
-slice-write-s : tie.Need-slice-write-s Inv-loop μ-loop
-slice-write-s c = rw (wide (c .before .before)) (omega (arith, fits (c .before .before)))
-
-add-i : tie.Need-add-i Inv-loop μ-loop
-add-i c = search needs
-
-loop-less : tie.Need-loop-less Inv-loop μ-loop
-loop-less c = search needs
+slice-write-text : tie.Need-slice-write-text Inv-loop μ-loop
+slice-write-text c = rw (wide (c .before .before)) (omega (arith, fits (c .before .before)))
 
 loop-again : tie.Need-loop-again Inv-loop μ-loop
 loop-again c =
@@ -74,7 +62,8 @@ loop-again c =
     let i = here .loop .i in (
       omega arith,
       ap (λ (l : List ℕ). set l i (getD l (a .at + i) 0)) (here .loop .inv .1)
-          ∙ ap (λ (b : ℕ). set (moved (block here) (a .at) i) i b) (moved-read (block here) (a .at) i (omega (arith, fits here)))
+          ∙ ap (λ (b : ℕ). set (moved (block here) (a .at) i) i b)
+          (moved-read (block here) (a .at) i (omega (arith, fits here)))
           ∙ moved-more (block here) (a .at) i (omega (arith, fits here)),
     )
 
@@ -92,17 +81,5 @@ pub keep-spec : {M : Type 1} → statement M
 keep-spec =
     tie.close
     (tie.spec
-    Inv-loop
-    μ-loop
-    least-requires
-    returns
-    least-requires-2
-    loop-holds
-    add-b
-    slice-read-b
-    slice-write-s
-    add-i
-    loop-less
-    loop-again
-    same-length
-    returns-2)
+    Inv-loop μ-loop (search needs) returns (search needs) loop-holds add-byte slice-read-byte
+    slice-write-text (search needs) (search needs) loop-again same-length returns-2)

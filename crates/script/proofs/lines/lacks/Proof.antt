@@ -12,33 +12,24 @@ use Rattle.script.proofs.lines.lacks.Statement.{statement}
 use Rattle.script.proofs.lines.lacks.Tie as tie
 
 abbrev Inv-loop : tie.InvT-loop
-Inv-loop mark s at x₀ j₀ x j = (j ≤ 16) × (x ≡ allBelow (λ k. not (eqb (getD s (at + k) 0) mark)) j)
+Inv-loop mark text at x₀ j₀ x j = (j ≤ 16) × (x ≡ allBelow (λ k. not (eqb (getD text (at + k) 0) mark)) j)
 
 abbrev μ-loop : tie.MeasureT-loop
-μ-loop mark s at x₀ j₀ x j = 16 - j
+μ-loop mark text at x₀ j₀ x j = 16 - j
 
 loop-holds : tie.Need-loop-holds Inv-loop μ-loop
 unfolding allBelow
 loop-holds c = (search needs, refl)
 
-add-x : tie.Need-add-x Inv-loop μ-loop
-add-x c = search needs
-
-shared-slice-read-x : tie.Need-shared-slice-read-x Inv-loop μ-loop
-shared-slice-read-x c = search needs
-
-add-j : tie.Need-add-j Inv-loop μ-loop
-add-j c = search needs
-
-loop-less : tie.Need-loop-less Inv-loop μ-loop
-loop-less c = search needs
-
 loop-again : tie.Need-loop-again Inv-loop μ-loop
 unfolding allBelow
 loop-again c =
     let l = c .before .before .loop in
-    let a = c .before .before .before .args in
-    (omega arith, rw add-one (ap (λ (t : Bool). t && not (eqb (getD (a .s .now) (a .at + l .j) 0) (a .mark))) (l .inv .1)))
+    let a = c .before .before .before .args in (
+      omega arith,
+      rw add-one
+          (ap (λ (t : Bool). t && not (eqb (getD (a .text .now) (a .at + l .j) 0) (a .mark))) (l .inv .1)),
+    )
 
 returns : tie.Need-returns Inv-loop μ-loop
 returns c =
@@ -49,12 +40,5 @@ pub lacks-spec : {M : Type 1} → statement M
 lacks-spec =
     tie.close
     (tie.spec
-    Inv-loop
-    μ-loop
-    loop-holds
-    add-x
-    shared-slice-read-x
-    add-j
-    loop-less
-    loop-again
-    returns)
+    Inv-loop μ-loop loop-holds (search needs) (search needs) (search needs) (search needs)
+    loop-again returns)

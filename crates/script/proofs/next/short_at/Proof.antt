@@ -10,30 +10,6 @@ use Rattle.script.proofs.Short.{more-le, short-is}
 use Rattle.script.proofs.next.short_at.Statement.{statement}
 use Rattle.script.proofs.next.short_at.Tie as tie
 
-shared-slice-read-a : tie.Need-shared-slice-read-a
-shared-slice-read-a c = search needs
-
-add-b : tie.Need-add-b
-add-b c = search needs
-
-shared-slice-read-b : tie.Need-shared-slice-read-b
-shared-slice-read-b c = search needs
-
-is-digit-requires : tie.Need-is-digit-requires
-is-digit-requires c κs = search needs
-
-returns : tie.Need-returns
-returns c = search needs
-
-add-end : tie.Need-add-end
-add-end c = search needs
-
-is-digit-requires-2 : tie.Need-is-digit-requires-2
-is-digit-requires-2 c κs = search needs
-
-cast-end : tie.Need-cast-end
-cast-end c = search needs
-
 add-end-2 : tie.Need-add-end-2
 add-end-2 c =
     let few = more-le (c .is-digit2 .result) in
@@ -42,11 +18,10 @@ add-end-2 c =
 shared-slice-read-if2 : tie.Need-shared-slice-read-if2
 shared-slice-read-if2 c = omega (arith, more-le (c .before .is-digit2 .result))
 
-returns-2 : tie.Need-returns-2
-returns-2 c = search needs
-
 -- the first byte is a digit
-digit : (c : tie.Else1) → let a = c .before .before .before .before .before .args in isDigit (getD (a .s .now) (a .at) 0) ≡ true
+digit : (c : tie.Else1)
+    → let a = c .before .before .before .before .before .args in
+    isDigit (getD (a .text .now) (a .at) 0) ≡ true
 digit c = sym (c .before .is-digit .ensures) ∙ not-false _ (c .if1 .left)
 
 short-value-requires : tie.Need-short-value-requires
@@ -61,7 +36,8 @@ returns-3 : tie.Need-returns-3
 returns-3 c =
     let second = c .before .before .before in
     let start = second .before .before .before .before .before .before in
-    short-is (start .args .s .now) (start .args .at) (start .args .mark) (start .pre) (digit (second .before))
+    short-is (start .args .text .now) (start .args .at) (start .args .mark) (start .pre)
+    (digit (second .before))
     (second .is-digit2 .result) (second .is-digit2 .ensures) (c .before .if2 .left) (c .short-value .result)
     (c .short-value .ensures)
 
@@ -69,17 +45,6 @@ pub short-at-spec : {M : Type 1} → statement M
 short-at-spec =
     tie.close
     (tie.spec
-    shared-slice-read-a
-    add-b
-    shared-slice-read-b
-    is-digit-requires
-    returns
-    add-end
-    is-digit-requires-2
-    cast-end
-    add-end-2
-    shared-slice-read-if2
-    returns-2
-    short-value-requires
-    add-t13
-    returns-3)
+    (search needs) (search needs) (search needs) (search needs) (search needs) (search needs)
+    (search needs) (search needs) add-end-2 shared-slice-read-if2 (search needs)
+    short-value-requires add-t13 returns-3)

@@ -4,37 +4,22 @@ use mathlib.Core.Bool.{true, false}
 use native.Mathlib.Omega.{arith}
 use borrow.Author.Needs.{needs}
 use Rattle.script.specs.Numbers.{isDigit, valueFrom}
-use Rattle.script.proofs.Short.{digit-from}
+use Rattle.script.proofs.Texts.{range}
 use Rattle.script.proofs.next.short_value.Statement.{statement}
 use Rattle.script.proofs.next.short_value.Tie as tie
 
-sub-v : tie.Need-sub-v
-sub-v c = digit-from (c .args .a) (c .pre)
-
-cast-v : tie.Need-cast-v
-cast-v c = search needs
-
-is-digit-requires : tie.Need-is-digit-requires
-is-digit-requires c κs = search needs
-
-mul-result : tie.Need-mul-result
-mul-result c = search needs
+sub-value : tie.Need-sub-value
+sub-value c = range 48 57 (c .args .first) (c .pre) .0
 
 -- whether the second byte is a digit
-two : (c : tie.Then1) → isDigit (c .before .before .args .b) ≡ true
+two : (c : tie.Then1) → isDigit (c .before .before .args .second) ≡ true
 two c = sym (c .before .is-digit .ensures) ∙ c .if1 .taken
 
-one : (c : tie.Else1) → isDigit (c .before .before .args .b) ≡ false
+one : (c : tie.Else1) → isDigit (c .before .before .args .second) ≡ false
 one c = sym (c .before .is-digit .ensures) ∙ c .if1 .left
 
 sub-result : tie.Need-sub-result
-sub-result c = digit-from (c .before .before .args .b) (two c)
-
-cast-result : tie.Need-cast-result
-cast-result c = search needs
-
-add-result : tie.Need-add-result
-add-result c = search needs
+sub-result c = range 48 57 (c .before .before .args .second) (two c) .0
 
 returns : tie.Need-returns
 unfolding valueFrom
@@ -48,12 +33,5 @@ pub short-value-spec : {M : Type 1} → statement M
 short-value-spec =
     tie.close
     (tie.spec
-    sub-v
-    cast-v
-    is-digit-requires
-    mul-result
-    sub-result
-    cast-result
-    add-result
-    returns
-    returns-2)
+    sub-value (search needs) (search needs) (search needs) sub-result (search needs) (search needs)
+    returns returns-2)

@@ -1,89 +1,93 @@
--- `arguments`: the letter picks the line.
+-- `arguments`: the loop keeps that the numbers left, behind those that it has read, make the line.
+use mathlib.Core.Path.{_≡_, refl, sym, _∙_, ap}
+use mathlib.Core.List.{List}
+use Prim.Native.Nat.{ℕ, _+_, _-_, _≤_}
+use native.Mathlib.Omega.{arith}
 use borrow.Author.Needs.{needs}
-use borrow.Author.Tests.{ne-eqb}
-use Rattle.script.specs.Grammar.{argumentsOf}
+use lib.ListN.{length, drop}
+use lib.Seq.{drop-drop}
+use Rattle.script.specs.declared.parse.Line.{Line}
+use Rattle.script.specs.Grammar.{numbersThen, lastOf, argumentsOf}
+use Rattle.script.proofs.Readers.{rest-is, none-left, number-read, starts-within}
 use Rattle.script.proofs.parse.arguments.Statement.{statement}
 use Rattle.script.proofs.parse.arguments.Tie as tie
 
-read-line-requires : tie.Need-read-line-requires
-read-line-requires c κs = search needs
+abbrev Inv-loop : tie.InvT-loop
+Inv-loop letter text left₀ earlier₀ later₀ at₀ left earlier later at =
+    (at ≤ length text) ×
+    (numbersThen left earlier later (drop at text) (lastOf letter) ≡ argumentsOf letter text)
 
-stop-line-requires : tie.Need-stop-line-requires
-stop-line-requires c κs = search needs
+abbrev μ-loop : tie.MeasureT-loop
+μ-loop letter text left₀ earlier₀ later₀ at₀ left earlier later at = left
 
-write-line-requires : tie.Need-write-line-requires
-write-line-requires c κs = search needs
-
-serve-line-requires : tie.Need-serve-line-requires
-serve-line-requires c κs = search needs
-
-take-line-requires : tie.Need-take-line-requires
-take-line-requires c κs = search needs
-
-lie-line-requires : tie.Need-lie-line-requires
-lie-line-requires c κs = search needs
-
-setup-line-requires : tie.Need-setup-line-requires
-setup-line-requires c κs = search needs
-
-returns : tie.Need-returns
+loop-holds : tie.Need-loop-holds Inv-loop μ-loop
 unfolding argumentsOf
-returns c = rw (c .before .match .keys1) (c .read-line .ensures)
+loop-holds c = (search needs, rw (c .leading .ensures) refl)
 
-returns-2 : tie.Need-returns-2
-unfolding argumentsOf
-returns-2 c = rw (c .before .match .keys2) (c .stop-line .ensures)
+-- what was read at the loop's start
+module _ (c : tie.After-first-number Inv-loop μ-loop) where
+  abbrev at-loop : tie.At-loop Inv-loop μ-loop
+  at-loop = c .before .before .before
 
-returns-3 : tie.Need-returns-3
-unfolding argumentsOf
-returns-3 c = rw (c .before .match .keys3) (c .write-line .ensures)
+  abbrev letter : ℕ
+  letter = at-loop .before .before .before .args .letter
 
-returns-4 : tie.Need-returns-4
-unfolding argumentsOf
-returns-4 c = rw (c .before .match .keys4) (c .serve-line .ensures)
+  abbrev text : List ℕ
+  text = at-loop .before .before .before .args .text .now
 
-returns-5 : tie.Need-returns-5
-unfolding argumentsOf
-returns-5 c = rw (c .before .match .keys5) (c .take-line .ensures)
+  abbrev at : ℕ
+  at = at-loop .loop .at
 
-returns-6 : tie.Need-returns-6
-unfolding argumentsOf
-returns-6 c = rw (c .before .match .keys6) (c .lie-line .ensures)
+returns : tie.Need-returns Inv-loop μ-loop
+returns c =
+    let call = c .before .before in
+    let l = at-loop call .loop in
+    number-read (text call) (at call) (call .first-number .ensures) (c .enum-told .given .1) (l .left)
+    (l .earlier)
+    (l .later) (lastOf (letter call)) (omega arith)
+    ∙ l .inv .1
 
-returns-7 : tie.Need-returns-7
-unfolding argumentsOf
-returns-7 c = rw (c .before .match .keys7) (c .setup-line .ensures)
+-- the rest begins within the text
+within : (c : tie.After-known-told Inv-loop μ-loop)
+    → let call = c .before .before .before in at call + c .before .value .given .0 .1 .0 ≤ length (text call)
+within c =
+    let call = c .before .before .before in
+    starts-within (text call) (at call) (call .first-number .ensures) (c .before .value .given .1)
+    (at-loop call .loop .inv .0)
 
-returns-8 : tie.Need-returns-8
-unfolding argumentsOf
-returns-8 c =
-    let none = c .match .rest in
-    simp (
-      ne-eqb _ 82 (none .0 .0 .0 .0 .0 .0 .1),
-      ne-eqb _ 67 (none .0 .0 .0 .0 .0 .1),
-      ne-eqb _ 87 (none .0 .0 .0 .0 .1),
-      ne-eqb _ 75 (none .0 .0 .0 .1),
-      ne-eqb _ 68 (none .0 .0 .1),
-      ne-eqb _ 76 (none .0 .1),
-      ne-eqb _ 83 (none .1),
+add-at : tie.Need-add-at Inv-loop μ-loop
+add-at c =
+    let h = within c in
+    search needs
+
+loop-again : tie.Need-loop-again Inv-loop μ-loop
+loop-again c =
+    let call = c .before .before .before in
+    let l = at-loop call .loop in
+    let found = c .before .value .given in
+    let says : List ℕ → Line =
+    λ rest. numbersThen (l .left - 1) (l .later) (found .0 .0) rest (lastOf (letter call)) in (
+      within c,
+      ap says (sym (drop-drop (found .0 .1 .0) (at call) (text call)))
+          ∙ number-read (text call) (at call) (call .first-number .ensures) (found .1) (l .left) (l .earlier)
+          (l .later) (lastOf (letter call)) (omega arith)
+          ∙ l .inv .1,
     )
+
+returns-2 : tie.Need-returns-2 Inv-loop μ-loop
+returns-2 c =
+    let l = c .before .before .before .loop in
+    let a = c .before .before .before .before .before .before .args in
+    let says : ℕ → ℕ → List ℕ → Line = lastOf (a .letter) in
+    c .last-argument .ensures
+    ∙ ap (λ (rest : List ℕ). says (l .earlier) (l .later) rest) (rest-is (a .text .now) (l .at))
+    ∙ none-left (l .earlier) (l .later) (drop (l .at) (a .text .now)) says (l .left) (omega arith)
+    ∙ l .inv .1
 
 pub arguments-spec : {M : Type 1} → statement M
 arguments-spec =
     tie.close
     (tie.spec
-    read-line-requires
-    stop-line-requires
-    write-line-requires
-    serve-line-requires
-    take-line-requires
-    lie-line-requires
-    setup-line-requires
-    returns
-    returns-2
-    returns-3
-    returns-4
-    returns-5
-    returns-6
-    returns-7
-    returns-8)
+    Inv-loop μ-loop (search needs) loop-holds (search needs) (search needs) (search needs)
+    (search needs) (search needs) (search needs) returns add-at (search needs) (search needs)
+    loop-again (search needs) (search needs) (search needs) (search needs) returns-2)

@@ -9,31 +9,22 @@ use Rattle.script.specs.Numbers.{isDigit, isLetter}
 use Rattle.script.proofs.parse.hex_digit.Statement.{statement}
 use Rattle.script.proofs.parse.hex_digit.Tie as tie
 
-cast-result : tie.Need-cast-result
-cast-result c = search needs
-
-sub-result : tie.Need-sub-result
-sub-result c = search needs
-
-cast-result-2 : tie.Need-cast-result-2
-cast-result-2 c = search needs
-
 returns : tie.Need-returns
 returns c = simp (le-leb _ _ (c .before .if1 .taken), c .if2 .taken)
 
-not-digit : (c : tie.Joined1) → isDigit (c .before .args .b) ≡ false
+not-digit : (c : tie.Joined1) → isDigit (c .before .args .byte) ≡ false
 not-digit c =
     by-either (c .if1 .came) (λ w. simp (le-leb _ _ (w .0 .taken), w .1 .left))
     (λ w. simp (lt-leb _ _ (w .left)))
 
-not-letter : (c : tie.Joined3) → isLetter (c .before .before .args .b) ≡ false
+not-letter : (c : tie.Joined3) → isLetter (c .before .before .args .byte) ≡ false
 not-letter c =
     by-either (c .if3 .came) (λ w. simp (le-leb _ _ (w .0 .taken), w .1 .left))
     (λ w. simp (lt-leb _ _ (w .left)))
 
 returns-2 : tie.Need-returns-2
 returns-2 c =
-    let b = c .before .before .before .args .b in
+    let b = c .before .before .before .args .byte in
     rw (not-digit (c .before .before), le-leb 65 b (omega arith), le-leb b 70 (omega (arith, leb-true)))
 
 returns-3 : tie.Need-returns-3
@@ -41,4 +32,6 @@ returns-3 c = rw (not-digit (c .before), not-letter c)
 
 pub hex-digit-spec : {M : Type 1} → statement M
 hex-digit-spec =
-    tie.close (tie.spec cast-result sub-result cast-result-2 returns returns-2 returns-3)
+    tie.close
+    (tie.spec
+    (search needs) (search needs) (search needs) returns returns-2 returns-3)

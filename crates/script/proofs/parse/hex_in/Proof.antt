@@ -1,8 +1,9 @@
--- `hex_in`: the loop keeps that `bad` is below 16 exactly where all bytes that it has passed are digits, and their value if they
--- are. There are at most 16.
+-- `hex_in`: the loop keeps that `bad` is below 16 exactly where all bytes that it has passed are digits, and
+-- their value if they are. There are at most 16.
 use Prim.Native.Nat.{ℕ, _≤_, _<_, _-_, _+_, _*_, _%_, _^_}
 use mathlib.Core.Path.{_≡_, refl, sym, _∙_, ap}
 use mathlib.Core.Bool.{true, _&&_}
+use mathlib.Core.List.{List}
 use native.Mathlib.Omega.{arith}
 use borrow.Author.Needs.{needs}
 use borrow.Author.Tests.{eq-eqb, lt-ltb, le-ltb, ltb-true, ltb-false}
@@ -12,47 +13,41 @@ use lib.ListN.{length, getD, take}
 use lib.Seq.{take-all}
 use Rattle.basics.proofs.Cases.{by-test, both}
 use Rattle.script.specs.Numbers.{isHexDigit, hexValue, allBytes, valueFrom, hexIn}
-use Rattle.script.proofs.Texts.{all-next, value-longer, digits-lt, digits-fit, hex-told}
+use Rattle.script.proofs.Texts.{all-next, value-longer, digits-lt, fits-more, hex-told}
 use Rattle.script.proofs.parse.hex_in.Statement.{statement}
 use Rattle.script.proofs.parse.hex_in.Tie as tie
 
 abbrev Inv-loop : tie.InvT-loop
-Inv-loop s v₀ bad₀ i₀ v bad i =
+Inv-loop s value₀ bad₀ i₀ value bad i =
     (i ≤ length s) × (ltb bad 16 ≡ allBytes isHexDigit (take i s))
-    × (allBytes isHexDigit (take i s) ≡ true → v ≡ valueFrom hexValue 16 0 (take i s)) × (v < 2 ^ (4 * i))
+    × (allBytes isHexDigit (take i s) ≡ true → value ≡ valueFrom hexValue 16 0 (take i s)) ×
+    (value < 2 ^ (4 * i))
 
 abbrev μ-loop : tie.MeasureT-loop
-μ-loop s v₀ bad₀ i₀ v bad i = length s - i
+μ-loop s value₀ bad₀ i₀ value bad i = length s - i
 
 loop-holds : tie.Need-loop-holds Inv-loop μ-loop
 unfolding allBytes valueFrom
 loop-holds c = (search needs, refl, λ e. refl, search needs)
 
-shared-slice-read-hex-digit : tie.Need-shared-slice-read-hex-digit Inv-loop μ-loop
-shared-slice-read-hex-digit c = search needs
+abbrev at-loop : tie.After-hex-digit Inv-loop μ-loop → tie.At-loop Inv-loop μ-loop
+at-loop c = c .before .before .before
 
-hex-digit-requires : tie.Need-hex-digit-requires Inv-loop μ-loop
-hex-digit-requires c κs = search needs
+abbrev text : tie.At-loop Inv-loop μ-loop → List ℕ
+text at = at .before .before .args .text .now
 
 -- the value so far has fewer than 16 digits
-small : (c : tie.After-hex-digit Inv-loop μ-loop) → c .before .before .before .loop .v < 2 ^ 60
+small : (c : tie.After-hex-digit Inv-loop μ-loop) → at-loop c .loop .value < 2 ^ 60
 small c =
-    let l = c .before .before .before .loop in
-    let start = c .before .before .before .before .before in
-    let few : length (start .args .s .now) ≤ 16 = start .pre in
-    digits-fit (l .v) (l .i) 15 (l .inv .3) (omega arith)
+    let l = at-loop c .loop in
+    let few : length (text (at-loop c)) ≤ 16 = at-loop c .before .before .pre in
+    fits-more (l .value) (4 * l .i) 60 (l .inv .3) (omega arith)
 
-mul-v : tie.Need-mul-v Inv-loop μ-loop
-mul-v c = omega (arith, small c)
+mul-value : tie.Need-mul-value Inv-loop μ-loop
+mul-value c = omega (arith, small c)
 
-add-v : tie.Need-add-v Inv-loop μ-loop
-add-v c = omega (arith, small c)
-
-add-i : tie.Need-add-i Inv-loop μ-loop
-add-i c = search needs
-
-loop-less : tie.Need-loop-less Inv-loop μ-loop
-loop-less c = search needs
+add-value : tie.Need-add-value Inv-loop μ-loop
+add-value c = omega (arith, small c)
 
 -- two numbers joined by or are below 16 where both are: neither is above the join
 or-small : (a b : ℕ) → ltb (bitOr a b) 16 ≡ ltb a 16 && ltb b 16
@@ -67,8 +62,8 @@ or-small a b =
 
 loop-again : tie.Need-loop-again Inv-loop μ-loop
 loop-again c =
-    let l = c .before .before .before .loop in
-    let s = c .before .before .before .before .before .args .s .now in
+    let l = at-loop c .loop in
+    let s = text (at-loop c) in
     let d = c .hex-digit .result in
     let told = hex-told (getD s (l .i) 0) d (c .hex-digit .ensures) in
     let inside : l .i < length s = omega arith in
@@ -76,41 +71,33 @@ loop-again c =
       omega arith,
       cc (or-small (l .bad) d, told .0, next),
       λ e. let p = both (allBytes isHexDigit (take (l .i) s)) (isHexDigit (getD s (l .i) 0)) (sym next ∙ e) in
-          ap (λ (x : ℕ). l .v * 16 + x) (told .1 (p .1))
-          ∙ value-longer s (l .i) inside hexValue 16 (l .v) (l .inv .2 (p .0)),
-      digits-lt (l .v) 16 (d % 16) (l .i) (l .inv .3) (omega arith) (omega arith),
+          ap (λ (x : ℕ). l .value * 16 + x) (told .1 (p .1))
+          ∙ value-longer s (l .i) inside hexValue 16 (l .value) (l .inv .2 (p .0)),
+      digits-lt (l .value) 16 (d % 16) (l .i) (l .inv .3) (omega arith) (omega arith),
     )
+
+-- the loop has passed all bytes
+whole : (c : tie.After-loop Inv-loop μ-loop) → take (c .before .loop .i) (text (c .before)) ≡ text (c .before)
+whole c = take-all (c .before .loop .i) (text (c .before)) (omega arith)
 
 returns : tie.Need-returns Inv-loop μ-loop
 unfolding hexIn
 returns c =
     let l = c .before .before .loop in
-    let s = c .before .before .before .before .args .s .now in
-    let whole : take (l .i) s ≡ s = take-all (l .i) s (omega arith) in
+    let n = length (text (c .before .before)) in
     let all = sym (l .inv .1) ∙ lt-ltb (l .bad) 16 (c .if1 .taken) in
-    simp (eq-eqb (length s) (length s) refl, rw whole at all, l .inv .2 all, whole)
+    simp (eq-eqb n n refl, rw (whole (c .before)) at all, l .inv .2 all, whole (c .before))
 
 returns-2 : tie.Need-returns-2 Inv-loop μ-loop
 unfolding hexIn
 returns-2 c =
     let l = c .before .before .loop in
-    let s = c .before .before .before .before .args .s .now in
-    let whole : take (l .i) s ≡ s = take-all (l .i) s (omega arith) in
-    simp (eq-eqb (length s) (length s) refl, rw whole at (sym (l .inv .1) ∙ le-ltb (l .bad) 16 (c .if1 .left)))
+    let n = length (text (c .before .before)) in
+    simp (eq-eqb n n refl, rw (whole (c .before)) at (sym (l .inv .1) ∙ le-ltb (l .bad) 16 (c .if1 .left)))
 
 pub hex-in-spec : {M : Type 1} → statement M
 hex-in-spec =
     tie.close
     (tie.spec
-    Inv-loop
-    μ-loop
-    loop-holds
-    shared-slice-read-hex-digit
-    hex-digit-requires
-    mul-v
-    add-v
-    add-i
-    loop-less
-    loop-again
-    returns
-    returns-2)
+    Inv-loop μ-loop loop-holds (search needs) (search needs) mul-value add-value (search needs)
+    (search needs) loop-again returns returns-2)

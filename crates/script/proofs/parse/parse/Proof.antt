@@ -18,9 +18,6 @@ returns-2 : tie.Need-returns-2
 unfolding lineOf
 returns-2 c = simp (le-leb 3 _ (c .before .if1 .left), lt-leb _ 64 (c .if2 .taken))
 
-shared-slice-read-if3 : tie.Need-shared-slice-read-if3
-shared-slice-read-if3 c = search needs
-
 returns-3 : tie.Need-returns-3
 unfolding lineOf
 returns-3 c =
@@ -30,44 +27,21 @@ returns-3 c =
       ne-eqb _ 32 (c .if3 .taken),
     )
 
-shared-slice-read-arguments : tie.Need-shared-slice-read-arguments
-shared-slice-read-arguments c = search needs
-
-sub-arguments : tie.Need-sub-arguments
-sub-arguments c = search needs
-
-part-arguments-start : tie.Need-part-arguments-start
-part-arguments-start c = search needs
-
-part-arguments-end : tie.Need-part-arguments-end
-part-arguments-end c = search needs
-
-arguments-requires : tie.Need-arguments-requires
-arguments-requires c κs = search needs
-
 returns-4 : tie.Need-returns-4
 unfolding lineOf
 returns-4 c =
     let tested = c .before .before .before in
-    let s = tested .before .before .before .before .before .args .s .now in
+    let text = tested .before .before .before .before .before .args .text .now in
     simp (
       le-leb 3 _ (tested .before .before .before .if1 .left),
       le-leb _ 64 (tested .before .before .if2 .left),
       eq-eqb _ 32 (tested .if3 .left),
     )
-    (c .arguments .ensures ∙ ap (λ (l : List ℕ). argumentsOf (getD s 0 0) l) (rest-is s 2))
+    (c .arguments .ensures ∙ ap (λ (l : List ℕ). argumentsOf (getD text 0 0) l) (rest-is text 2))
 
 pub parse-spec : {M : Type 1} → statement M
 parse-spec =
     tie.close
     (tie.spec
-    returns
-    returns-2
-    shared-slice-read-if3
-    returns-3
-    shared-slice-read-arguments
-    sub-arguments
-    part-arguments-start
-    part-arguments-end
-    arguments-requires
-    returns-4)
+    returns returns-2 (search needs) returns-3 (search needs) (search needs) (search needs)
+    (search needs) (search needs) returns-4)

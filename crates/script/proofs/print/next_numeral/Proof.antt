@@ -25,22 +25,24 @@ goes-along {q} n same e =
     λ i. record { number = n + 1; text = text i; kept = kept i }
 
 returns : tie.Need-returns
-returns c = c .before .before .pre ∙ ap numeralOf (sym (stays (c .before .before .args .q .number) (omega arith)))
-
-add-number : tie.Need-add-number
-add-number c = search needs
+returns c =
+    c .before .before .pre
+    ∙ ap numeralOf (sym (stays (c .before .before .args .numeral .number) (omega arith)))
 
 returns-2 : tie.Need-returns-2
 returns-2 c =
-    let n = c .before .before .before .before .before .args .q .number in
+    let n = c .before .before .before .before .before .args .numeral .number in
     c .numeral-of .ensures ∙ ap numeralOf (sym (goes-on n (omega arith)))
 
 returns-3 : tie.Need-returns-3
 returns-3 c =
-    let q = c .before .before .before .before .before .args .q in
-    let n = q .number in
-    goes-along n (omega arith) (c .before .before .before .before .before .pre)
+    let start = c .before .before .before .before .before in
+    let n = start .args .numeral .number in
+    goes-along n (omega arith) (start .pre)
     ∙ ap numeralOf (sym (goes-on n (omega arith)))
 
 pub next-numeral-spec : {M : Type 1} → statement M
-next-numeral-spec = tie.close (tie.spec returns add-number (search needs) returns-2 returns-3)
+next-numeral-spec =
+    tie.close
+    (tie.spec
+    returns (search needs) (search needs) returns-2 returns-3)

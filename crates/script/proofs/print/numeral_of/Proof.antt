@@ -15,34 +15,33 @@ use Rattle.script.proofs.Hundreds.{decimal-few, kept-all, kept-none}
 use Rattle.script.proofs.print.numeral_of.Statement.{statement}
 use Rattle.script.proofs.print.numeral_of.Tie as tie
 
-slice-aggregate-put-decimal : tie.Need-slice-aggregate-put-decimal
-slice-aggregate-put-decimal c = search needs
-
 put-decimal-requires : tie.Need-put-decimal-requires
 put-decimal-requires c κs =
-    let h = c .before .before .before .args .v / 100 in
+    let h = c .before .before .before .args .value / 100 in
     omega (arith, decimal-few h (omega (arith, ltb-true)))
 
 returns : tie.Need-returns
 unfolding numeralOf
 returns c =
     let start = c .before .before .before .before .before in
-    let v = start .args .v in
-    let few : v / 100 < 1000000 = omega (arith, ltb-true) in
+    let value = start .args .value in
+    let few : value / 100 < 1000000 = omega (arith, ltb-true) in
     let w = c .before .put-decimal .ensures in
-    let all = sym (kept-all (v / 100) (omega arith) few) in
+    let all = sym (kept-all (value / 100) (omega arith) few) in
     let text = w .holds ∙ ap (λ (l : List ℕ). written (replicate 8 0) 0 l) all in
-    let kept = w .ends ∙ zero-add (length (decimal (v / 100))) ∙ ap length all in
-    λ i. record { number = v; text = text i; kept = kept i }
+    let kept = w .ends ∙ zero-add (length (decimal (value / 100))) ∙ ap length all in
+    λ i. record { number = value; text = text i; kept = kept i }
 
 returns-2 : tie.Need-returns-2
 unfolding numeralOf
 returns-2 c =
-    let v = c .before .args .v in
-    let none = kept-none (v / 100)
+    let value = c .before .args .value in
+    let none = kept-none (value / 100)
     (λ some. ⊎-elim (λ w. omega (arith, ltb-false)) (λ w. omega (arith, w .left)) (c .if1 .came)) in
     rw none refl
 
 pub numeral-of-spec : {M : Type 1} → statement M
 numeral-of-spec =
-    tie.close (tie.spec slice-aggregate-put-decimal put-decimal-requires returns returns-2)
+    tie.close
+    (tie.spec
+    (search needs) put-decimal-requires returns returns-2)

@@ -21,4 +21,6 @@ returns c =
 
 pub print-spec : {M : Type 1} → statement M
 print-spec =
-    tie.close (tie.spec (search needs) print-numbered-requires (search needs) returns)
+    tie.close
+    (tie.spec
+    (search needs) print-numbered-requires (search needs) returns)

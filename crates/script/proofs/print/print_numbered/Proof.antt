@@ -25,28 +25,33 @@ put-output-requires : tie.Need-put-output-requires
 put-output-requires c κs =
     let number = c .before .before .before in
     let begun = number .put-numeral .ensures in
-    rw (begun-keeps begun) (omega (arith, begun .ends, decimal-short (number .before .before .before .before .args .q .number)))
+    let start = number .before .before .before .before in
+    rw (begun-keeps begun) (omega (arith, begun .ends, decimal-short (start .args .numeral .number)))
 
 -- the whole line
-line : (c : tie.After-slice-known3)
-    → let start = c .before .before .before .before .before .before .before .before .before .before in
-    Written (decimal (start .args .q .number) ++ behindNumber (start .args .what)) (start .args .out .now) 0
-    (c .before .before .put-output .result) (c .before .before .put-output .last .0)
-line c =
-    let number = c .before .before .before .before .before .before in
-    then-over (number .put-numeral .ensures) (behind-long (number .before .before .before .before .args .what))
-    (c .before .before .put-output .ensures)
+module _ (c : tie.After-slice-known3) where
+  abbrev number : tie.After-put-numeral
+  number = c .before .before .before .before .before .before
 
-same-length : tie.Need-same-length
-same-length c = keeps (line c)
+  abbrev start : tie.Start
+  start = number .before .before .before .before
+
+  line : Written (decimal (start .args .numeral .number) ++ behindNumber (start .args .what))
+      (start .args .out .now) 0
+      (c .before .before .put-output .result) (c .before .before .put-output .last .0)
+  line =
+      then-over (number .put-numeral .ensures) (behind-long (start .args .what))
+      (c .before .before .put-output .ensures)
 
 returns-2 : tie.Need-returns-2
 unfolding printed
 returns-2 c =
-    let tested = c .before .before .before .before .before .before .before .before in
-    let long = le-leb 80 (length (tested .before .before .args .out .now)) (omega arith) in
+    let long = le-leb 80 (length (start c .args .out .now))
+    (omega (arith, number c .before .before .if1 .left)) in
     record { bytes = simp long (line c .ends ∙ zero-add _); holds = simp long (line c .holds) }
 
 pub print-numbered-spec : {M : Type 1} → statement M
 print-numbered-spec =
-    tie.close (tie.spec returns (λ c κs. search needs) put-output-requires same-length returns-2)
+    tie.close
+    (tie.spec
+    returns (λ c κs. search needs) put-output-requires (λ c. keeps (line c)) returns-2)

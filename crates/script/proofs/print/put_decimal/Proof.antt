@@ -1,42 +1,37 @@
--- `put_decimal`: the loop keeps the digits behind place i written. Where one is left at its end, the first digit is written too.
-use mathlib.Core.Path.{_≡_, refl, ap}
+-- `put_decimal`: the loop keeps the digits behind place i written. Where one is left at its end, the first
+-- digit is written too.
+use mathlib.Core.Path.{_≡_, refl, sym}
 use mathlib.Core.List.{List}
 use mathlib.Core.Logic.{⊎-elim}
 use Prim.Native.Nat.{ℕ, _+_, _-_, _/_, _%_, _≤_}
 use native.Mathlib.Omega.{arith}
 use borrow.Author.Needs.{needs}
 use lib.ListN.{length, set}
-use Rattle.script.specs.Numbers.{digitsOf, digitCount, decimal}
+use Rattle.script.specs.Numbers.{digitsOf, digitCount}
 use Rattle.script.specs.Writing.{Written}
 use Rattle.script.proofs.Digits.{digits-length, digit-below-ten}
 use Rattle.script.proofs.Trailing.{Trailing, none-yet, wide, one-more, two-more, all-written}
-use Rattle.script.proofs.Writing.{keeps, reads}
+use Rattle.script.proofs.Writing.{keeps, named}
 use Rattle.script.proofs.print.put_decimal.Statement.{statement}
 use Rattle.script.proofs.print.put_decimal.Tie as tie
 
 abbrev Inv-loop : tie.InvT-loop
-Inv-loop out₀ at v n left₀ i₀ out left i = Trailing 10 out₀ at n v out left i
+Inv-loop out₀ at value n left₀ i₀ out left i = Trailing 10 out₀ at n value out left i
 
 abbrev μ-loop : tie.MeasureT-loop
-μ-loop out₀ at v n left₀ i₀ out left i = i
-
-digit-count-requires : tie.Need-digit-count-requires Inv-loop μ-loop
-digit-count-requires c κs = search needs
+μ-loop out₀ at value n left₀ i₀ out left i = i
 
 loop-holds : tie.Need-loop-holds Inv-loop μ-loop
 loop-holds c =
     let a = c .before .before .args in
-    none-yet 10 (a .out .now) (a .at) (c .digit-count .result) (a .v)
+    none-yet 10 (a .out .now) (a .at) (c .digit-count .result) (a .value)
 
 -- the digits fit
 room : (c : tie.After-digit-count Inv-loop μ-loop)
     → let a = c .before .before .args in a .at + c .digit-count .result ≤ length (a .out .now)
 room c =
-    let v = c .before .before .args .v in
-    omega (arith, c .digit-count .ensures, digits-length 10 (digitCount 19 v) v)
-
-sub-i : tie.Need-sub-i Inv-loop μ-loop
-sub-i c = search needs
+    let value = c .before .before .args .value in
+    omega (arith, c .digit-count .ensures, digits-length 10 (digitCount 19 value) value)
 
 add-put-two : tie.Need-add-put-two Inv-loop μ-loop
 add-put-two c = omega (arith, room (c .before .before .before))
@@ -46,19 +41,11 @@ put-two-requires c κs =
     let at = c .before .before in
     rw (wide (room (at .before)) (at .loop .inv)) (omega (arith, room (at .before)))
 
-loop-less : tie.Need-loop-less Inv-loop μ-loop
-loop-less c = search needs
-
 loop-again : tie.Need-loop-again Inv-loop μ-loop
 loop-again c =
     let at = c .before .before .before .before .before in
-    two-more (at .loop .i - 2) (room (at .before)) (omega arith) (c .before .before .put-two .ensures) (at .loop .inv)
-
-cast-out : tie.Need-cast-out Inv-loop μ-loop
-cast-out c = search needs
-
-add-out : tie.Need-add-out Inv-loop μ-loop
-add-out c = search needs
+    two-more (at .loop .i - 2) (room (at .before)) (omega arith) (c .before .before .put-two .ensures)
+    (at .loop .inv)
 
 slice-write-out : tie.Need-slice-write-out Inv-loop μ-loop
 slice-write-out c =
@@ -69,8 +56,9 @@ add-result : tie.Need-add-result Inv-loop μ-loop
 add-result c = omega (arith, room (c .before .before .before))
 
 -- where one digit is left, it is written
-alone : {before out after : List ℕ} {at n v left i : ℕ} → at + n ≤ length before → i ≡ 1 → after ≡ set out at (48 + left % 10)
-    → Trailing 10 before at n v out left i → Trailing 10 before at n v after (left / 10) 0
+alone : {before out after : List ℕ} {at n value left i : ℕ} → at + n ≤ length before → i ≡ 1
+    → after ≡ set out at (48 + left % 10)
+    → Trailing 10 before at n value out left i → Trailing 10 before at n value after (left / 10) 0
 alone {at} {left} fits e is t =
     let here : at + 0 ≡ at = omega arith in
     one-more fits 0 e (rw (here, ← digit-below-ten (left % 10) (omega arith)) is) t
@@ -79,38 +67,23 @@ all-digits : (c : tie.Joined1 Inv-loop μ-loop)
     → let start = c .before .before .before in
     let a = start .before .before .args in
     let n = start .digit-count .result in
-    Written (digitsOf 10 n (a .v)) (a .out .now) (a .at) (a .at + n) (c .if1 .out)
+    Written (digitsOf 10 n (a .value)) (a .out .now) (a .at) (a .at + n) (c .if1 .out)
 all-digits c =
     let at = c .before .before in
     let fits = room (at .before) in
     ⊎-elim (λ w. all-written fits refl refl (alone fits (omega arith) (w .1) (at .loop .inv)))
     (λ w. all-written fits (omega arith) (w .1) (at .loop .inv)) (c .if1 .came)
 
-same-length : tie.Need-same-length Inv-loop μ-loop
-same-length c = keeps (all-digits c)
-
 returns : tie.Need-returns Inv-loop μ-loop
 returns c =
     let start = c .before .before .before in
-    let v = start .before .before .args .v in
-    reads (all-digits c) (decimal v) (ap (λ (n : ℕ). digitsOf 10 n v) (start .digit-count .ensures))
+    let value = start .before .before .args .value in
+    named (λ n. digitsOf 10 n value) (sym (start .digit-count .ensures)) (all-digits c)
 
 pub put-decimal-spec : {M : Type 1} → statement M
 put-decimal-spec =
     tie.close
     (tie.spec
-    Inv-loop
-    μ-loop
-    digit-count-requires
-    loop-holds
-    sub-i
-    add-put-two
-    put-two-requires
-    loop-less
-    loop-again
-    cast-out
-    add-out
-    slice-write-out
-    add-result
-    same-length
-    returns)
+    Inv-loop μ-loop (search needs) loop-holds (search needs) add-put-two put-two-requires
+    (search needs) loop-again (search needs) (search needs) slice-write-out add-result
+    (λ c. keeps (all-digits c)) returns)

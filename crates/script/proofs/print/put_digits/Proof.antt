@@ -9,40 +9,26 @@ use Rattle.script.proofs.print.put_digits.Statement.{statement}
 use Rattle.script.proofs.print.put_digits.Tie as tie
 
 abbrev Inv-loop : tie.InvT-loop
-Inv-loop out₀ at n v left₀ i₀ out left i = Trailing 16 out₀ at n v out left i
+Inv-loop out₀ at n value left₀ i₀ out left i = Trailing 16 out₀ at n value out left i
 
 abbrev μ-loop : tie.MeasureT-loop
-μ-loop out₀ at n v left₀ i₀ out left i = i
+μ-loop out₀ at n value left₀ i₀ out left i = i
 
 loop-holds : tie.Need-loop-holds Inv-loop μ-loop
 loop-holds c =
-    let a = c .before .args in none-yet 16 (a .out .now) (a .at) (a .n) (a .v)
-
-sub-i : tie.Need-sub-i Inv-loop μ-loop
-sub-i c = search needs
-
-digit-requires : tie.Need-digit-requires Inv-loop μ-loop
-digit-requires c κs = search needs
-
-add-out : tie.Need-add-out Inv-loop μ-loop
-add-out c = search needs
+    let a = c .before .args in none-yet 16 (a .out .now) (a .at) (a .count) (a .value)
 
 slice-write-out : tie.Need-slice-write-out Inv-loop μ-loop
 slice-write-out c =
     let at = c .before .before in rw (wide (at .before .before .pre) (at .loop .inv)) (omega arith)
-
-loop-less : tie.Need-loop-less Inv-loop μ-loop
-loop-less c = omega arith
 
 loop-again : tie.Need-loop-again Inv-loop μ-loop
 loop-again c =
     let at = c .before .before in
     let l = at .loop in
     let p : ℕ = at .before .before .args .at + (l .i - 1) in
-    one-more (at .before .before .pre) (l .i - 1) (omega arith) (ap (λ (d : ℕ). set (l .out) p d) (c .digit .ensures)) (l .inv)
-
-add-result : tie.Need-add-result Inv-loop μ-loop
-add-result c = search needs
+    one-more (at .before .before .pre) (l .i - 1) (omega arith)
+    (ap (λ (d : ℕ). set (l .out) p d) (c .digit .ensures)) (l .inv)
 
 same-length : tie.Need-same-length Inv-loop μ-loop
 same-length c = wide (c .before .before .before .pre) (c .before .loop .inv)
@@ -54,15 +40,5 @@ pub put-digits-spec : {M : Type 1} → statement M
 put-digits-spec =
     tie.close
     (tie.spec
-    Inv-loop
-    μ-loop
-    loop-holds
-    sub-i
-    digit-requires
-    add-out
-    slice-write-out
-    loop-less
-    loop-again
-    add-result
-    same-length
-    returns)
+    Inv-loop μ-loop loop-holds (search needs) (search needs) (search needs) slice-write-out
+    (λ c. omega arith) loop-again (search needs) same-length returns)

@@ -1,4 +1,5 @@
 -- `put_numeral`: a numeral that keeps digits has their text written, and the last two behind them.
+use Prim.Native.Nat.{_≤_}
 use native.Mathlib.Omega.{arith}
 use borrow.Author.Needs.{needs}
 use Rattle.script.proofs.Digits.{decimal-short}
@@ -10,39 +11,49 @@ use Rattle.script.proofs.print.put_numeral.Tie as tie
 
 put-decimal-requires : tie.Need-put-decimal-requires
 put-decimal-requires c κs =
-    let start = c .before .before .before .before in omega (arith, start .pre, decimal-short (start .args .q .number))
+    let start = c .before .before .before .before in
+    omega (arith, start .pre, decimal-short (start .args .numeral .number))
 
 returns : tie.Need-returns
 returns c = begun-alone (c .before .before .put-decimal .ensures)
 
+-- the places before and after the text is written
+abbrev start : tie.After-put-text → tie.Start
+start c = c .before .before .before .before .before .before .before
+
 put-text-requires : tie.Need-put-text-requires
 put-text-requires c κs =
-    let start = c .before .before .before .before .before .before in
-    rw (eight-bytes (start .args .q) (start .pre .0)) (omega arith)
+    let s = c .before .before .before .before .before .before in
+    rw (eight-bytes (s .args .numeral) (s .pre .0)) (omega arith)
+
+few : (c : tie.After-put-text) → start c .args .numeral .kept ≤ 6
+few c = few-kept (start c .args .numeral) (start c .pre .0)
 
 put-two-requires : tie.Need-put-two-requires
 put-two-requires c κs =
     let text = c .before .before .before in
-    let start = text .before .before .before .before .before .before .before in
-    rw (keeps (text .put-text .ensures)) (omega (arith, start .pre .1, few-kept (start .args .q) (start .pre .0)))
+    rw (keeps (text .put-text .ensures)) (omega (arith, start text .pre .1, few text))
+
+abbrev text-at : tie.After-struct-known2 → tie.After-put-text
+text-at c = c .before .before .before .before .before .before .before
 
 add-result : tie.Need-add-result
 add-result c =
-    let text = c .before .before .before .before .before .before .before in
-    let start = text .before .before .before .before .before .before .before in
-    let few = few-kept (start .args .q) (start .pre .0) in
+    let small = few (text-at c) in
     search needs
 
 returns-2 : tie.Need-returns-2
 returns-2 c =
-    let text = c .before .before .before .before .before .before .before in
-    let start = text .before .before .before .before .before .before .before in
+    let text = text-at c in
+    let own = start text .pre .0 in
     let some = text .before .before .before .before .if1 .left in
-    numeral-begun (start .args .q) (start .pre .0) some (omega (arith, start .pre .1)) (text .put-text .ensures)
+    numeral-begun (start text .args .numeral) own some (omega (arith, start text .pre .1))
+    (text .put-text .ensures)
     (c .before .before .before .put-two .ensures)
 
 pub put-numeral-spec : {M : Type 1} → statement M
 put-numeral-spec =
     tie.close
-    (tie.spec put-decimal-requires (search needs) returns (λ c. search needs) put-text-requires put-two-requires add-result
-    (search needs) returns-2)
+    (tie.spec
+    put-decimal-requires (search needs) returns (λ c. search needs) put-text-requires
+    put-two-requires add-result (search needs) returns-2)

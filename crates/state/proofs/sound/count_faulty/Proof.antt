@@ -4,20 +4,20 @@ use Prim.Native.Nat.{suc, _-_, _≤_}
 use mathlib.Core.Path.{_≡_}
 use native.Mathlib.Omega.{arith}
 use borrow.Author.Needs.{needs}
-use Rattle.basics.specs.Counting.{count}
+use Rattle.basics.specs.Counting.{countBelow}
 use Rattle.replies.proofs.Steps.{bool-le, count-step, count-end}
 use Rattle.server.specs.State.{contains}
 use Rattle.state.proofs.sound.count_faulty.Statement.{statement}
 use Rattle.state.proofs.sound.count_faulty.Tie as tie
 
 abbrev Inv-loop : tie.InvT-loop
-Inv-loop faulty i₀ n₀ i n = (i ≤ 13) × (n ≤ i) × (n ≡ count (λ j. contains faulty (suc j)) i)
+Inv-loop faulty i₀ n₀ i n = (i ≤ 13) × (n ≤ i) × (n ≡ countBelow (λ j. contains faulty (suc j)) i)
 
 abbrev μ-loop : tie.MeasureT-loop
 μ-loop faulty i₀ n₀ i n = 13 - i
 
 loop-holds : tie.Need-loop-holds Inv-loop μ-loop
-unfolding count
+unfolding countBelow
 loop-holds c = search needs
 
 add-n : tie.Need-add-n Inv-loop μ-loop

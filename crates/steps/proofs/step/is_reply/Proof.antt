@@ -7,32 +7,20 @@ use Rattle.steps.proofs.Lying.{words-unpack}
 use Rattle.steps.proofs.step.is_reply.Statement.{statement}
 use Rattle.steps.proofs.step.is_reply.Tie as tie
 
-of-words-requires : tie.Need-of-words-requires
-of-words-requires c κs = search needs
-
-enum-known-m : tie.Need-enum-known-m
-enum-known-m c = search needs
-
-is-reply-requires : tie.Need-is-reply-requires
-is-reply-requires c κs = search needs
-
-enum-told : tie.Need-enum-told
-enum-told c = search needs
-
 returns : tie.Need-returns
+unfolding isReply
 returns c =
+    let s = c .before .before in
+    ap isReply (sym (c .enum-told .given .1) ∙ s .of-words .ensures ∙ words-unpack (s .before .args .w) (omega arith))
+
+returns-2 : tie.Need-returns-2
+returns-2 c =
     let s = c .before .before .before .before in
     c .is-reply .ensures
     ∙ ap isReply (sym (c .before .before .m .given .1) ∙ s .of-words .ensures ∙ words-unpack
     (s .before .args .w) (omega arith))
 
-returns-2 : tie.Need-returns-2
-unfolding isReply
-returns-2 c =
-    let s = c .before .before in
-    ap isReply (sym (c .enum-told .given .1) ∙ s .of-words .ensures ∙ words-unpack (s .before .args .w) (omega arith))
-
 pub is-reply-spec : {M : Type 1} → statement M
 is-reply-spec =
     tie.close
-    (tie.spec of-words-requires enum-known-m is-reply-requires enum-told returns returns-2)
+    (tie.spec (λ c κs. search needs) (search needs) (search needs) returns (λ c κs. search needs) returns-2)

@@ -1,67 +1,45 @@
--- `serve_oldest`: the last rung, and the message taken. Assumes nothing.
-use Prim.Native.Nat.{_-_}
-use mathlib.Core.Path.{_≡_, ap, _∙_}
+-- `serve_oldest`: what is no message goes off its channel; a message is served. Assumes nothing.
+use mathlib.Core.Path.{_≡_, sym, ap, _∙_}
 use borrow.Author.Needs.{needs}
-use borrow.Author.Tests.{not-true, not-false}
-use Rattle.server.specs.declared.Server.{Server}
-use Rattle.server.specs.Memory as server
-use Rattle.server.specs.State.{sound}
-use Rattle.server.specs.Taking.{servedOf}
-use Rattle.server.proofs.Memory.{loaded-sound}
-use Rattle.state.specs.State.{serverStart, serverAt}
-use Rattle.steps.proofs.Lent.{lent, put-back}
-use Rattle.steps.proofs.Serving.{serve-refused, serve-gives}
+use Rattle.state.specs.State.{messageAt}
+use Rattle.steps.specs.Inner.{requestAt}
+use Rattle.steps.proofs.Serving.{drop-gives}
 use Rattle.steps.proofs.step.serve_oldest.Statement.{statement}
 use Rattle.steps.proofs.step.serve_oldest.Tie as tie
 
--- where a place comes from
-abbrev place-of : tie.After-load → tie.After-server-start
-place-of c = c .before .before .before
+abbrev start-of : tie.After-oldest → tie.Start
+start-of c = c .before .before .before .before
 
-abbrev start-of : tie.After-load → tie.Start
-start-of c = place-of c .before .before .before
-
--- the server that is loaded
-loaded : (c : tie.After-load) → let a = start-of c .args in
-    c .load .result ≡ server.loaded (serverAt (a .s .now) (a .k - 1))
-loaded c =
-    let a = start-of c .args in
-    c .load .ensures
-    ∙ ap server.loaded (lent (serverStart (a .k - 1)) 2 (a .s .now) _ (place-of c .server-start .ensures))
-
-after-requires : tie.Need-after-requires
-after-requires c κs =
-    let l = c .before .before in
-    let s = start-of l in
-    (ap sound (loaded l) ∙ loaded-sound (serverAt (s .args .s .now) (s .args .k - 1)) (s .pre .6), s .pre .1, s .pre .2)
+-- what is found is the oldest request
+oldest-is : (c : tie.After-oldest) → let a = start-of c .args in c .oldest .result ≡ requestAt (a .b .now) (a .k) (a .d)
+oldest-is c = c .oldest .ensures ∙ ap (messageAt (start-of c .args .b .now)) (c .before .before .up .ensures)
 
 returns : tie.Need-returns
 returns c =
-    let at-has-room-down = c .before .before .before in
-    let at-after = at-has-room-down .before .before .before in
-    let l = at-after .before .before .before in
-    let a = start-of l .args in
-    serve-refused (a .t) (a .stopped) (a .s .now) (a .b .now) (a .k) (a .d) _ _ _ _ _ (place-of l .before .up .ensures)
-    (at-after .before .oldest .ensures)
-    (at-after .after .ensures ∙ ap (λ (v : Server). servedOf v (a .d) (at-after .before .oldest .result)) (loaded l))
-    (at-has-room-down .has-room-down .ensures) (c .before .take-if .ensures) (not-true _ (c .if1 .taken))
+    let o = c .before .before .before .before in
+    let s = start-of o in
+    let a = s .args in
+    let told = c .before .before .enum-told .given in
+    drop-gives (a .t) (a .stopped) (a .s .now) (a .b .now) (a .k) (a .d) (s .pre .3) (s .pre .4) (s .pre .0) (s .pre .7)
+    (s .pre .6) _ (sym (oldest-is o) ∙ told .1) _ _ (o .before .before .up .ensures) (c .take .ensures)
+
+serve-message-requires : tie.Need-serve-message-requires
+serve-message-requires c κs =
+    let o = c .before .before .before .before .before in
+    let s = start-of o in (
+      s .pre .0,
+      s .pre .1,
+      s .pre .2,
+      s .pre .3,
+      s .pre .4,
+      s .pre .5,
+      s .pre .6,
+      sym (oldest-is o) ∙ c .before .before .before .m .given .1,
+      s .pre .7,
+    )
 
 returns-2 : tie.Need-returns-2
-returns-2 c =
-    let at-store = c .before .before .before .before in
-    let at-if1 = at-store .before .before in
-    let at-has-room-down = at-if1 .before .before .before in
-    let at-after = at-has-room-down .before .before .before in
-    let l = at-after .before .before .before in
-    let s = start-of l in
-    let a = s .args in
-    serve-gives (a .t) (a .stopped) (a .s .now) (a .b .now) (a .k) (a .d) _ _ _ _ _ (place-of l .before .up .ensures)
-    (at-after .before .oldest .ensures)
-    (at-after .after .ensures ∙ ap (λ (v : Server). servedOf v (a .d) (at-after .before .oldest .result)) (loaded l))
-    (at-has-room-down .has-room-down .ensures) (at-if1 .before .take-if .ensures) (s .pre .1)
-    (not-false _ (at-if1 .if1 .left)) _ _
-    (put-back (serverStart (a .k - 1)) 2 (a .s .now) _ (place-of l .server-start .ensures) _ _ (at-store .store .ensures))
-    (c .reply .ensures)
+returns-2 c = c .before .before .serve-message .ensures
 
 pub serve-oldest-spec : {M : Type 1} → statement M
 serve-oldest-spec =
@@ -76,22 +54,7 @@ serve-oldest-spec =
     (search needs)
     (search needs)
     (search needs)
-    (search needs)
-    (search needs)
-    (search needs)
-    (search needs)
-    (search needs)
-    after-requires
-    (search needs)
-    (λ c κs. search needs)
-    (search needs)
-    (search needs)
     returns
-    (search needs)
-    (search needs)
-    (search needs)
-    (search needs)
-    (search needs)
-    (search needs)
+    serve-message-requires
     (search needs)
     returns-2)

@@ -1,4 +1,5 @@
--- `take_oldest`: a message that the client does not take goes off its channel; else it is taken. Assumes nothing.
+-- `take_oldest`: what is no message, or one that the client does not take, goes off its channel; else it is taken.
+-- Assumes nothing.
 use Prim.Native.Nat.{ℕ, _+_, _-_}
 use mathlib.Core.Bool.{false}
 use mathlib.Core.List.{List}
@@ -7,6 +8,8 @@ use native.Mathlib.Omega.{arith}
 use borrow.Author.Needs.{needs}
 use borrow.Author.Tests.{not-true}
 use lib.ListN.{take, drop}
+use Rattle.message.specs.declared.Message.{Message}
+use Rattle.message.specs.declared.Unpacked.the-variants.{Good}
 use Rattle.client.specs.declared.Client.{Client}
 use Rattle.client.specs.Memory as client
 use Rattle.client.specs.Sound.{isSoundMemory}
@@ -14,24 +17,34 @@ use Rattle.client.specs.Taking.{isTaken}
 use Rattle.state.specs.State.{clientStart, clientAt, messageAt}
 use Rattle.steps.specs.Inner.{replyAt, shown, takeOldest}
 use Rattle.steps.proofs.Lent.{lent}
-use Rattle.steps.proofs.Receiving.{drop-gives}
+use Rattle.steps.proofs.Receiving.{none-gives, drop-gives}
 use Rattle.steps.proofs.step.take_oldest.Statement.{statement}
 use Rattle.steps.proofs.step.take_oldest.Tie as tie
 
 -- where a place comes from
+abbrev start-at : tie.After-oldest → tie.Start
+start-at c = c .before .before .before .before
+
 abbrev first-of : tie.After-client-start → tie.After-oldest
-first-of c = c .before
+first-of c = c .before .before .before .before
 
 abbrev start-of : tie.After-client-start → tie.Start
-start-of c = first-of c .before .before .before .before
+start-of c = start-at (first-of c)
 
 abbrev place-of : tie.After-load → tie.After-client-start
 place-of c = c .before .before .before
 
--- the message is the oldest reply
-oldest-is : (c : tie.After-client-start) → let a = start-of c .args in first-of c .oldest .result ≡ replyAt (a .b .now) (a .d) (a .k)
-oldest-is c =
-    first-of c .oldest .ensures ∙ ap (messageAt (start-of c .args .b .now)) (first-of c .before .before .down .ensures)
+-- what is found is the oldest reply
+oldest-is : (c : tie.After-oldest) → let a = start-at c .args in c .oldest .result ≡ replyAt (a .b .now) (a .d) (a .k)
+oldest-is c = c .oldest .ensures ∙ ap (messageAt (start-at c .args .b .now)) (c .before .before .down .ensures)
+
+-- the message, where it is one
+abbrev message : tie.After-client-start → Message
+message c = c .before .before .m .given .0 .0
+
+message-is : (c : tie.After-client-start) → let a = start-of c .args in
+    replyAt (a .b .now) (a .d) (a .k) ≡ Good (message c)
+message-is c = sym (oldest-is (first-of c)) ∙ c .before .before .m .given .1
 
 -- the part that is lent is the client's
 abbrev part : tie.After-client-start → List ℕ
@@ -65,17 +78,25 @@ is-taken-requires c κs =
 
 returns : tie.Need-returns
 returns c =
+    let o = c .before .before .before .before in
+    let s = start-at o in
+    let a = s .args in
+    none-gives (a .t) (a .c .now) (a .b .now) (a .d) (a .k) (s .pre .0) (s .pre .7) (s .pre .2) (s .pre .3) (s .pre .6) _
+    (sym (oldest-is o) ∙ c .before .before .enum-told .given .1) _ _ (o .before .before .down .ensures) (c .take .ensures)
+
+returns-2 : tie.Need-returns-2
+returns-2 c =
     let at-is-taken = c .before .before .before in
     let l = at-is-taken .before .before .before in
     let p = place-of l in
     let s = start-of p in
     let a = s .args in
-    let m = first-of p .oldest .result in
+    let m = message p in
     let other : isTaken (shown (a .t) (a .c .now) (a .b .now) (a .d)) (a .k) m ≡ false =
     sym (at-is-taken .is-taken .ensures ∙ ap (λ (l : List ℕ). isTaken (client.view l) (a .k) m) (part-is p))
     ∙ not-true _ (c .before .before .if1 .taken) in
-    drop-gives (a .t) (a .c .now) (a .b .now) (a .d) (a .k) m (oldest-is p) (s .pre .0) (s .pre .7) (s .pre .2) (s .pre .3)
-    (s .pre .6) other _ _ (first-of p .before .before .down .ensures) (c .take .ensures)
+    drop-gives (a .t) (a .c .now) (a .b .now) (a .d) (a .k) m (message-is p) (s .pre .0) (s .pre .7) (s .pre .2) (s .pre .3)
+    (s .pre .6) other _ _ (first-of p .before .before .down .ensures) (c .take2 .ensures)
 
 take-message-requires : tie.Need-take-message-requires
 take-message-requires c κs =
@@ -92,12 +113,12 @@ take-message-requires c κs =
       s .pre .5,
       loaded l ∙ ap (λ (d : ℕ). client.loaded d (a .t .f) (clientAt (a .c .now) (d - 1))) (sym n),
       ap (λ (d : ℕ). isSoundMemory (a .t .f) (clientAt (a .c .now) (d - 1))) n ∙ s .pre .6,
-      oldest-is (place-of l) ∙ ap (λ (d : ℕ). replyAt (a .b .now) d (a .k)) (sym n),
+      ap (λ (d : ℕ). replyAt (a .b .now) d (a .k)) n ∙ message-is (place-of l),
       s .pre .8,
     )
 
-returns-2 : tie.Need-returns-2
-returns-2 c =
+returns-3 : tie.Need-returns-3
+returns-3 c =
     let at-take-message = c .before .before in
     let at-is-taken = at-take-message .before .before .before .before in
     let l = at-is-taken .before .before .before in
@@ -118,6 +139,10 @@ take-oldest-spec =
     (search needs)
     (search needs)
     (search needs)
+    returns
+    (search needs)
+    (search needs)
+    (search needs)
     (search needs)
     (search needs)
     (search needs)
@@ -131,7 +156,7 @@ take-oldest-spec =
     is-taken-requires
     (search needs)
     (search needs)
-    returns
+    returns-2
     take-message-requires
     (search needs)
-    returns-2)
+    returns-3)

@@ -6,13 +6,13 @@ use mathlib.Core.Path.{_≡_, refl, sym, subst, _∙_}
 use mathlib.Core.List.{List}
 use native.Mathlib.Omega.{arith}
 use borrow.Author.Needs.{needs}
-use Rattle.register.proofs.Formats.{holds-always}
+use Rattle.register.proofs.Theorem.{demand-three}
 use Rattle.state.specs.declared.Settings.{Settings}
 use Rattle.state.proofs.SoundFacts.{allowed-of}
 use Rattle.system.specs.declared.setup.Setup.the-variants.{Set}
 use Rattle.system.specs.Run.{howMany, stepsIn, Run}
 use Rattle.system.specs.Setup.{setupOf}
-use Rattle.system.proofs.SetupLaws.{allowed-set}
+use Rattle.system.proofs.SetupLaws.{allowed-set, set-up-answer, set-up-stored, set-up-kept}
 use Rattle.system.proofs.run.run.Statement.{statement}
 use Rattle.system.proofs.run.run.Tie as tie
 
@@ -22,37 +22,40 @@ run-for : (t : Settings) (xs out : List ℕ) (n m : ℕ) → n ≡ m → (s c b 
 run-for t xs out n m e s c b new = subst (λ (k : ℕ). Run t xs out k k s c b new) e
 
 -- where places come from
-abbrev start : tie.After-settings-of → tie.Start
-start c = c .before .before .before
+abbrev start : tie.After-set-up → tie.Start
+start c = c .before .before .before .before .before .before
 
-abbrev counted : tie.After-set-up → tie.After-least
+abbrev counted : tie.After-take-all-arg4 → tie.After-least
 counted c = c .before .before .before .before
-
-abbrev set : tie.After-take-all-arg4 → tie.After-set-up
-set c = c .before .before .before .before
 
 -- the setup is accepted
 accepted : (c : tie.After-setup) → let a = start (c .before .before) .args in
     setupOf (a .f) (a .clients) (a .faulty) ≡ Set (c .setup .given .0 .0)
-accepted c = sym (c .before .before .settings-of .ensures) ∙ c .setup .given .1
+accepted c = sym (set-up-answer _ _ _ _ _ _ _ _ (c .before .before .set-up .ensures)) ∙ c .setup .given .1
 
 take-all-requires : tie.Need-take-all-requires
 take-all-requires c κs =
-    let n = counted (set c) in
-    let e = accepted (n .before .before) in
-    let many = n .least .ensures in
-    (allowed-of _ (allowed-set _ _ _ _ e), set c .set-up .ensures, omega arith, omega arith)
+    let n = counted c in
+    let told = n .before .before in
+    let many = n .least .ensures in (
+      allowed-of _ (allowed-set _ _ _ _ (accepted told)),
+      set-up-stored _ _ _ _ _ _ _ _ (told .before .before .set-up .ensures) _ (told .setup .given .1),
+      omega arith,
+      omega arith,
+    )
 
 returns : tie.Need-returns
 returns c =
-    let e = sym (c .before .before .settings-of .ensures) ∙ c .enum-told .given .1 in
-    (search needs, rw e (refl, refl, refl, refl))
+    let made = c .before .before in
+    let is = set-up-answer _ _ _ _ _ _ _ _ (made .set-up .ensures) in
+    let kept = set-up-kept _ _ _ _ _ _ _ _ (made .set-up .ensures) _ (c .enum-told .given .1) in
+    (is, rw (sym is ∙ c .enum-told .given .1) (kept .0, kept .1, kept .2, refl))
 
 returns-2 : tie.Need-returns-2
 unfolding howMany
 returns-2 c =
     let all = c .before .before in
-    let n = counted (set (all .before)) in
+    let n = counted (all .before) in
     let told = n .before .before in
     let a = start (told .before .before) .args in
     let e = accepted told in
@@ -60,7 +63,7 @@ returns-2 c =
       sym e,
       rw e (
         run-for _ (a .steps .now) (a .out .now) _ many (n .least .ensures) _ _ _ _ (all .take-all .ensures),
-        holds-always _ (allowed-set _ _ _ _ e .accepted) (stepsIn (a .steps .now) many),
+        demand-three _ (allowed-set _ _ _ _ e .accepted) (stepsIn (a .steps .now) many),
       ),
     )
 
@@ -68,7 +71,6 @@ pub run-spec : {M : Type 1} → statement M
 run-spec =
     tie.close
     (tie.spec
-    (search needs)
     (search needs)
     (search needs)
     (search needs)

@@ -1,0 +1,82 @@
+-- Demand 3 of the program: however its input comes in parts, and wherever an accepted S stands in it, the
+-- steps behind it with the answers that are printed for them are a history, and demand 3 holds of it.
+--
+-- Why: all that the program has written is the text of its lines (`Whole`), one output for each (`Outputs`).
+-- Those behind an accepted S are the answers of the history (`Sessions`). Its settings are accepted, and for
+-- accepted settings demand 3 holds of every list of steps (`register`).
+-- In order: the outputs from an accepted S on; the session in a script; the program.
+-- Assumes nothing.
+use mathlib.Core.Path.{_≡_, refl, sym, ap, subst, _∙_}
+use mathlib.Core.List.{List, _∷_, _++_}
+use mathlib.Core.Option.{some}
+use Prim.Native.Nat.{ℕ}
+use lib.ListN.{length}
+use Rattle.register.specs.Settings.{Settings}
+use Rattle.register.proofs.Theorem.{demand-three}
+use Rattle.script.specs.declared.parse.Line.{Line}
+use Rattle.script.specs.declared.print.Output.{Output}
+use Rattle.script.specs.declared.print.Output.the-variants as output
+use Rattle.script.specs.Lines.{linesOf}
+use Rattle.script.specs.Numerals.{nextNumber}
+use Rattle.state.specs.State.{settingsOf}
+use Rattle.rehearse.specs.Saying.{Stage}
+use Rattle.rehearse.specs.Blocks.{beginning, inputOf}
+use Rattle.rehearse.specs.Sessions.{acceptedBy, NoneAccepted, stepsOf, sessionOutputs, linesIn}
+use Rattle.rehearse.specs.Sessions.{Session, Rehearsed}
+use Rattle.rehearse.proofs.Answering.{stageAt}
+use Rattle.rehearse.proofs.Outputs.{outputsOf, stageBehind, outputs-many, outputs-then, text-is}
+use Rattle.rehearse.proofs.Sessions.{Begun, begun, in-session}
+use Rattle.rehearse.proofs.Whole.{whole}
+
+-- ---- the outputs from an accepted S on
+
+module _ {p : Stage} {s : Line} {S : Settings} (b : Begun p s S) (between after′ : List Line)
+    (plain : NoneAccepted between) where
+  -- the program behind the S
+  abbrev first : Stage
+  first = stageAt (b .settings) (stepsOf between) 0 (nextNumber (p .number))
+
+  -- the outputs of the lines behind the session
+  abbrev later : List Output
+  later = outputsOf (stageBehind first between) after′
+
+  said : outputsOf p (s ∷ between ++ after′) ≡ sessionOutputs (settingsOf (b .settings)) between ++ later
+  unfolding outputsOf
+  said =
+      (λ i. b .prints i ∷ outputsOf (b .leaves (stepsOf between) i) (between ++ after′))
+      ∙ ap (λ (os : List Output). output.Set ∷ os)
+      (outputs-then first between after′
+      ∙ ap (λ (os : List Output). os ++ later)
+      (in-session (b .settings) (b .allowed) (stepsOf between) between plain 0 (nextNumber (p .number)) refl))
+
+-- ---- the session in a script
+
+session : (p : Stage) (before between after′ : List Line) (s : Line) (S : Settings) → acceptedBy s ≡ some S
+    → NoneAccepted between
+    → Session (outputsOf p (before ++ (s ∷ between ++ after′))) (length before) S between
+session p before between after′ s S e plain =
+    let b = begun (stageBehind p before) s S e in
+    let all : List Output = outputsOf p (before ++ (s ∷ between ++ after′)) in
+    subst (λ (T : Settings). Session all (length before) T between) (b .same)
+    (record {
+      front = outputsOf p before;
+      behind = later b between after′ plain;
+      many = outputs-many p before;
+      answers =
+          outputs-then p before (s ∷ between ++ after′)
+          ∙ ap (λ (os : List Output). outputsOf p before ++ os) (said b between after′ plain);
+      demand = demand-three (settingsOf (b .settings)) (b .allowed .accepted) (stepsOf between);
+    })
+
+-- ---- the program
+
+pub rehearsed : (parts : List (List ℕ)) → Rehearsed parts
+rehearsed parts =
+    record {
+      outputs = outputsOf beginning (linesIn parts);
+      many = outputs-many beginning (linesIn parts);
+      written = whole beginning parts ∙ text-is beginning 0 (linesOf (inputOf parts)) refl;
+      sessions = λ before between after′ s S split accepted plain.
+          subst (λ (ls : List Line). Session (outputsOf beginning ls) (length before) S between) (sym split)
+          (session beginning before between after′ s S accepted plain);
+    }

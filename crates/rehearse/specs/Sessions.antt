@@ -1,0 +1,104 @@
+-- Demand 3 of the program (01, 'The program rehearse' and 'The words of demand 3').
+--
+-- An accepted S begins a session. The steps that are read behind it and before the next accepted S, with the
+-- answers that are printed for them, are a history, and demand 3 holds of it. This is about lines and what is
+-- printed for them, not about state or memory.
+--
+-- In order: what lines are; what is printed for the lines of a session; a session; what holds of the program.
+-- Assumes nothing.
+use Prim.Native.Nat.{ℕ, suc, _-_, _^_, min}
+use mathlib.Core.Path.{_≡_}
+use mathlib.Core.List.{List, [], _∷_, _++_, map}
+use mathlib.Core.Option.{Option, none, some}
+use lib.ListN.{length}
+use Rattle.basics.specs.Members.{Member}
+use Rattle.register.specs.declared.Answer.{Answer}
+use Rattle.register.specs.DemandThree.{DemandThreeOf}
+use Rattle.register.specs.Formats.{formats}
+use Rattle.register.specs.History.{answerAt}
+use Rattle.register.specs.Settings.{Settings}
+use Rattle.register.specs.Steps.{Step}
+use Rattle.script.specs.declared.parse.Line.{Line}
+use Rattle.script.specs.declared.parse.Line.the-variants as line
+use Rattle.script.specs.declared.print.Output.{Output}
+use Rattle.script.specs.declared.print.Output.the-variants as output
+use Rattle.script.specs.Grammar.{lineOf}
+use Rattle.script.specs.Lines.{linesOf}
+use Rattle.script.specs.Printed.{printed}
+use Rattle.state.specs.State.{settingsOf, stepOf}
+use Rattle.system.specs.declared.setup.Setup.{Setup}
+use Rattle.system.specs.declared.setup.Setup.the-variants as setup
+use Rattle.system.specs.Setup.{setupOf}
+use Rattle.rehearse.specs.Saying.{setupSays}
+use Rattle.rehearse.specs.Blocks.{progress, beginning, turns, ending, inputOf}
+
+-- ---- what lines are
+
+-- the settings of a line that is an accepted S
+abbrev pub acceptedIn : Setup → Option Settings
+acceptedIn (setup.Set t) = some (settingsOf t)
+acceptedIn (setup.Refused n) = none
+
+unfoldable pub acceptedBy : Line → Option Settings
+acceptedBy (line.Setup f c m) = acceptedIn (setupOf f c m)
+acceptedBy (line.Take x) = none
+acceptedBy line.Unread = none
+
+-- no line of these is an accepted S
+abbrev pub NoneAccepted : List Line → Type 0
+NoneAccepted ls = (l : Line) → Member l ls → acceptedBy l ≡ none
+
+-- the steps among lines; a line that is unreadable, or an S, is none
+unfoldable pub stepsOf : List Line → List Step
+stepsOf [] = []
+stepsOf (line.Setup f c m ∷ ls) = stepsOf ls
+stepsOf (line.Take x ∷ ls) = stepOf x ∷ stepsOf ls
+stepsOf (line.Unread ∷ ls) = stepsOf ls
+
+-- ---- what is printed for the lines of a session
+
+-- one output for each line: the first step gets answer q, the next step answer q + 1, and so on
+unfoldable pub outputsBy : (ℕ → Answer) → ℕ → List Line → List Output
+outputsBy answer q [] = []
+outputsBy answer q (line.Setup f c m ∷ ls) = setupSays (setupOf f c m) ∷ outputsBy answer q ls
+outputsBy answer q (line.Take x ∷ ls) = output.Answered (answer q) ∷ outputsBy answer (suc q) ls
+outputsBy answer q (line.Unread ∷ ls) = output.Unread ∷ outputsBy answer q ls
+
+-- SET, and behind it the answers of the history that the steps have from the settings S on
+abbrev pub sessionOutputs : Settings → List Line → List Output
+sessionOutputs S ls = output.Set ∷ outputsBy (answerAt S formats (stepsOf ls)) 0 ls
+
+-- outputs as text: the output at place n is printed with the number n, at most the last of 64 bits
+abbrev pub numberAt : ℕ → ℕ
+numberAt n = min n (2 ^ 64 - 1)
+
+unfoldable pub textFrom : ℕ → List Output → List ℕ
+textFrom n [] = []
+textFrom n (o ∷ os) = printed (numberAt n) o ++ textFrom (suc n) os
+
+-- ---- a session
+
+-- from a place of the outputs on stand those of an accepted S and of the lines behind it, with the answers of
+-- the history; and demand 3 holds of this history
+pub record Session (outputs : List Output) (place : ℕ) (S : Settings) (lines : List Line) : Type 0 where
+  pub front : List Output
+  pub behind : List Output
+  pub many : length front ≡ place
+  pub answers : outputs ≡ front ++ (sessionOutputs S lines ++ behind)
+  pub demand : DemandThreeOf S (stepsOf lines)
+
+-- ---- what holds of the program
+
+-- the lines of an input that comes in parts
+abbrev pub linesIn : List (List ℕ) → List Line
+linesIn parts = map lineOf (linesOf (inputOf parts))
+
+-- all that the program has written at the input's end is the text of outputs, one for each line; and wherever
+-- among the lines stands an accepted S, and behind it lines with no other one, these are a session
+pub record Rehearsed (parts : List (List ℕ)) : Type 0 where
+  pub outputs : List Output
+  pub many : length outputs ≡ length (linesIn parts)
+  pub written : ending (turns (progress beginning [] []) parts) ≡ textFrom 0 outputs
+  pub sessions : (before between after : List Line) (s : Line) (S : Settings)
+      → linesIn parts ≡ before ++ (s ∷ between ++ after)
+      → acceptedBy s ≡ some S → NoneAccepted between → Session outputs (length before) S between
