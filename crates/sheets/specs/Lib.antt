@@ -1,1 +1,5 @@
+pub mod Digest
+pub mod Licences
+pub mod Dates
+pub mod Messages
 pub mod Sheets

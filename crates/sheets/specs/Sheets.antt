@@ -1,5 +1,4 @@
--- The marked proof sheets of 01 as one table, `Sheets`, whose proof is computed from the definitions
--- (proofs/Sheets.antt).
+-- The marked proof sheets of 01 as one table, `Sheets`, whose proof is computed from the definitions (proofs/Sheets.antt).
 --
 -- In order: entries; days; messages; what counts, and what a set keeps; all of them.
 -- Assumes nothing.
@@ -67,8 +66,8 @@ pairBy c d = pairOf (record { 0 = c }) d (record { 0 = 0x7E82E80141 })
 abbrev pub pairs : List ℕ → List Pair
 pairs l = map (λ c. pairBy c 1) l
 
--- a client that reads, with the timestamps of these pairs noted of the servers 1, 2 and 3, and the pair
--- (1, 1) in the sets of the servers 1 to m
+-- a client that reads, with the timestamps of these pairs noted of the servers 1, 2 and 3, and the pair (1, 1) in the sets of the
+-- servers 1 to m
 abbrev pub heard : Pair → Pair → Pair → ℕ → Client
 heard p q r m =
     record {

@@ -1,5 +1,7 @@
 // Digests of a year over every pattern of month and day that an entry can hold, real dates or not.
+ghost use mathlib.Core.Path.{_≡_};
 ghost use Prim.Native.Nat.{_≤_, _<_};
+ghost use Rattle.sheets.specs.Dates.{entryOf, withNumber, withStates, withDate, yearDigests};
 use crate::digest::mix;
 use crate::licences::with_end;
 use crate::licences::with_renewals;
@@ -19,13 +21,17 @@ pub struct Digests {
 }
 
 // An entry that ends on a date, with copies that change from date to date.
-fn entry(year: u16, month: u8, day: u8, state: u8) -> u64 {
+fn entry(year: u16, month: u8, day: u8, state: u8) -> u64
+    ensures { λ r. ⌜ r ≡ entryOf year month day state ⌝ }
+{
     let end = ((year as u64) * 16 + month as u64) * 32 + day as u64;
     let copies = (month as u64) * 4000 + day as u64;
     end * 524288 + copies * 8 + state as u64
 }
 
-fn with_number(h: u64, year: u16, month: u8, day: u8) -> u64 {
+fn with_number(h: u64, year: u16, month: u8, day: u8) -> u64
+    ensures { λ r. ⌜ r ≡ withNumber year month day h ⌝ }
+{
     match calendar::day_number(year, month, day) {
         DayNumber::Day(a) => mix(mix(h, 0), a as u64),
         DayNumber::Refused(r) => mix(h, refusal::number(r) as u64),
@@ -37,6 +43,7 @@ fn with_states(h: u64, year: u16, month: u8, day: u8) -> u64
     requires { ⌜ year < 65535 ⌝ }
     requires { ⌜ month < 16 ⌝ }
     requires { ⌜ day < 32 ⌝ }
+    ensures { λ r. ⌜ r ≡ withStates year month day h ⌝ }
 {
     let mut d = h;
     let mut state: u8 = 0;
@@ -52,6 +59,7 @@ fn with_date(d: Digests, year: u16, month: u8, day: u8) -> Digests
     requires { ⌜ year < 65535 ⌝ }
     requires { ⌜ month < 16 ⌝ }
     requires { ⌜ day < 32 ⌝ }
+    ensures { λ r. ⌜ r ≡ withDate year month day d ⌝ }
 {
     Digests {
         numbers: with_number(d.numbers, year, month, day),
@@ -63,6 +71,7 @@ fn with_date(d: Digests, year: u16, month: u8, day: u8) -> Digests
 pub fn of_year(year: u16) -> Digests
     requires { ⌜ 1 ≤ year ⌝ }
     requires { ⌜ year < 65535 ⌝ }
+    ensures { λ r. ⌜ r ≡ yearDigests year ⌝ }
 {
     let mut d = Digests {
         numbers: 0,

@@ -1,8 +1,6 @@
-// Runs the calendar and the licences over every date, and the messages at the edges of their fields, and
-// prints digests.
+// Runs the calendar and the licences over every date, and the messages at the edges of their fields, and prints digests.
 //
-// `tests/sheets_oracle.py` computes the same lines another way, and `stdout` is what it wrote. That
-// comparison says that the lines are right; what is proved here is that the program is safe and ends.
+// `tests/sheets_oracle.py` computes the same lines another way, and `stdout` is what it wrote.
 ghost use Prim.Native.Nat.{_<_};
 
 mod dates;

@@ -1,7 +1,7 @@
 -- `raise`: a number of 32 bits is kept whole in 64, and 2 ^ 31 more than it is none below 0.
 -- Assumes nothing.
 use mathlib.Core.Path.{_≡_, refl, ap, _∙_}
-use Prim.Native.Nat.{ℕ, suc, _+_, _-_, _^_, _<_}
+use Prim.Native.Nat.{suc, _-_, _^_, _<_}
 use native.Mathlib.Omega.{arith}
 use lib.IntN.{ℤ, pos, negsuc, _+ℤ_}
 use lib.Signed.{mag}
@@ -10,13 +10,9 @@ use mir.Val.{toZ, ofZ, SFits}
 use mir.ValLaws.{toZ-ofZ}
 use borrow.Author.Needs.{needs}
 use borrow.Author.Tests.{le-ltb}
+use Rattle.sheets.specs.Digest.{raised}
 use Rattle.sheets.proofs.digest.raise.Statement.{statement}
 use Rattle.sheets.proofs.digest.raise.Tie as tie
-
--- the sum, as a number from 0 on
-abbrev raised : ℤ → ℕ
-raised (pos n) = n + 2147483648
-raised (negsuc n) = 2147483647 - n
 
 sum-is : (z : ℤ) → mag z < 2 ^ 31 → z +ℤ pos 2147483648 ≡ pos (raised z)
 sum-is (pos n) h = refl
@@ -58,8 +54,10 @@ add-result c =
 
 cast-result-2 : tie.Need-cast-result-2
 cast-result-2 c =
-    let small = raised-small (c .args .z) (fits c .sfits) in
-    rw (whole (c .args .z) (fits c)) (tt, record { fits = omega (arith, small) })
+    rw (whole (c .args .z) (fits c)) (tt, record { fits = omega (arith, raised-small (c .args .z) (fits c .sfits)) })
+
+returns : tie.Need-returns
+returns c = rw (whole (c .args .z) (fits c)) refl
 
 pub raise-spec : {M : Type 1} → statement M
-raise-spec = tie.close (tie.spec cast-result add-result cast-result-2 (search needs))
+raise-spec = tie.close (tie.spec cast-result add-result cast-result-2 returns)
