@@ -19,7 +19,7 @@ use Rattle.message.specs.declared.Message.{Message}
 use Rattle.message.specs.declared.Unpacked.{Unpacked}
 use Rattle.message.specs.declared.Unpacked.the-variants.{Good, Refused}
 use Rattle.message.specs.declared.Words.{Words}
-use Rattle.message.specs.Layout.{numberOf, misprint, messageOf, wellFormed, words, wordsOf}
+use Rattle.message.specs.Layout.{numberOf, malformed, messageOf, wellFormed, words, wordsOf}
 use Rattle.message.proofs.Fields.{byWords, by-words}
 use Rattle.message.proofs.Numbers.{only, words-back}
 use Rattle.message.proofs.RoundTrip.{of-words-of}
@@ -37,7 +37,7 @@ held-is : (b : List ℕ) (at : ℕ) (m : Message) → messageAt b at ≡ Good m 
 unfolding messageIn
 held-is b at m e = ap messageIn e
 
-nowhere : (down : Bool) → goes down misprint ≡ false
+nowhere : (down : Bool) → goes down malformed ≡ false
 unfolding goes
 nowhere down = refl
 
@@ -100,7 +100,7 @@ module _ (i : ℕ) (m : Message) (good : suits i m ≡ true) (b : List ℕ) (at 
 
 -- ---- a first number over 32 bits
 
-no-kind : (k t l : ℕ) → 7 ≤ k → byWords k t l ≡ misprint
+no-kind : (k t l : ℕ) → 7 ≤ k → byWords k t l ≡ malformed
 unfolding byWords
 no-kind k t l h =
     rw (
@@ -112,9 +112,9 @@ no-kind k t l h =
       ne-eqb k 6 (λ z. omega arith),
     )
 
-over-misprint : (h l : ℕ) → 2 ^ 32 ≤ h → l < 2 ^ 64 → messageOf (h * 2 ^ 64 + l) ≡ misprint
-over-misprint h l over small = by-words h l small ∙ no-kind (h / 2 ^ 20) (h % 2 ^ 20) l (omega arith)
+over-malformed : (h l : ℕ) → 2 ^ 32 ≤ h → l < 2 ^ 64 → messageOf (h * 2 ^ 64 + l) ≡ malformed
+over-malformed h l over small = by-words h l small ∙ no-kind (h / 2 ^ 20) (h % 2 ^ 20) l (omega arith)
 
 pub over-fails : (down : Bool) (h l : ℕ) → 2 ^ 32 ≤ h → wordsGo down h l ≡ false
 over-fails down h l over =
-    by-test (ltb l (2 ^ 64)) (λ e. rw (e, over-misprint h l over (ltb-true l (2 ^ 64) e)) (nowhere down)) (λ e. rw e)
+    by-test (ltb l (2 ^ 64)) (λ e. rw (e, over-malformed h l over (ltb-true l (2 ^ 64) e)) (nowhere down)) (λ e. rw e)

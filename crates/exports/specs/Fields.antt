@@ -17,7 +17,7 @@ use Rattle.message.specs.declared.Packed.{Packed}
 use Rattle.message.specs.declared.Packed.the-variants as packed
 use Rattle.message.specs.declared.Unpacked.{Unpacked}
 use Rattle.message.specs.declared.Unpacked.the-variants.{Good, Refused}
-use Rattle.message.specs.Layout.{kindBits, tagBits, counterBits, clientBits, entryBits, joined, misprint}
+use Rattle.message.specs.Layout.{kindBits, tagBits, counterBits, clientBits, entryBits, joined, malformed}
 use Rattle.message.specs.Layout.{messageOf}
 use Rattle.message.specs.Packing.{packAnswer, packLeaves}
 use Rattle.message.specs.Pair.{counter, client, entry}
@@ -34,7 +34,7 @@ widthTests k t c d e =
     ∷ []
 
 unfoldable pub messageBy : ℕ → ℕ → ℕ → ℕ → ℕ → Unpacked
-messageBy k t c d e = cond (allPass (widthTests k t c d e)) (messageOf (joined k t c d e)) misprint
+messageBy k t c d e = cond (allPass (widthTests k t c d e)) (messageOf (joined k t c d e)) malformed
 
 abbrev pub messageIn : List ℕ → Unpacked
 messageIn l = messageBy (getD l 0 0) (getD l 1 0) (getD l 2 0) (getD l 3 0) (getD l 4 0)

@@ -19,7 +19,7 @@ use Rattle.message.specs.declared.Unpacked.{Unpacked}
 use Rattle.message.specs.declared.Unpacked.the-variants.{Good}
 use Rattle.message.specs.declared.Words.{Words}
 use Rattle.message.specs.Pair.{pairOf}
-use Rattle.message.specs.Layout.{kindOf, tagOf, counterOf, clientOf, entryOf, pairIn, zeros, misprint}
+use Rattle.message.specs.Layout.{kindOf, tagOf, counterOf, clientOf, entryOf, pairIn, zeros, malformed}
 use Rattle.message.specs.Layout.{messageOf, wordsNumber}
 
 -- ---- the fields of a number in two words
@@ -86,7 +86,7 @@ zero-low l =
 
 -- as `kind` of Layout, with one test
 abbrev pub case : ℕ → ℕ → Bool → Message → Unpacked → Unpacked
-case k j fine m other = cond (eqb k j) (cond fine (Good m) misprint) other
+case k j fine m other = cond (eqb k j) (cond fine (Good m) malformed) other
 
 -- kind k, tag t, low bits l
 unfoldable pub byWords : ℕ → ℕ → ℕ → Unpacked
@@ -96,7 +96,7 @@ byWords k t l =
     (case k 3 (eqb t 0 && eqb l 0) Done
     (case k 4 (eqb t 0 && true) (WriteInfo (record { 0 = l }))
     (case k 5 (eqb t 0 && true) (Fwd (record { 0 = l }))
-    (case k 6 (eqb t 0 && eqb (l % 2 ^ 44) 0) (WriteAck (record { 0 = l / 2 ^ 44 })) misprint)))))
+    (case k 6 (eqb t 0 && eqb (l % 2 ^ 44) 0) (WriteAck (record { 0 = l / 2 ^ 44 })) malformed)))))
 
 pub by-words : (h l : ℕ) → l < 2 ^ 64 → messageOf (h * 2 ^ 64 + l) ≡ byWords (h / 2 ^ 20) (h % 2 ^ 20) l
 unfolding messageOf byWords

@@ -20,7 +20,7 @@ use Rattle.message.specs.declared.Unpacked.{Unpacked}
 use Rattle.message.specs.declared.Unpacked.the-variants.{Good}
 use Rattle.message.specs.declared.Words.{Words}
 use Rattle.message.specs.Pair.{counter, client, entry}
-use Rattle.message.specs.Layout.{numberOf, misprint, messageOf, wellFormed, words, wordsNumber, wordsOf}
+use Rattle.message.specs.Layout.{numberOf, malformed, messageOf, wellFormed, words, wordsNumber, wordsOf}
 use Rattle.message.proofs.Fields.{case, byWords, by-words}
 
 -- ---- the words of a message
@@ -107,7 +107,7 @@ found m w = ap messageOf (number-words m) ∙ by-words (headOf m) (lowOf m) (low
 
 -- ---- the message found has that number
 
-pub no-message : (m : Message) → misprint ≡ Good m → ⊥
+pub no-message : (m : Message) → malformed ≡ Good m → ⊥
 no-message m e = let z : _≡_ {A = ℕ} 0 1 = cc in omega arith
 
 by-case : {C : Type 0} (k j : ℕ) (fine : Bool) (x : Message) (other : Unpacked) (m : Message)
@@ -115,7 +115,7 @@ by-case : {C : Type 0} (k j : ℕ) (fine : Bool) (x : Message) (other : Unpacked
     → (k ≡ j → fine ≡ true → x ≡ m → C) → (other ≡ Good m → C) → C
 by-case k j fine x other m e this next =
     by-test (eqb k j)
-    (λ same. let e′ : cond fine (Good x) misprint ≡ Good m = rw same at e in
+    (λ same. let e′ : cond fine (Good x) malformed ≡ Good m = rw same at e in
     by-test fine (λ f. let g : Good x ≡ Good m = rw f at e′ in this (eqb-true k j same) f (cc))
     (λ f. absurd (no-message m (rw f at e′))))
     (λ differ. next (rw differ at e))

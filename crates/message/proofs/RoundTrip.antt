@@ -20,7 +20,7 @@ use Rattle.basics.proofs.Cases.{by-test, both}
 use Rattle.message.specs.declared.Message.{Message}
 use Rattle.message.specs.declared.Unpacked.the-variants.{Good}
 use Rattle.message.specs.declared.Words.{Words}
-use Rattle.message.specs.Layout.{numberOf, misprint, messageOf, wellFormed, bytesOf, unpackOf, words}
+use Rattle.message.specs.Layout.{numberOf, malformed, messageOf, wellFormed, bytesOf, unpackOf, words}
 use Rattle.message.specs.Layout.{wordsNumber, wordsOf}
 use Rattle.message.proofs.Numbers.{number-words, head-lt, low-lt, found, only, no-message}
 use Rattle.message.proofs.Numbers.{words-number}
@@ -69,7 +69,7 @@ pub one-packing : (s t : List ℕ) (m : Message) → unpackOf s ≡ Good m → u
 one-packing s t m p q = sym (pack-unpack s m p .packing) ∙ pack-unpack t m q .packing
 
 -- what is refused is no message's packing
-pub refused-none : (s : List ℕ) (m : Message) → unpackOf s ≡ misprint → wellFormed m ≡ true
+pub refused-none : (s : List ℕ) (m : Message) → unpackOf s ≡ malformed → wellFormed m ≡ true
     → bytesOf m ≡ s → ⊥
 refused-none s m b w e = no-message m (sym b ∙ ap unpackOf (sym e) ∙ unpack-pack m w)
 

@@ -122,8 +122,8 @@ abbrev pub pairIn : ℕ → Pair
 pairIn n = pairOf (writeCounterOf n) (clientOf n) (record { 0 = entryOf n })
 
 -- what is no message is refused 9
-abbrev pub misprint : Unpacked
-misprint = Refused (numbered 9)
+abbrev pub malformed : Unpacked
+malformed = Refused (numbered 9)
 
 -- every number of the list is zero
 abbrev pub zeros : List ℕ → Bool
@@ -133,7 +133,7 @@ zeros (x ∷ xs) = eqb x 0 && zeros xs
 -- a number of kind k is the message m if the fields that the kind does not use are zero; a number of another
 -- kind is `other`
 abbrev pub kind : ℕ → ℕ → List ℕ → Message → Unpacked → Unpacked
-kind n k unused m other = cond (eqb (kindOf n) k) (cond (zeros unused) (Good m) misprint) other
+kind n k unused m other = cond (eqb (kindOf n) k) (cond (zeros unused) (Good m) malformed) other
 
 -- kind, unused fields, and the message of the used ones
 unfoldable pub messageOf : ℕ → Unpacked
@@ -143,7 +143,7 @@ messageOf n =
     (kind n 3 (tagOf n ∷ counterOf n ∷ clientOf n ∷ entryOf n ∷ []) Done
     (kind n 4 (tagOf n ∷ []) (WriteInfo (pairIn n))
     (kind n 5 (tagOf n ∷ []) (Fwd (pairIn n))
-    (kind n 6 (tagOf n ∷ clientOf n ∷ entryOf n ∷ []) (WriteAck (writeCounterOf n)) misprint)))))
+    (kind n 6 (tagOf n ∷ clientOf n ∷ entryOf n ∷ []) (WriteAck (writeCounterOf n)) malformed)))))
 
 -- ---- widths
 
@@ -164,7 +164,7 @@ bytesOf m = bigEndian messageBytes (numberOf m)
 
 -- numbers unpacked: those that are not eleven bytes are no message
 unfoldable pub unpackOf : List ℕ → Unpacked
-unpackOf s = cond (eqb (length s) messageBytes && areBytes s) (messageOf (spelt 0 s)) misprint
+unpackOf s = cond (eqb (length s) messageBytes && areBytes s) (messageOf (spelt 0 s)) malformed
 
 -- a number in two words, the last 64 bits and those before, and back
 abbrev pub words : ℕ → Words

@@ -6,7 +6,7 @@ ghost use lib.Dec.{eqb, leb, ltb};
 ghost use lib.ListN.{length, take, drop};
 ghost use lib.Seq.{sets};
 ghost use Rattle.basics.specs.Bytes.{bigEndian, spelt};
-ghost use Rattle.message.specs.Layout.{lastRead, lastCounter, misprint, messageOf, wellFormed};
+ghost use Rattle.message.specs.Layout.{lastRead, lastCounter, malformed, messageOf, wellFormed};
 ghost use Rattle.message.specs.Layout.{unpackOf, words, wordsNumber, wordsOf};
 ghost use Rattle.message.specs.Packing.{packAnswer, packLeaves};
 ghost use Rattle.message.specs.Pair.{counter, client, entry, stamp, pairOf, below};
@@ -246,7 +246,7 @@ pub fn words_of(m: Message) -> Words
 
 // The message m, if what it does not use of the tag and the low bits is zero.
 fn if_zero(tag: u32, low: u64, m: Message) -> Unpacked
-    ensures { λ r. ⌜ r ≡ cond (eqb tag 0 && eqb low 0) (Unpacked.Good m) misprint ⌝ }
+    ensures { λ r. ⌜ r ≡ cond (eqb tag 0 && eqb low 0) (Unpacked.Good m) malformed ⌝ }
 {
     if tag != 0 {
         return Unpacked::Refused(Refusal::Malformed);

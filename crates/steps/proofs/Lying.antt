@@ -14,7 +14,7 @@ use Rattle.basics.specs.Bytes.{bigEndian, spelt}
 use Rattle.basics.proofs.Bytes.{bytes-length, bytes-are, spelt-is}
 use Rattle.basics.proofs.Cases.{by-test, true-or-false}
 use Rattle.message.specs.declared.Words.{Words}
-use Rattle.message.specs.Layout.{misprint, messageOf, unpackOf, words, wordsNumber}
+use Rattle.message.specs.Layout.{malformed, messageOf, unpackOf, words, wordsNumber}
 use Rattle.message.proofs.Numbers.{words-back}
 use Rattle.message.proofs.RoundTrip.{unpack-bytes}
 use Rattle.refusal.specs.declared.Refusal.the-variants.{FullChannel}
@@ -28,7 +28,7 @@ use Rattle.steps.specs.Inner.{told, lieWith}
 -- ---- words
 
 -- a number of more than 88 bits is no message
-over : (n : ℕ) → 2 ^ 88 ≤ n → messageOf n ≡ misprint
+over : (n : ℕ) → 2 ^ 88 ≤ n → messageOf n ≡ malformed
 unfolding messageOf
 over n h =
     simp (
@@ -40,7 +40,7 @@ over n h =
       ne-eqb (n / 2 ^ 84) 6 (λ e. omega arith),
     )
 
-no-bytes : (w : Words) → ltb (w .0) (2 ^ 24) ≡ false → unpackOf (bytesIn w) ≡ misprint
+no-bytes : (w : Words) → ltb (w .0) (2 ^ 24) ≡ false → unpackOf (bytesIn w) ≡ malformed
 unfolding bytesIn unpackOf
 no-bytes w e = rw e
 
