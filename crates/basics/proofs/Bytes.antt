@@ -1,24 +1,21 @@
 -- Numbers as bytes and back.
 --
--- The last k bytes of a number spell its remainder by 256 ^ k (`spelt-back`), and bytes are the bytes of the number that they
--- spell (`bytes-back`): both by induction, since a byte in front is a digit to the base 256 above what the others spell
--- (`spelt-split`, `spelt-lt`). Bytes of a number in two parts are those of the parts (`bytes-join`), also where they are read
--- from a list or stored in one (`spelt-two`, `sets-two`).
+-- The last k bytes of a number spell its remainder by 256 ^ k (`spelt-back`), and bytes are the bytes of
+-- the number that they spell (`bytes-back`): both by induction, since a byte in front is a digit to the
+-- base 256 above what the others spell (`spelt-split`, `spelt-lt`). Bytes of a number in two parts are
+-- those of the parts (`bytes-join`), also where they are read from a list or stored in one (`spelt-two`,
+-- `sets-two`).
 -- Assumes nothing.
-use mathlib.Core.Path.{_≡_, refl, sym, ap, _∙_}
-use mathlib.Core.Bool.{true}
-use mathlib.Core.List.{List, [], _∷_, _++_}
-use Prim.Native.Nat.{ℕ, zero, suc, _+_, _-_, _*_, _/_, _%_, _^_, _≤_, _<_}
-use native.Mathlib.Nat.{pow-zero, pow-succ', mul-assoc, add-assoc, zero-mul, zero-add, add-mul, add-comm, add-zero}
-use native.Mathlib.Nat.{add-suc, suc-add, mod-lt, mod-eq-of-lt}
-use native.Mathlib.Nat.{mul-add-div-right, mul-add-mod-self-right, div-div-eq-div-mul}
-use native.Mathlib.Omega.{arith}
+use Rattle.basics.proofs.Prelude.{_≡_, refl, sym, ap, _∙_, true, List, [], _∷_, _++_, length, getD}
+use Rattle.basics.proofs.Prelude.{set, take, drop, length-drop, length-take-le, ℕ, zero, suc, _+_, _-_}
+use Rattle.basics.proofs.Prelude.{_*_, _/_, _%_, _^_, _≤_, _<_, add-zero, zero-add, arith, ltb}
+use Rattle.basics.proofs.Prelude.{ltb-true, lt-ltb}
+use native.Mathlib.Nat.{pow-zero, pow-succ', mul-assoc, add-assoc, zero-mul, add-mul, add-comm}
+use native.Mathlib.Nat.{add-suc, suc-add, mod-lt, mod-eq-of-lt, mul-add-div-right}
+use native.Mathlib.Nat.{mul-add-mod-self-right, div-div-eq-div-mul}
 use lib.Arith.{digits-lt, digits-div, digits-mod, mod-mul}
-use lib.Dec.{ltb}
-use lib.ListN.{length, getD, take, drop, set, length-drop}
 use lib.Pow.{areBytes, pow-add}
-use lib.Seq.{sets, take-suc, getD-drop, take-add, drop-drop, length-take-le}
-use borrow.Author.Tests.{ltb-true, lt-ltb}
+use lib.Seq.{sets, take-suc, getD-drop, take-add, drop-drop}
 use Rattle.basics.specs.Bytes.{bigEndian, spelt}
 use Rattle.basics.proofs.Cases.{both, both-of}
 
@@ -89,11 +86,8 @@ bytes-back a [] f = refl
 bytes-back a (b ∷ s) f =
     let p = both (ltb b 256) (areBytes s) f in
     let q : spelt (a * 256 + b) s / 256 ^ length s ≡ a * 256 + b =
-    ap (λ (n : ℕ). n / 256 ^ length s) (spelt-split (a * 256 + b) s) ∙ digits-div (a * 256 + b) (spelt-lt s (p .1)) in
-    let d : spelt (a * 256 + b) s / 256 ^ length s % 256 ≡ b =
-    ap (λ (n : ℕ). n % 256) q ∙ digits-mod a (ltb-true b 256 (p .0)) in
-    ap (λ (x : ℕ). x ∷ bigEndian (length s) (spelt (a * 256 + b) s)) d
-    ∙ ap (λ (l : List ℕ). b ∷ l) (bytes-back (a * 256 + b) s (p .1))
+    rw (spelt-split (a * 256 + b) s) (digits-div (a * 256 + b) (spelt-lt s (p .1))) in
+    rw (q, digits-mod a (ltb-true b 256 (p .0)), bytes-back (a * 256 + b) s (p .1))
 
 -- ---- a number in two parts
 
@@ -102,13 +96,13 @@ low-bytes : (k h l : ℕ) → bigEndian k (h * 256 ^ k + l) ≡ bigEndian k l
 unfolding bigEndian
 low-bytes zero h l = refl
 low-bytes (suc k) h l =
-    let n = h * 256 ^ suc k + l in
-    let e : n ≡ h * 256 * 256 ^ k + l = rw (pow-succ' 256 k) (ap (λ (x : ℕ). x + l) (sym (mul-assoc h 256 (256 ^ k)))) in
-    let d : n / 256 ^ k % 256 ≡ l / 256 ^ k % 256 =
-    ap (λ (x : ℕ). x / 256 ^ k % 256) e
-    ∙ ap (λ (x : ℕ). x % 256) (mul-add-div-right (pos-256 k) (h * 256) l) ∙ mul-add-mod-self-right h 256 (l / 256 ^ k) in
-    ap (λ (b : ℕ). b ∷ bigEndian k n) d
-    ∙ ap (λ (s : List ℕ). l / 256 ^ k % 256 ∷ s) (ap (λ (x : ℕ). bigEndian k x) e ∙ low-bytes k (h * 256) l)
+    let e : h * 256 ^ suc k + l ≡ h * 256 * 256 ^ k + l = rw (pow-succ' 256 k, mul-assoc h 256 (256 ^ k)) in
+    rw (
+      e,
+      mul-add-div-right (pos-256 k) (h * 256) l,
+      mul-add-mod-self-right h 256 (l / 256 ^ k),
+      low-bytes k (h * 256) l,
+    )
 
 -- the bytes before the last k are those of the quotient
 high-bytes : (j k n : ℕ) → bigEndian (j + k) n ≡ bigEndian j (n / 256 ^ k) ++ bigEndian k n
@@ -122,7 +116,8 @@ high-bytes (suc j) k n =
     ∙ ap (λ (s : List ℕ). n / 256 ^ k / 256 ^ j % 256 ∷ s) (high-bytes j k n)
 
 -- j bytes of h, then k bytes of l
-pub bytes-join : (j k h l : ℕ) → l < 256 ^ k → bigEndian (j + k) (h * 256 ^ k + l) ≡ bigEndian j h ++ bigEndian k l
+pub bytes-join : (j k h l : ℕ) → l < 256 ^ k
+    → bigEndian (j + k) (h * 256 ^ k + l) ≡ bigEndian j h ++ bigEndian k l
 bytes-join j k h l small =
     high-bytes j k (h * 256 ^ k + l)
     ∙ ap (λ (x : ℕ). bigEndian j x ++ bigEndian k (h * 256 ^ k + l)) (digits-div h small)
@@ -146,7 +141,8 @@ spelt-more s at j h =
 
 -- j bytes and k bytes behind them
 pub spelt-two : (s : List ℕ) (at j k : ℕ) → at + (j + k) ≤ length s
-    → spelt 0 (take (j + k) (drop at s)) ≡ spelt 0 (take j (drop at s)) * 256 ^ k + spelt 0 (take k (drop (at + j) s))
+    → spelt 0 (take (j + k) (drop at s))
+    ≡ spelt 0 (take j (drop at s)) * 256 ^ k + spelt 0 (take k (drop (at + j) s))
 spelt-two s at j k h =
     let t = take k (drop (at + j) s) in
     let l : length t ≡ k =
@@ -161,10 +157,12 @@ sets-join : (xs ys s : List ℕ) (at : ℕ) → sets s at (xs ++ ys) ≡ sets (s
 sets-join [] ys s at = ap (λ (n : ℕ). sets s n ys) (sym (add-zero at))
 sets-join (x ∷ xs) ys s at =
     sets-join xs ys (set s at x) (suc at)
-    ∙ ap (λ (n : ℕ). sets (sets (set s at x) (suc at) xs) n ys) (suc-add at (length xs) ∙ sym (add-suc at (length xs)))
+    ∙ ap (λ (n : ℕ). sets (sets (set s at x) (suc at) xs) n ys)
+    (suc-add at (length xs) ∙ sym (add-suc at (length xs)))
 
 pub sets-two : (s : List ℕ) (at j k h l : ℕ) → l < 256 ^ k
-    → sets (sets s at (bigEndian j h)) (at + j) (bigEndian k l) ≡ sets s at (bigEndian (j + k) (h * 256 ^ k + l))
+    → sets (sets s at (bigEndian j h)) (at + j) (bigEndian k l)
+    ≡ sets s at (bigEndian (j + k) (h * 256 ^ k + l))
 sets-two s at j k h l small =
     ap (λ (n : ℕ). sets (sets s at (bigEndian j h)) (at + n) (bigEndian k l)) (sym (bytes-length j h))
     ∙ sym (sets-join (bigEndian j h) (bigEndian k l) s at)

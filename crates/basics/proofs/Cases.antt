@@ -1,14 +1,9 @@
 -- Case analysis that hands each case its equation: on a test, on one of two, on a list, on an option.
 --
--- In order: the four analyses; that true is not false; what a conjunction of tests says; what cannot be.
+-- In order: the four analyses; that true is not false; what tests joined say; what cannot be.
 -- Assumes nothing.
-use mathlib.Core.Path.{_≡_, refl}
-use mathlib.Core.Bool.{Bool, true, false, _&&_}
-use mathlib.Core.Logic.{_⊎_, inl, inr}
-use mathlib.Core.List.{List, [], _∷_}
-use mathlib.Core.Option.{Option, none, some}
-use Prim.Native.Nat.{ℕ}
-use native.Mathlib.Omega.{arith}
+use Rattle.basics.proofs.Prelude.{_≡_, refl, Bool, true, false, _&&_, _||_, _⊎_, inl, inr, List, []}
+use Rattle.basics.proofs.Prelude.{_∷_, Option, none, some, ℕ, arith}
 
 pub by-test {ℓ} : {C : Type ℓ} (b : Bool) → (b ≡ true → C) → (b ≡ false → C) → C
 by-test true t f = t refl
@@ -40,11 +35,22 @@ pub both-of : (a b : Bool) → a ≡ true → b ≡ true → a && b ≡ true
 both-of true b p q = q
 both-of false b p q = p
 
+-- a test that cannot fail
+pub true-unless : (b : Bool) → (b ≡ false → ⊥) → b ≡ true
+true-unless true h = refl
+true-unless false h = absurd (h refl)
+
+-- one of two tests holds
+pub one-holds : (a b : Bool) → a || b ≡ true → (a ≡ true) ⊎ (b ≡ true)
+one-holds true b e = inl refl
+one-holds false b e = inr e
+
 -- a conjunction that fails: one does
 pub one-fails : (a b : Bool) → a && b ≡ false → (a ≡ false) ⊎ (b ≡ false)
 one-fails true b e = inr e
 one-fails false b e = inl refl
 
--- what cannot be: where an equation sets two constructors equal, `cc` proves that 0 is 1, so `clash (cc)` proves all
+-- what cannot be: where an equation sets two constructors equal, `cc` proves that 0 is 1, so `clash (cc)`
+-- proves all
 pub clash {ℓ} : {C : Type ℓ} → _≡_ {A = ℕ} 0 1 → C
 clash z = absurd (omega arith)

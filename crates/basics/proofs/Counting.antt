@@ -1,18 +1,15 @@
 -- Counting: the laws of `countBelow`, and the pigeonhole that quorums rest on.
 --
--- More passes for a weaker test (`count-mono`); at most n (`count-le`); all of them (`count-all`); a count splits by a second
--- test (`count-split`); two counts that add to more than n have a common number (`common`), and a count above 0 has one that
--- passes (`found`); more passes in a longer range (`count-longer`).
+-- More passes for a weaker test (`count-mono`); at most n (`count-le`); all of them (`count-all`); a count
+-- splits by a second test (`count-split`); two counts that add to more than n have a common number
+-- (`common`), and a count above 0 has one that passes (`found`); more passes in a longer range
+-- (`count-longer`).
 -- Assumes nothing.
-use mathlib.Core.Path.{_≡_, refl}
-use mathlib.Core.Bool.{Bool, true, not, _&&_}
-use Prim.Native.Nat.{ℕ, zero, suc, _+_, _≤_, _<_}
-use native.Mathlib.Nat.{not-suc-le-zero, le-refl}
-use native.Mathlib.Omega.{arith}
-use lib.Dec.{leb}
-use borrow.Author.Tests.{leb-true, leb-false}
+use Rattle.basics.proofs.Prelude.{_≡_, refl, Bool, true, not, _&&_, ℕ, zero, suc, _+_, _≤_, _<_}
+use Rattle.basics.proofs.Prelude.{le-refl, not-suc-le-zero, arith}
 use Rattle.basics.specs.Counting.{countBelow}
 use Rattle.basics.proofs.Cases.{by-test}
+use Rattle.basics.proofs.Ranges.{from-on}
 
 pub count-mono : (p q : ℕ → Bool) (n : ℕ) → ((k : ℕ) → k < n → p k ≡ true → q k ≡ true)
     → countBelow p n ≤ countBelow q n
@@ -58,7 +55,8 @@ common p q (suc n) h =
     (λ e. by-test (q n) (λ e′. record { at = n; high = omega arith; left = e; right = e′ })
     (λ e′. up (common p q n (let h′ = rw (e, e′) at h in omega arith))))
     (λ e. up (common p q n
-    (by-test (q n) (λ e′. let h′ = rw (e, e′) at h in omega arith) (λ e′. let h′ = rw (e, e′) at h in omega arith))))
+    (by-test (q n) (λ e′. let h′ = rw (e, e′) at h in omega arith)
+    (λ e′. let h′ = rw (e, e′) at h in omega arith))))
   where
     up : Common p q n → Common p q (suc n)
     up c = record { at = c .at; high = omega arith; left = c .left; right = c .right }
@@ -72,7 +70,4 @@ found p n h =
 -- a longer range has no fewer that pass
 pub count-longer : (p : ℕ → Bool) (n m : ℕ) → n ≤ m → countBelow p n ≤ countBelow p m
 unfolding countBelow
-count-longer p n zero h = let z : n ≡ 0 = omega arith in rw z (le-refl _)
-count-longer p n (suc m) h =
-    by-test (leb n m) (λ e. let ih = count-longer p n m (leb-true n m e) in omega arith)
-    (λ e. let g = leb-false n m e in let z : n ≡ suc m = omega arith in rw z (le-refl _))
+count-longer p n = from-on (λ m. countBelow p n ≤ countBelow p m) n (le-refl _) (λ m h ih. omega arith)

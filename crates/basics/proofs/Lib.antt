@@ -1,4 +1,6 @@
+pub mod Prelude
 pub mod Cases
+pub mod Ranges
 pub mod Tests
 pub mod Counting
 pub mod Update

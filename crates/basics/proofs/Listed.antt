@@ -1,20 +1,18 @@
--- The laws of `listed`: how long, which values, joined, changed at one place, and a list listed by its own values.
+-- The laws of `listed`: how long, which values, joined, changed at one place, and a list listed by its own
+-- values.
 --
 -- All by induction over the number of values, since one more value stands behind those before it.
 -- Assumes nothing.
-use mathlib.Core.Path.{_≡_, refl, sym, ap, _∙_}
-use mathlib.Core.List.{List, [], _∷_, _++_, append-assoc, append-nil}
-use Prim.Native.Nat.{ℕ, zero, suc, _+_, _≤_, _<_}
-use native.Mathlib.Nat.{add-zero, add-suc, not-suc-le-zero}
-use native.Mathlib.Numerals.{add-one}
-use native.Mathlib.Omega.{arith}
-use lib.Dec.{eqb}
-use lib.ListN.{length, getD, set, take, replicate, length-append, replicate-append-replicate, List·getD-append}
+use Rattle.basics.proofs.Prelude.{_≡_, refl, sym, ap, _∙_, List, [], _∷_, _++_, append-assoc}
+use Rattle.basics.proofs.Prelude.{append-nil, length, getD, set, take, replicate, length-append, ℕ}
+use Rattle.basics.proofs.Prelude.{zero, suc, _+_, _≤_, _<_, not-suc-le-zero, add-zero, add-one, arith}
+use native.Mathlib.Nat.{add-suc}
+use lib.ListN.{replicate-append-replicate}
+use lib.ListN.{List·getD-append}
 use lib.Seq.{take-suc, take-all, getD-at, set-at, set-append-left}
-use borrow.Author.Tests.{eqb-true, eqb-false}
 use Rattle.basics.specs.Tables.{listed}
 use Rattle.basics.specs.Update.{update}
-use Rattle.basics.proofs.Cases.{by-test}
+use Rattle.basics.proofs.Ranges.{at-last}
 use Rattle.basics.proofs.Update.{update-same, update-other}
 
 module _ {A : Type 0} where
@@ -32,7 +30,7 @@ module _ {A : Type 0} where
   unfolding listed
   listed-join v m zero = rw (add-zero m) (sym (append-nil (listed v m)))
   listed-join v m (suc n) =
-      rw (add-suc m n, listed-join v m n) (append-assoc (listed v m) (listed (λ j. v (m + j)) n) (v (m + n) ∷ []))
+      rw (add-suc m n, listed-join v m n, append-assoc (listed v m))
 
   pub listed-cons : (v : ℕ → A) (n : ℕ) → listed v (suc n) ≡ v 0 ∷ listed (λ j. v (suc j)) n
   unfolding listed
@@ -43,25 +41,22 @@ module _ {A : Type 0} where
   unfolding listed
   listed-get v zero i d h = absurd (not-suc-le-zero h)
   listed-get v (suc n) i d h =
-      by-test (eqb i n)
-      (λ e. let q : i ≡ n = eqb-true i n e in rw q (getD-at (listed v n) (v n) [] d n (listed-length v n)))
-      (λ e. let q = eqb-false i n e in
-      List·getD-append (listed v n) (v n ∷ []) d i (rw (listed-length v n) (omega arith)) ∙ listed-get v n i d (omega arith))
+      at-last i n h (λ q. rw q (getD-at (listed v n) (v n) [] d n (listed-length v n)))
+      (λ less. List·getD-append (listed v n) (v n ∷ []) d i (rw (listed-length v n) less)
+      ∙ listed-get v n i d less)
 
   pub listed-set : (v : ℕ → A) (n i : ℕ) (a : A) → i < n → set (listed v n) i a ≡ listed (update v i a) n
   unfolding listed
   listed-set v zero i a h = absurd (not-suc-le-zero h)
   listed-set v (suc n) i a h =
-      by-test (eqb i n)
-      (λ e. let q : i ≡ n = eqb-true i n e in
-      rw (
+      at-last i n h
+      (λ q. rw (
         ← q,
         update-same v i a,
         listed-same (update v i a) v i (λ j less. update-other v i j a (λ z. omega arith)),
       ) (set-at (listed v i) (v i) [] a i (listed-length v i)))
-      (λ e. let q = eqb-false i n e in
-      set-append-left (listed v n) (v n ∷ []) i a (rw (listed-length v n) (omega arith))
-      ∙ rw (listed-set v n i a (omega arith), update-other v i n a q))
+      (λ less. set-append-left (listed v n) (v n ∷ []) i a (rw (listed-length v n) less)
+      ∙ rw (listed-set v n i a less, update-other v i n a (λ z. omega arith)))
 
   -- the first n values of a list, and all of them
   pub listed-first : (l : List A) (n : ℕ) (d : A) → n ≤ length l → listed (λ j. getD l j d) n ≡ take n l

@@ -1,8 +1,7 @@
 -- Members of joined lists, and a fact of all members.
 -- Assumes nothing.
-use mathlib.Core.Path.{refl, sym, subst}
-use mathlib.Core.Logic.{_⊎_, inl, inr}
-use mathlib.Core.List.{List, [], _∷_, _++_}
+use Rattle.basics.proofs.Prelude.{_≡_, refl, sym, subst, Bool, true, false, cond, _⊎_, inl, inr, List}
+use Rattle.basics.proofs.Prelude.{[], _∷_, _++_}
 use Rattle.basics.specs.Members.{Member}
 use Rattle.basics.proofs.Cases.{by-either}
 
@@ -19,6 +18,11 @@ module _ {A : Type 0} where
   member-cases a [] t m = inr m
   member-cases a (x ∷ s) t (inl e) = inl (inl e)
   member-cases a (x ∷ s) t (inr m) = by-either (member-cases a s t m) (λ q. inl (inr q)) (λ q. inr q)
+
+  -- a member of a list that is there or not
+  pub member-if : (b : Bool) (a : A) (l : List A) → Member a (cond b l []) → (b ≡ true) × Member a l
+  member-if true a l m = (refl, m)
+  member-if false a l m = absurd m
 
   -- every member has the property
   abbrev pub Every : (A → Type 0) → List A → Type 0

@@ -1,22 +1,18 @@
--- Sorting numbers by a key: what order, single standing and neighbours in the sorted list follow from the keys alone.
+-- Sorting numbers by a key: what order, single standing and neighbours in the sorted list follow from the
+-- keys alone.
 --
--- In order: the places of members; lists that rise by the key; sorting by insertion, which keeps the members
--- (`mem-sort`, `sort-mem`) and rises where the keys are different (`sort-rises`). Of a list that rises: the lower key stands
--- earlier (`earlier`), each member stands once (`once`), a member with the next key stands right after (`next-to`), and the one
--- with the lowest key stands first (`first`).
+-- In order: the places of members; lists that rise by the key; sorting by insertion, which keeps the
+-- members (`mem-sort`, `sort-mem`) and rises where the keys are different (`sort-rises`). Of a list that
+-- rises: the lower key stands earlier (`earlier`), each member stands once (`once`), a member with the next
+-- key stands right after (`next-to`), and the one with the lowest key stands first (`first`).
 -- Assumes nothing.
-use mathlib.Core.Path.{_≡_, refl, sym, ap, _∙_}
-use mathlib.Core.Bool.{cond}
-use mathlib.Core.Logic.{_⊎_, inl, inr, _≢_}
-use mathlib.Core.List.{List, [], _∷_}
-use Prim.Native.Nat.{ℕ, zero, suc, _≤_, _<_}
-use native.Mathlib.Nat.{not-suc-le-zero, le-of-suc-le-suc}
-use native.Mathlib.Omega.{arith}
-use lib.Dec.{ltb, eqb}
-use lib.ListN.{length, getD}
-use borrow.Author.Tests.{ltb-true, ltb-false, eqb-true, eqb-false}
+use Rattle.basics.proofs.Prelude.{_≡_, refl, sym, ap, _∙_, cond, _⊎_, inl, inr, _≢_, List, [], _∷_}
+use Rattle.basics.proofs.Prelude.{length, getD, ℕ, zero, suc, _≤_, _<_, not-suc-le-zero, arith, ltb}
+use Rattle.basics.proofs.Prelude.{ltb-true, ltb-false}
+use native.Mathlib.Nat.{le-of-suc-le-suc}
 use Rattle.basics.specs.Members.{Member, At}
 use Rattle.basics.proofs.Cases.{by-test, by-either}
+use Rattle.basics.proofs.Ranges.{at-last, neither-below}
 use Rattle.basics.proofs.Members.{Every, every-of, every-at}
 
 -- ---- places
@@ -32,6 +28,11 @@ place-member [] i h = absurd (not-suc-le-zero h)
 place-member (x ∷ xs) zero h = inl refl
 place-member (x ∷ xs) (suc i) h = inr (place-member xs i (le-of-suc-le-suc h))
 
+-- no number stands twice
+abbrev pub Distinct : List ℕ → Type 0
+Distinct [] = Unit {0}
+Distinct (x ∷ xs) = (Member x xs → ⊥) × Distinct xs
+
 module _ (key : ℕ → ℕ) where
   -- each key is lower than those behind it
   abbrev pub Rises : List ℕ → Type 0
@@ -42,6 +43,15 @@ module _ (key : ℕ → ℕ) where
   abbrev pub Apart : List ℕ → Type 0
   Apart [] = Unit {0}
   Apart (x ∷ xs) = Every (λ y. key x ≢ key y) xs × Apart xs
+
+  -- keys that tell the members of a list without repetition apart
+  pub apart-of : (l : List ℕ) → ((a b : ℕ) → Member a l → Member b l → key a ≡ key b → a ≡ b) → Distinct l
+      → Apart l
+  apart-of [] tells h = tt
+  apart-of (x ∷ xs) tells h = (
+    every-of (λ y. key x ≢ key y) xs (λ y m e. h .0 (rw (← (tells x y (inl refl) (inr m) e)) at m)),
+    apart-of xs (λ a b ma mb. tells a b (inr ma) (inr mb)) (h .1),
+  )
 
   -- ---- sorting by insertion
 
@@ -72,14 +82,16 @@ module _ (key : ℕ → ℕ) where
   pub mem-sort : (b : ℕ) (l : List ℕ) → Member b (sortBy l) → Member b l
   unfolding sortBy
   mem-sort b [] m = m
-  mem-sort b (x ∷ xs) m = by-either (member-insert x b (sortBy xs) m) (λ q. inl q) (λ q. inr (mem-sort b xs q))
+  mem-sort b (x ∷ xs) m =
+      by-either (member-insert x b (sortBy xs) m) (λ q. inl q) (λ q. inr (mem-sort b xs q))
 
   pub sort-mem : (b : ℕ) (l : List ℕ) → Member b l → Member b (sortBy l)
   unfolding sortBy
   sort-mem b (x ∷ xs) (inl q) = insert-member x b (sortBy xs) (inl q)
   sort-mem b (x ∷ xs) (inr q) = insert-member x b (sortBy xs) (inr (sort-mem b xs q))
 
-  insert-rises : (a : ℕ) (l : List ℕ) → Rises l → ((y : ℕ) → Member y l → key a ≢ key y) → Rises (insertBy a l)
+  insert-rises : (a : ℕ) (l : List ℕ) → Rises l → ((y : ℕ) → Member y l → key a ≢ key y)
+      → Rises (insertBy a l)
   unfolding insertBy
   insert-rises a [] s h = (tt, tt)
   insert-rises a (x ∷ xs) s h =
@@ -111,7 +123,8 @@ module _ (key : ℕ → ℕ) where
 
   -- ---- a list that rises
 
-  pub rises-at : (l : List ℕ) → Rises l → (i j : ℕ) → i < j → j < length l → key (getD l i 0) < key (getD l j 0)
+  pub rises-at : (l : List ℕ) → Rises l → (i j : ℕ) → i < j → j < length l
+      → key (getD l i 0) < key (getD l j 0)
   rises-at [] s i j h g = absurd (not-suc-le-zero g)
   rises-at (x ∷ xs) s zero zero h g = absurd (not-suc-le-zero h)
   rises-at (x ∷ xs) s (suc i) zero h g = absurd (not-suc-le-zero h)
@@ -121,27 +134,20 @@ module _ (key : ℕ → ℕ) where
 
   -- the lower key stands earlier
   pub earlier : (l : List ℕ) → Rises l → {a b i j : ℕ} → At l a i → At l b j → key a < key b → i < j
-  earlier l s {a} {b} {i} {j} p q h = by-test (ltb i j) (λ e. ltb-true i j e) (λ e. absurd (later (ltb-false i j e)))
+  earlier l s {a} {b} {i} {j} p q h =
+      by-test (ltb i j) (λ e. ltb-true i j e)
+      (λ e. at-last j i (let le = ltb-false i j e in omega arith) (λ g. let r = same g in omega arith)
+      (λ less. let r = rw (p .is, q .is) at (rises-at l s j i less (p .inside)) in omega arith))
     where
       same : j ≡ i → key a ≡ key b
       same e = ap key (sym (p .is) ∙ ap (λ z. getD l z 0) (sym e) ∙ q .is)
 
-      later : j ≤ i → ⊥
-      later le =
-          by-test (eqb j i) (λ e. let r = same (eqb-true j i e) in omega arith)
-          (λ e. let n : j ≢ i = eqb-false j i e in
-          let r = rw (p .is, q .is) at (rises-at l s j i (omega arith) (p .inside)) in
-          omega arith)
-
   -- each member stands once
   pub once : (l : List ℕ) → Rises l → {a i j : ℕ} → At l a i → At l a j → i ≡ j
-  once l s {a} {i} {j} p q =
-      by-test (ltb i j) (λ e. absurd (clash p q (ltb-true i j e)))
-      (λ e. by-test (ltb j i) (λ e′. absurd (clash q p (ltb-true j i e′)))
-      (λ e′. let x = ltb-false i j e in let y = ltb-false j i e′ in omega arith))
+  once l s {a} {i} {j} p q = neither-below i j (apart p q) (apart q p)
     where
-      clash : {i′ j′ : ℕ} → At l a i′ → At l a j′ → i′ < j′ → ⊥
-      clash {i′} {j′} p q h = let r = rw (p .is, q .is) at (rises-at l s i′ j′ h (q .inside)) in omega arith
+      apart : {i′ j′ : ℕ} → At l a i′ → At l a j′ → i′ < j′ → ⊥
+      apart {i′} {j′} p q h = let r = rw (p .is, q .is) at (rises-at l s i′ j′ h (q .inside)) in omega arith
 
   -- b has a higher key than a and no key lies between: b stands right after a
   pub next-to : (l : List ℕ) → Rises l → {a b i j : ℕ} → At l a i → At l b j → key a < key b
@@ -160,7 +166,7 @@ module _ (key : ℕ → ℕ) where
 
   -- a has the lowest key: it stands first
   pub first : (l : List ℕ) → Rises l → {a i : ℕ} → At l a i → ((c : ℕ) → Member c l → key a ≤ key c) → i ≡ 0
-  first l s {a} {i} p low = by-test (ltb 0 i) (λ e. absurd (later (ltb-true 0 i e))) (λ e. let x = ltb-false 0 i e in omega arith)
+  first l s {a} {i} p low = neither-below i 0 not-suc-le-zero later
     where
       later : 0 < i → ⊥
       later lt =

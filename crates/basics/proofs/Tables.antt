@@ -1,23 +1,22 @@
 -- Tables of rows of one width: what is read from a row or put in its place, seen in the table.
 --
--- A part that stands between s and t is read, or another put in its place, whatever s and t are (`part-between`,
--- `put-between`). What reads or changes row i wherever it stands reads or changes the table at i (`reads-row`, `acts-row`): by
--- induction over the rows, with what follows them kept open. So the part at row i is the row (`tabled-part`), to put another
--- there is to change the row (`tabled-put`), and a list is the table of its parts (`tabled-back`). The table stands behind a list
--- p; the names with -alone say the same where nothing stands before it.
+-- A part that stands between s and t is read, or another put in its place, whatever s and t are
+-- (`part-between`, `put-between`). What reads or changes row i wherever it stands reads or changes the
+-- table at i (`reads-row`, `acts-row`): by induction over the rows, with what follows them kept open. So
+-- the part at row i is the row (`tabled-part`), to put another there is to change the row (`tabled-put`),
+-- and a list is the table of its parts (`tabled-back`). The table stands behind a list p; the names with
+-- -alone say the same where nothing stands before it.
 -- Assumes nothing.
-use mathlib.Core.Path.{_≡_, refl, sym, ap, _∙_}
-use mathlib.Core.List.{List, [], _++_, append-assoc, append-nil}
-use Prim.Native.Nat.{ℕ, zero, suc, _+_, _*_, _<_}
-use native.Mathlib.Nat.{not-suc-le-zero, zero-mul, suc-mul, zero-add}
-use native.Mathlib.Omega.{arith}
-use lib.Dec.{eqb}
-use lib.ListN.{length, take, drop, length-append, length-drop, take-append-drop}
+use Rattle.basics.proofs.Prelude.{_≡_, refl, sym, ap, _∙_, List, [], _++_, append-assoc, append-nil}
+use Rattle.basics.proofs.Prelude.{length, take, drop, length-append, length-drop, ℕ, zero, suc, _+_}
+use Rattle.basics.proofs.Prelude.{_*_, _<_, not-suc-le-zero, zero-add, arith, eqb}
+use native.Mathlib.Nat.{zero-mul, suc-mul}
+use lib.ListN.{take-append-drop}
 use lib.Seq.{take-at, drop-at, take-add, take-all, drop-drop}
-use borrow.Author.Tests.{eqb-true, eqb-false}
 use Rattle.basics.specs.Tables.{tabled, partAt, putPart}
 use Rattle.basics.specs.Update.{update}
 use Rattle.basics.proofs.Cases.{by-test}
+use Rattle.basics.proofs.Ranges.{at-last}
 use Rattle.basics.proofs.Update.{update-same, update-other}
 
 -- a function on the values of a changed function
@@ -66,21 +65,22 @@ module _ {A : Type 0} where
     tabled-length-behind p n wide = length-append p (tabled r n) ∙ rw (tabled-length n wide)
 
     module _ (p : List A) (i : ℕ) where
-      before : (n : ℕ) → ((j : ℕ) → j < n → length (r j) ≡ w) → i < n → length (p ++ tabled r i) ≡ length p + i * w
+      before : (n : ℕ) → ((j : ℕ) → j < n → length (r j) ≡ w) → i < n
+          → length (p ++ tabled r i) ≡ length p + i * w
       before n wide h = tabled-length-behind p i (λ j less. wide j (omega arith))
 
-      reads-open : {X : Type 0} (f : List A → X) (x : X) (n : ℕ) → ((j : ℕ) → j < n → length (r j) ≡ w) → i < n
+      reads-open : {X : Type 0} (f : List A → X) (x : X) (n : ℕ) → ((j : ℕ) → j < n → length (r j) ≡ w)
+          → i < n
           → ((s t : List A) → length s ≡ length p + i * w → f (s ++ r i ++ t) ≡ x)
           → (t : List A) → f (p ++ tabled r n ++ t) ≡ x
       unfolding tabled
       reads-open f x zero wide h reads t = absurd (not-suc-le-zero h)
       reads-open f x (suc n) wide h reads t =
-          by-test (eqb i n)
-          (λ e. let q : i ≡ n = eqb-true i n e in
-          rw (← q, ← append-assoc p (tabled r i) (r i)) (reads (p ++ tabled r i) t (before (suc n) wide h)))
-          (λ e. let q = eqb-false i n e in
-          rw (← append-assoc p (tabled r n) (r n), append-assoc (p ++ tabled r n) (r n) t)
-          (reads-open f x n (λ j less. wide j (omega arith)) (omega arith) reads (r n ++ t)))
+          at-last i n h
+          (λ q. rw (← q, ← append-assoc p (tabled r i) (r i))
+          (reads (p ++ tabled r i) t (before (suc n) wide h)))
+          (λ less. rw (← append-assoc p (tabled r n) (r n), append-assoc (p ++ tabled r n) (r n) t)
+          (reads-open f x n (λ j lower. wide j (omega arith)) less reads (r n ++ t)))
 
       acts-open : (f : List A → List A) (q : List A) (n : ℕ) → ((j : ℕ) → j < n → length (r j) ≡ w) → i < n
           → ((s t : List A) → length s ≡ length p + i * w → f (s ++ r i ++ t) ≡ s ++ q ++ t)
@@ -88,23 +88,21 @@ module _ {A : Type 0} where
       unfolding tabled
       acts-open f q zero wide h acts t = absurd (not-suc-le-zero h)
       acts-open f q (suc n) wide h acts t =
-          by-test (eqb i n)
-          (λ e. let same : i ≡ n = eqb-true i n e in
-          rw (
+          at-last i n h
+          (λ same. rw (
             ← same,
             update-same r i q,
             tabled-same (update r i q) r i (λ j less. update-other r i j q (λ z. omega arith)),
             ← append-assoc p (tabled r i) (r i),
             ← append-assoc p (tabled r i) q,
           ) (acts (p ++ tabled r i) t (before (suc n) wide h)))
-          (λ e. let differ = eqb-false i n e in
-          rw (
-            update-other r i n q differ,
+          (λ less. rw (
+            update-other r i n q (λ z. omega arith),
             ← append-assoc p (tabled r n) (r n),
             ← append-assoc p (tabled (update r i q) n) (r n),
             append-assoc (p ++ tabled r n) (r n) t,
             append-assoc (p ++ tabled (update r i q) n) (r n) t,
-          ) (acts-open f q n (λ j less. wide j (omega arith)) (omega arith) acts (r n ++ t)))
+          ) (acts-open f q n (λ j lower. wide j (omega arith)) less acts (r n ++ t)))
 
   -- ---- one row of a table of n rows
 
@@ -129,7 +127,8 @@ module _ {A : Type 0} where
           reads-row (partAt (length p + i * w) w) (r i)
           (λ s t e. part-between s (r i) t (length p + i * w) w e (wide i inside))
 
-      pub tabled-put : (x : List A) → putPart (length p + i * w) w (p ++ tabled r n) x ≡ p ++ tabled (update r i x) n
+      pub tabled-put : (x : List A)
+          → putPart (length p + i * w) w (p ++ tabled r n) x ≡ p ++ tabled (update r i x) n
       tabled-put x =
           acts-row (λ l. putPart (length p + i * w) w l x) x
           (λ s t e. put-between s (r i) t (length p + i * w) w e (wide i inside) x)

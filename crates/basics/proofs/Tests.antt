@@ -1,18 +1,13 @@
 -- What passing all tests says of each test.
 --
--- A list of tests passes when each does (`each`, `all-of`); a test passes on all numbers below n when it does on each (`below`,
--- `below-of`), and fails on one of them otherwise (`below-fails`).
+-- A list of tests passes when each does (`each`, `all-of`); a test passes on all numbers below n when it
+-- does on each (`below`, `below-of`), and fails on one of them otherwise (`below-fails`).
 -- Assumes nothing.
-use mathlib.Core.Path.{_≡_, refl, ap, _∙_}
-use mathlib.Core.Bool.{Bool, true, false}
-use mathlib.Core.List.{List, [], _∷_}
-use Prim.Native.Nat.{ℕ, zero, suc, _<_}
-use native.Mathlib.Nat.{not-suc-le-zero}
-use native.Mathlib.Omega.{arith}
-use lib.Dec.{eqb}
-use borrow.Author.Tests.{eqb-true, eqb-false}
+use Rattle.basics.proofs.Prelude.{_≡_, refl, ap, _∙_, Bool, true, false, List, [], _∷_, ℕ, zero, suc}
+use Rattle.basics.proofs.Prelude.{_<_, not-suc-le-zero, arith}
 use Rattle.basics.specs.Tests.{allPass, allBelow}
 use Rattle.basics.proofs.Cases.{by-test, both, both-of, true-or-false}
+use Rattle.basics.proofs.Ranges.{at-last}
 
 abbrev pub Each : List Bool → Type 0
 Each [] = Unit {0}
@@ -25,11 +20,6 @@ each (b ∷ bs) e = let p = both b (allPass bs) e in (p .0, each bs (p .1))
 pub all-of : (bs : List Bool) → Each bs → allPass bs ≡ true
 all-of [] e = refl
 all-of (b ∷ bs) e = both-of b (allPass bs) (e .0) (all-of bs (e .1))
-
--- a test at a number below n + 1: at n or below it
-at-last {ℓ} : {C : Type ℓ} (i n : ℕ) → i < suc n → (i ≡ n → C) → (i < n → C) → C
-at-last i n h last earlier =
-    by-test (eqb i n) (λ e. last (eqb-true i n e)) (λ e. earlier (let d = eqb-false i n e in omega arith))
 
 pub below : (p : ℕ → Bool) (n : ℕ) → allBelow p n ≡ true → (i : ℕ) → i < n → p i ≡ true
 unfolding allBelow

@@ -1,10 +1,6 @@
 -- The laws of `update`: the new value at the number, the old one elsewhere.
 -- Assumes nothing.
-use mathlib.Core.Path.{_≡_, refl}
-use mathlib.Core.Logic.{_≢_}
-use Prim.Native.Nat.{ℕ}
-use lib.Dec.{eqb}
-use borrow.Author.Tests.{eqb-true, eqb-false, eq-eqb, ne-eqb}
+use Rattle.basics.proofs.Prelude.{_≡_, refl, _≢_, ℕ, eqb, eqb-true, eqb-false, eq-eqb, ne-eqb}
 use Rattle.basics.specs.Update.{update}
 use Rattle.basics.proofs.Cases.{by-test}
 
@@ -18,7 +14,8 @@ module _ {A : Type 0} where
   update-other f i j a h = rw (ne-eqb i j h) refl
 
   -- a fact of the changed function at j: the new value's at i, the old function's elsewhere
-  pub update-at {ℓ} : (P : A → Type ℓ) (f : ℕ → A) (i j : ℕ) (a : A) → (i ≡ j → P a) → (i ≢ j → P (f j)) → P (update f i a j)
+  pub update-at {ℓ} : (P : A → Type ℓ) (f : ℕ → A) (i j : ℕ) (a : A) → (i ≡ j → P a) → (i ≢ j → P (f j))
+      → P (update f i a j)
   unfolding update
   update-at P f i j a new old =
       by-test (eqb i j) (λ e. rw e (new (eqb-true i j e))) (λ e. rw e (old (eqb-false i j e)))

@@ -3,15 +3,12 @@
 -- `day-given` and `day-refused` read it forwards; `day-is` reads it back; `day-range` and `day-small` bound
 -- it, for sums and signed differences.
 -- Assumes nothing.
-use mathlib.Core.Path.{_≡_}
-use mathlib.Core.Bool.{true, false}
-use Prim.Native.Nat.{ℕ, _^_, _≤_, _<_}
-use native.Mathlib.Omega.{arith}
+use Rattle.basics.proofs.Prelude.{_≡_, true, false, ℕ, _^_, _≤_, _<_, arith}
 use Rattle.basics.proofs.Cases.{by-test}
 use Rattle.refusal.specs.Numbers.{numbered}
 use Rattle.calendar.specs.Calendar.{isDate, dayOf, dayNumber}
 use Rattle.calendar.specs.declared.DayNumber.the-variants.{Day, Refused}
-use Rattle.calendar.specs.Order.{date}
+use Rattle.calendar.specs.Order.{date, lastNumber}
 use Rattle.calendar.proofs.Order.{in-range}
 
 module _ (year month day : ℕ) where
@@ -30,7 +27,7 @@ module _ (year month day : ℕ) where
       by-test (isDate year month day) (λ yes. (yes, let given = day-given yes in cc))
       (λ broken. absurd (let refused = day-refused broken in let z : _≡_ {A = ℕ} 0 1 = cc in omega arith))
 
-  pub day-range : (a : ℕ) → dayNumber year month day ≡ Day a → (1 ≤ a) × (a ≤ 109573)
+  pub day-range : (a : ℕ) → dayNumber year month day ≡ Day a → (1 ≤ a) × (a ≤ lastNumber)
   day-range a e =
       let is = day-is a e in
       let range = in-range (date year month day) (is .0) in

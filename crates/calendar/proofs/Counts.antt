@@ -4,15 +4,10 @@
 -- and twelve months are the year (`twelve-months`). Both counts grow (`before-grows`, `first-grows`), and a
 -- month has 28 days or more.
 -- Assumes nothing.
-use mathlib.Core.Path.{_≡_, refl, ap, _∙_}
-use mathlib.Core.Bool.{Bool, true, false, cond, _||_}
-use Prim.Native.Nat.{ℕ, zero, suc, _+_, _-_, _≤_}
-use native.Mathlib.Nat.{not-suc-le-zero, le-refl}
-use native.Mathlib.Omega.{arith}
-use lib.Dec.{eqb, leb}
-use borrow.Author.Tests.{leb-true, leb-false}
+use Rattle.basics.proofs.Prelude.{_≡_, refl, ap, _∙_, Bool, true, false, cond, _||_, ℕ, zero, suc, _+_, _-_}
+use Rattle.basics.proofs.Prelude.{_≤_, le-refl, not-suc-le-zero, arith, eqb, leb, leb-true, leb-false}
 use Rattle.basics.proofs.Cases.{by-test}
-use Rattle.calendar.specs.Calendar.{leap, yearLength, firstDay, monthLength, daysBefore}
+use Rattle.calendar.specs.Calendar.{firstYear, leap, yearLength, firstDay, monthLength, daysBefore}
 
 pub month-up : (l : Bool) (month : ℕ) → 1 ≤ month
     → daysBefore l month ≡ daysBefore l (month - 1) + monthLength l month
@@ -21,12 +16,13 @@ month-up l zero h = absurd (not-suc-le-zero h)
 month-up l (suc k) h =
     let back : k ≡ suc k - 1 = omega arith in ap (λ (j : ℕ). daysBefore l j + monthLength l (suc k)) back
 
-pub year-up : (year : ℕ) → 1900 ≤ year → firstDay (year + 1 - 1900) ≡ firstDay (year - 1900) + yearLength year
+pub year-up : (year : ℕ) → firstYear ≤ year
+    → firstDay (year + 1 - firstYear) ≡ firstDay (year - firstYear) + yearLength year
 unfolding firstDay
 year-up year h =
-    let k = year - 1900 in
-    let next : year + 1 - 1900 ≡ suc k = omega arith in
-    let back : 1900 + k ≡ year = omega arith in
+    let k = year - firstYear in
+    let next : year + 1 - firstYear ≡ suc k = omega arith in
+    let back : firstYear + k ≡ year = omega arith in
     ap firstDay next ∙ ap (λ (y : ℕ). firstDay k + yearLength y) back
 
 pub twelve-months : (year : ℕ) → daysBefore (leap year) 12 ≡ yearLength year

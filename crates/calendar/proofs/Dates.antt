@@ -1,29 +1,22 @@
 -- What a real date is, by its bounds.
 --
--- The tests of `isDate` all pass exactly when each bound holds (`real`, `real-date`); so where one bound
--- fails there is no date (`no-date`), and where the first five hold the last test decides (`last-test`).
+-- The tests of `isDate` all pass exactly when each bound holds (`real`, `real-date`): where the first five
+-- hold the last test decides (`last-test`). So where one bound fails there is no date (`no-date`).
 -- Assumes nothing.
-use mathlib.Core.Path.{_≡_, refl}
-use mathlib.Core.Bool.{Bool, true, false, _&&_}
-use Prim.Native.Nat.{ℕ, _≤_}
-use lib.Dec.{leb}
-use borrow.Author.Tests.{leb-true, le-leb}
+use Rattle.basics.proofs.Prelude.{_≡_, _∙_, true, false, ℕ, _≤_, leb, leb-true, le-leb}
+use mathlib.Core.Bool.{and-true}
 use Rattle.basics.proofs.Cases.{by-test}
-use Rattle.basics.proofs.Tests.{each, all-of}
-use Rattle.calendar.specs.Calendar.{leap, monthLength, dateTests, isDate}
+use Rattle.basics.proofs.Tests.{each}
+use Rattle.calendar.specs.Calendar.{firstYear, lastYear, leap, monthLength, dateTests, isDate}
 
 -- the bounds of a real date
 pub record Real (year month day : ℕ) : Type 0 where
-  pub year-least : 1900 ≤ year
-  pub year-most : year ≤ 2199
+  pub year-least : firstYear ≤ year
+  pub year-most : year ≤ lastYear
   pub month-least : 1 ≤ month
   pub month-most : month ≤ 12
   pub day-least : 1 ≤ day
   pub day-most : day ≤ monthLength (leap year) month
-
-and-true : (b : Bool) → b && true ≡ b
-and-true true = refl
-and-true false = refl
 
 module _ {year month day : ℕ} where
   pub real : isDate year month day ≡ true → Real year month day
@@ -39,26 +32,26 @@ module _ {year month day : ℕ} where
         day-most = leb-true _ _ (p .1 .1 .1 .1 .1 .0);
       }
 
-  pub real-date : Real year month day → isDate year month day ≡ true
-  unfolding isDate
-  real-date r =
-      all-of (dateTests year month day) (
-        le-leb _ _ (r .year-least),
-        (
-          le-leb _ _ (r .year-most),
-          (
-            le-leb _ _ (r .month-least),
-            (le-leb _ _ (r .month-most), (le-leb _ _ (r .day-least), (le-leb _ _ (r .day-most), tt))),
-          ),
-        ),
-      )
-
-  pub no-date : (Real year month day → ⊥) → isDate year month day ≡ false
-  no-date broken = by-test (isDate year month day) (λ e. absurd (broken (real e))) (λ e. e)
-
-  pub last-test : 1900 ≤ year → year ≤ 2199 → 1 ≤ month → month ≤ 12 → 1 ≤ day
+  pub last-test : firstYear ≤ year → year ≤ lastYear → 1 ≤ month → month ≤ 12 → 1 ≤ day
       → isDate year month day ≡ leb day (monthLength (leap year) month)
   unfolding isDate
   last-test a b c d e =
-      rw (le-leb 1900 year a, le-leb year 2199 b, le-leb 1 month c, le-leb month 12 d, le-leb 1 day e)
+      rw (
+        le-leb firstYear year a,
+        le-leb year lastYear b,
+        le-leb 1 month c,
+        le-leb month 12 d,
+        le-leb 1 day e,
+      )
       (and-true _)
+
+  pub bounds-date : firstYear ≤ year → year ≤ lastYear → 1 ≤ month → month ≤ 12 → 1 ≤ day
+      → day ≤ monthLength (leap year) month → isDate year month day ≡ true
+  bounds-date a b c d e f = last-test a b c d e ∙ le-leb _ _ f
+
+  pub real-date : Real year month day → isDate year month day ≡ true
+  real-date r =
+      bounds-date (r .year-least) (r .year-most) (r .month-least) (r .month-most) (r .day-least) (r .day-most)
+
+  pub no-date : (Real year month day → ⊥) → isDate year month day ≡ false
+  no-date broken = by-test (isDate year month day) (λ e. absurd (broken (real e))) (λ e. e)

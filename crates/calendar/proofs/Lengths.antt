@@ -1,10 +1,7 @@
 -- Bounds of the lengths of months and years, and of the days before them.
 -- Assumes nothing.
-use mathlib.Core.Bool.{Bool, true, false, cond, _||_}
-use Prim.Native.Nat.{ℕ, zero, suc, _+_, _*_, _≤_}
-use native.Mathlib.Omega.{arith}
-use lib.Dec.{eqb}
-use Rattle.calendar.specs.Calendar.{leap, yearLength, firstDay, monthLength, daysBefore}
+use Rattle.basics.proofs.Prelude.{Bool, true, false, cond, _||_, ℕ, zero, suc, _+_, _*_, _≤_, arith, eqb}
+use Rattle.calendar.specs.Calendar.{firstYear, leap, yearLength, firstDay, monthLength, daysBefore}
 
 -- one of two numbers that a number bounds
 cond-le : (b : Bool) (x y n : ℕ) → x ≤ n → y ≤ n → cond b x y ≤ n
@@ -29,4 +26,4 @@ year-most year = cond-le (leap year) 366 365 366 (omega arith) (omega arith)
 pub first-most : (k : ℕ) → firstDay k ≤ 1 + 366 * k
 unfolding firstDay
 first-most zero = omega arith
-first-most (suc k) = omega (arith, first-most k, year-most (1900 + k))
+first-most (suc k) = omega (arith, first-most k, year-most (firstYear + k))

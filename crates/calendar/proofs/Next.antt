@@ -4,17 +4,13 @@
 -- (`next-counts-one`): within a month the day moves; at its end the days of the month have passed
 -- (`month-up`); at the end of December the days of the year have (`twelve-months`, `year-up`).
 -- Assumes nothing.
-use mathlib.Core.Path.{_≡_, refl, sym, ap, _∙_}
-use mathlib.Core.Bool.{true}
-use Prim.Native.Nat.{_+_, _-_, _≤_, _<_}
+use Rattle.basics.proofs.Prelude.{_≡_, refl, sym, ap, _∙_, true, _+_, _-_, _≤_, _<_, arith, eqb, ltb}
+use Rattle.basics.proofs.Prelude.{eqb-true, eqb-false, ltb-true, ltb-false}
 use native.Mathlib.Nat.{add-sub-cancel}
-use native.Mathlib.Omega.{arith}
-use lib.Dec.{ltb, eqb}
-use borrow.Author.Tests.{ltb-true, ltb-false, eqb-true, eqb-false}
 use Rattle.basics.proofs.Cases.{by-test}
-use Rattle.calendar.specs.Calendar.{leap, monthLength, daysBefore, dayOf}
+use Rattle.calendar.specs.Calendar.{lastYear, leap, monthLength, daysBefore, dayOf}
 use Rattle.calendar.specs.Order.{Date, date, lastDate, isReal, number, nextDate}
-use Rattle.calendar.proofs.Dates.{real, real-date}
+use Rattle.calendar.proofs.Dates.{real, bounds-date}
 use Rattle.calendar.proofs.Counts.{month-up, year-up, twelve-months, month-least}
 
 pub same-date : (s t : Date) → s .year ≡ t .year → s .month ≡ t .month → s .day ≡ t .day → s ≡ t
@@ -32,46 +28,28 @@ by-place P t inside month year =
     (λ e. rw e (by-test (ltb (t .month) 12) (λ e′. rw e′ (month (ltb-false _ _ e) (ltb-true _ _ e′)))
     (λ e′. rw e′ (year (ltb-false _ _ e) (ltb-false _ _ e′)))))
 
--- a date in December whose month is over, other than the last, is not in 2199
-year-left : (t : Date) → isReal t ≡ true → monthLength (leap (t .year)) (t .month) ≤ t .day → 12 ≤ t .month
-    → (t ≡ lastDate → ⊥) → t .year + 1 ≤ 2199
+-- a date in December whose month is over, other than the last, is not in the last year
+year-follows : (t : Date) → isReal t ≡ true → monthLength (leap (t .year)) (t .month) ≤ t .day → 12 ≤ t .month
+    → (t ≡ lastDate → ⊥) → t .year + 1 ≤ lastYear
 unfolding monthLength
-year-left t e full december other =
+year-follows t e full december other =
     let r = real e in
     let month : t .month ≡ 12 = omega arith in
     let day : monthLength (leap (t .year)) (t .month) ≡ 31 = rw month refl in
-    by-test (eqb (t .year) 2199)
+    by-test (eqb (t .year) lastYear)
     (λ same. absurd (other (same-date t lastDate (eqb-true _ _ same) month (omega arith))))
-    (λ differ. omega (arith, eqb-false (t .year) 2199 differ))
+    (λ differ. omega (arith, eqb-false (t .year) lastYear differ))
 
 pub next-is-date : (t : Date) → isReal t ≡ true → (t ≡ lastDate → ⊥) → isReal (nextDate t) ≡ true
 next-is-date t e other =
     let r = real e in
     by-place (λ (n : Date). isReal n ≡ true) t
-    (λ inside. real-date record {
-      year-least = r .year-least;
-      year-most = r .year-most;
-      month-least = r .month-least;
-      month-most = r .month-most;
-      day-least = omega arith;
-      day-most = omega arith;
-    })
-    (λ full less. real-date record {
-      year-least = r .year-least;
-      year-most = r .year-most;
-      month-least = omega arith;
-      month-most = omega arith;
-      day-least = omega arith;
-      day-most = omega (arith, month-least (leap (t .year)) (t .month + 1));
-    })
-    (λ full december. real-date record {
-      year-least = omega arith;
-      year-most = year-left t e full december other;
-      month-least = omega arith;
-      month-most = omega arith;
-      day-least = omega arith;
-      day-most = omega (arith, month-least (leap (t .year + 1)) 1);
-    })
+    (λ inside. bounds-date (r .year-least) (r .year-most) (r .month-least) (r .month-most)
+    (omega arith) (omega arith))
+    (λ full less. bounds-date (r .year-least) (r .year-most) (omega arith) (omega arith) (omega arith)
+    (omega (arith, month-least (leap (t .year)) (t .month + 1))))
+    (λ full december. bounds-date (omega arith) (year-follows t e full december other) (omega arith)
+    (omega arith) (omega arith) (omega (arith, month-least (leap (t .year + 1)) 1)))
 
 pub next-counts-one : (t : Date) → isReal t ≡ true → number (nextDate t) ≡ number t + 1
 unfolding dayOf daysBefore

@@ -6,16 +6,12 @@
 -- an earlier date (`order-back`) and a number to one date (`one-to-one`). The bounds are the numbers of the
 -- first date and the last (`in-range`).
 -- Assumes nothing.
-use mathlib.Core.Path.{_≡_, refl, sym, ap}
-use mathlib.Core.Bool.{Bool, true, false, _||_}
-use mathlib.Core.Logic.{_⊎_, inl, inr}
-use Prim.Native.Nat.{ℕ, _+_, _-_, _≤_, _<_}
-use native.Mathlib.Omega.{arith}
-use lib.Dec.{ltb, eqb}
-use borrow.Author.Tests.{ltb-true, ltb-false, lt-ltb, le-ltb, eqb-true, eq-eqb}
+use Rattle.basics.proofs.Prelude.{_≡_, refl, sym, ap, Bool, true, false, _||_, _⊎_, inl, inr, ℕ, _+_, _-_}
+use Rattle.basics.proofs.Prelude.{_≤_, _<_, arith, eqb, ltb, eqb-true, eq-eqb, ltb-true, ltb-false, lt-ltb}
+use Rattle.basics.proofs.Prelude.{le-ltb}
 use Rattle.basics.proofs.Cases.{by-test, by-either, both}
-use Rattle.calendar.specs.Calendar.{leap, yearLength, firstDay, daysBefore, dayOf}
-use Rattle.calendar.specs.Order.{Date, isReal, number, earlier}
+use Rattle.calendar.specs.Calendar.{firstYear, yearCount, leap, yearLength, firstDay, daysBefore, dayOf}
+use Rattle.calendar.specs.Order.{Date, lastNumber, isReal, number, earlier}
 use Rattle.calendar.proofs.Dates.{Real, real}
 use Rattle.calendar.proofs.Counts.{month-up, year-up, twelve-months, before-grows, first-grows}
 use Rattle.calendar.proofs.Next.{same-date}
@@ -26,7 +22,7 @@ module _ (t : Date) (r : Real (t .year) (t .month) (t .day)) where
       daysBefore (leap (t .year)) (t .month - 1) + (t .day - 1) < daysBefore (leap (t .year)) (t .month)
   below-month-end = omega (arith, r, month-up (leap (t .year)) (t .month) (r .month-least))
 
-  below-year-end : number t < firstDay (t .year + 1 - 1900)
+  below-year-end : number t < firstDay (t .year + 1 - firstYear)
   unfolding dayOf
   below-year-end =
       omega (
@@ -74,8 +70,8 @@ ways-back s t (by-day y m d) =
     refl
 
 -- dates of one year have its first day and its months in common
-january : (s t : Date) → s .year ≡ t .year → firstDay (s .year - 1900) ≡ firstDay (t .year - 1900)
-january s t y = ap (λ (n : ℕ). firstDay (n - 1900)) y
+january : (s t : Date) → s .year ≡ t .year → firstDay (s .year - firstYear) ≡ firstDay (t .year - firstYear)
+january s t y = ap (λ (n : ℕ). firstDay (n - firstYear)) y
 
 months : (s t : Date) (k : ℕ) → s .year ≡ t .year
     → daysBefore (leap (s .year)) k ≡ daysBefore (leap (t .year)) k
@@ -85,7 +81,8 @@ kept : (s t : Date) → Real (s .year) (s .month) (s .day) → Real (t .year) (t
     → number s < number t
 unfolding dayOf
 kept s t a b (by-year y) =
-    omega (arith, below-year-end s a, first-grows (s .year + 1 - 1900) (t .year - 1900) (omega arith))
+    let grows = first-grows (s .year + 1 - firstYear) (t .year - firstYear) (omega arith) in
+    omega (arith, below-year-end s a, grows)
 kept s t a b (by-month y m) =
     let grows = before-grows (leap (s .year)) (s .month) (t .month - 1) (omega arith) in
     omega (arith, january s t y, months s t (t .month - 1) y, below-month-end s a, grows)
@@ -125,11 +122,11 @@ module _ (s t : Date) (p : isReal s ≡ true) (q : isReal t ≡ true) where
       by-either (compared s t) (λ w. absurd (omega (arith, kept s t (real p) (real q) w)))
       (λ o. by-either o (λ e. e) (λ w. absurd (omega (arith, kept t s (real q) (real p) w))))
 
-pub in-range : (t : Date) → isReal t ≡ true → (1 ≤ number t) × (number t ≤ 109573)
+pub in-range : (t : Date) → isReal t ≡ true → (1 ≤ number t) × (number t ≤ lastNumber)
 unfolding dayOf firstDay yearLength leap
 in-range t e =
     let r = real e in
-    let end : firstDay 300 ≡ 109574 = refl in (
-      omega (arith, first-grows 0 (t .year - 1900) (omega arith)),
-      omega (arith, below-year-end t r, first-grows (t .year + 1 - 1900) 300 (omega arith)),
+    let end : firstDay yearCount ≡ lastNumber + 1 = refl in (
+      omega (arith, first-grows 0 (t .year - firstYear) (omega arith)),
+      omega (arith, below-year-end t r, first-grows (t .year + 1 - firstYear) yearCount (omega arith)),
     )

@@ -1,8 +1,8 @@
 -- The Gregorian calendar by rule (01, section 'Entry and calendar').
 --
--- In order: leap years; years and months, their lengths and the days before them, each counted from the one
--- before; real dates; the day number of a date, and the answer for any three numbers. The stored tables are
--- not here: they are proved to follow these rules.
+-- In order: the years of the calendar; leap years; years and months, their lengths and the days before them,
+-- each counted from the one before; real dates; the day number of a date, and the answer for any three
+-- numbers. The stored tables are not here: they are proved to follow these rules.
 -- Assumes nothing.
 use Prim.Native.Nat.{ℕ, zero, suc, _+_, _-_, _%_}
 use mathlib.Core.Bool.{Bool, cond, not, _&&_, _||_}
@@ -15,6 +15,16 @@ use Rattle.refusal.specs.Ladder.{_whenever_, lowest}
 use Rattle.calendar.specs.declared.DayNumber.{DayNumber}
 use Rattle.calendar.specs.declared.DayNumber.the-variants.{Day, Refused}
 
+-- the years of the calendar, and how many there are: 300
+abbrev pub firstYear : ℕ
+firstYear = 1900
+
+abbrev pub lastYear : ℕ
+lastYear = 2199
+
+abbrev pub yearCount : ℕ
+yearCount = lastYear + 1 - firstYear
+
 -- every fourth year, but of the hundreds only every fourth
 unfoldable pub leap : ℕ → Bool
 leap year = eqb (year % 4) 0 && (not (eqb (year % 100) 0) || eqb (year % 400) 0)
@@ -22,10 +32,10 @@ leap year = eqb (year % 4) 0 && (not (eqb (year % 100) 0) || eqb (year % 400) 0)
 unfoldable pub yearLength : ℕ → ℕ
 yearLength year = cond (leap year) 366 365
 
--- the day number of 1 January of the year 1900 + k: 1 January 1900 is day 1
+-- the day number of 1 January, k years after the first: 1 January 1900 is day 1
 unfoldable pub firstDay : ℕ → ℕ
 firstDay zero = 1
-firstDay (suc k) = firstDay k + yearLength (1900 + k)
+firstDay (suc k) = firstDay k + yearLength (firstYear + k)
 
 -- the days of a month, counted from 1, of a leap year or another
 unfoldable pub monthLength : Bool → ℕ → ℕ
@@ -38,11 +48,11 @@ unfoldable pub daysBefore : Bool → ℕ → ℕ
 daysBefore leapYear zero = 0
 daysBefore leapYear (suc k) = daysBefore leapYear k + monthLength leapYear (suc k)
 
--- what makes a date real: a year from 1900 to 2199, a month, a day of that month; months and days are counted
+-- what makes a date real: a year of the calendar, a month, a day of that month; months and days are counted
 -- from 1
 abbrev pub dateTests : ℕ → ℕ → ℕ → List Bool
 dateTests year month day =
-    leb 1900 year ∷ leb year 2199 ∷ leb 1 month ∷ leb month 12
+    leb firstYear year ∷ leb year lastYear ∷ leb 1 month ∷ leb month 12
     ∷ leb 1 day ∷ leb day (monthLength (leap year) month) ∷ []
 
 unfoldable pub isDate : ℕ → ℕ → ℕ → Bool
@@ -50,7 +60,7 @@ isDate year month day = allPass (dateTests year month day)
 
 -- the day number of a real date
 unfoldable pub dayOf : ℕ → ℕ → ℕ → ℕ
-dayOf year month day = firstDay (year - 1900) + daysBefore (leap year) (month - 1) + (day - 1)
+dayOf year month day = firstDay (year - firstYear) + daysBefore (leap year) (month - 1) + (day - 1)
 
 -- 01's answer: the 'day number', or refused 8, 'no such entry'
 abbrev pub dayAnswer : Option Refusal → ℕ → DayNumber

@@ -5,7 +5,7 @@
 use Prim.Native.Nat.{ℕ, _+_}
 use mathlib.Core.Bool.{Bool, cond, _&&_, _||_}
 use lib.Dec.{eqb, ltb}
-use Rattle.calendar.specs.Calendar.{leap, monthLength, isDate, dayOf}
+use Rattle.calendar.specs.Calendar.{lastYear, leap, monthLength, isDate, dayOf}
 
 pub record Date : Type 0 where
   pub year : ℕ
@@ -13,10 +13,14 @@ pub record Date : Type 0 where
   pub day : ℕ
 
 abbrev pub date : ℕ → ℕ → ℕ → Date
-date y m d = record { year = y; month = m; day = d }
+date year month day = record { year = year; month = month; day = day }
 
 abbrev pub lastDate : Date
-lastDate = date 2199 12 31
+lastDate = date lastYear 12 31
+
+-- its day number
+abbrev pub lastNumber : ℕ
+lastNumber = 109573
 
 abbrev pub isReal : Date → Bool
 isReal t = isDate (t .year) (t .month) (t .day)

@@ -2,7 +2,8 @@
 // calendar').
 ghost use mathlib.Core.Path.{_≡_};
 ghost use Prim.Native.Nat.{_<_};
-ghost use Rattle.calendar.specs.Calendar.{leap, firstDay, monthLength, daysBefore, isDate, dayNumber};
+ghost use Rattle.calendar.specs.Calendar.{yearCount, leap, firstDay, monthLength, daysBefore};
+ghost use Rattle.calendar.specs.Calendar.{isDate, dayNumber};
 
 mod tables;
 
@@ -10,9 +11,9 @@ use refusal::Refusal;
 use tables::DAYS_BEFORE;
 use tables::FIRST_DAY;
 
-const FIRST_YEAR: u16 = 1900;
+pub const FIRST_YEAR: u16 = 1900;
 
-const LAST_YEAR: u16 = 2199;
+pub const LAST_YEAR: u16 = 2199;
 
 // The number of a day, 1 for 1 January 1900, or the refusal of what is no date.
 pub enum DayNumber {
@@ -43,12 +44,12 @@ fn month_length(leap: bool, month: u8) -> u8
     }
 }
 
-// The day number of 1 January, k years after the first.
-fn first_day(k: usize) -> u32
-    requires { ⌜ k < 300 ⌝ }
-    ensures { λ r. ⌜ r ≡ firstDay k ⌝ }
+// The day number of 1 January, so many years after the first.
+fn first_day(years: usize) -> u32
+    requires { ⌜ years < yearCount ⌝ }
+    ensures { λ r. ⌜ r ≡ firstDay years ⌝ }
 {
-    FIRST_DAY[k]
+    FIRST_DAY[years]
 }
 
 // The days before a month, whose places in the table are counted from 0.

@@ -1,8 +1,11 @@
 // The calendar's two stored tables. Each rule is proved over its whole table at once (`first_day`,
 // `days_before`).
 
-// The day numbers of 1 January, from 1900 on.
-pub const FIRST_DAY: [u32; 300] = [
+// How many years the calendar has.
+pub const YEARS: usize = 300;
+
+// The day numbers of 1 January, from the first year on.
+pub const FIRST_DAY: [u32; YEARS] = [
     1,
     366,
     731,

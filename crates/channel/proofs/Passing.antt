@@ -1,34 +1,45 @@
 -- Tests passed one after the other, and zeros joined by OR.
 --
--- A loop that leaves at the first failure has passed all before (`more-pass`); numbers joined by OR are zero where each is
--- (`or-zero`); a channel without messages is sound where its slots are zero (`empty-sound`).
+-- A loop that leaves at the first failure has passed all before (`one-more`, `fails-here`, `all-passed`);
+-- numbers joined by OR are zero where each is (`or-zero`); a channel without messages is sound where its
+-- slots are zero (`empty-sound`).
 -- Assumes nothing.
-use mathlib.Core.Path.{_≡_, refl}
-use mathlib.Core.Bool.{Bool, true, false, _&&_}
-use mathlib.Core.List.{List}
-use Prim.Native.Nat.{ℕ, _+_, _*_, _≤_}
-use native.Mathlib.Nat.{add-zero}
-use native.Mathlib.Numerals.{add-one}
-use native.Mathlib.Omega.{arith}
+use Rattle.basics.proofs.Prelude.{_≡_, refl, sym, _∙_, Bool, true, false, not, _&&_, List, ℕ, _+_, _≤_, _<_}
+use Rattle.basics.proofs.Prelude.{add-zero, add-one, arith, eqb, eqb-true, eqb-false, eq-eqb, ne-eqb}
+use Rattle.basics.proofs.Prelude.{not-true, not-false}
+use mathlib.Core.Bool.{and-true}
 use lib.Bits.{bitAnd, bitOr, or-add-and, and-le-l, and-le-r}
-use lib.Dec.{eqb}
-use borrow.Author.Tests.{eqb-true, eqb-false, eq-eqb, ne-eqb}
 use Rattle.basics.specs.Tests.{allPass, allBelow}
 use Rattle.basics.proofs.Cases.{by-test}
-use Rattle.channel.specs.Memory.{countAt}
+use Rattle.basics.proofs.Tests.{below-fails}
+use Rattle.channel.specs.Memory.{perChannel, slotsStart, slot, countAt}
 use Rattle.channel.specs.Sound.{zeroFrom, isDown, slotGoes, channelTests}
 
-pub more-pass : (p : ℕ → Bool) (n : ℕ) → allBelow p n ≡ true → p n ≡ true → allBelow p (n + 1) ≡ true
-unfolding allBelow
-more-pass p n h e = rw (add-one, h, e)
+-- ---- what the code finds of a test b: a result r
 
-pub none-pass : (p : ℕ → Bool) → allBelow p 0 ≡ true
-unfolding allBelow
-none-pass p = refl
+pub passed : {r b : Bool} → r ≡ b → not r ≡ false → b ≡ true
+passed {r} e h = sym e ∙ not-false r h
 
-pub and-true : (b : Bool) → b && true ≡ b
-and-true true = refl
-and-true false = refl
+pub failed : {r b : Bool} → r ≡ b → not r ≡ true → b ≡ false
+failed {r} e h = sym e ∙ not-true r h
+
+-- ---- a loop that leaves at the first failure, of tests with results r
+
+module _ (p : ℕ → Bool) where
+  pub none-passed : allBelow p 0 ≡ true
+  unfolding allBelow
+  none-passed = refl
+
+  pub one-more : (i : ℕ) {r : Bool} → allBelow p i ≡ true → r ≡ p i → not r ≡ false
+      → allBelow p (i + 1) ≡ true
+  unfolding allBelow
+  one-more i h e left = rw (add-one, h) (passed e left)
+
+  pub fails-here : (n i : ℕ) {r : Bool} → i < n → r ≡ p i → not r ≡ true → false ≡ allBelow p n
+  fails-here n i less e taken = sym (below-fails p n i less (failed e taken))
+
+  pub all-passed : {i n : ℕ} → i ≡ n → allBelow p i ≡ true → true ≡ allBelow p n
+  all-passed e h = sym (rw (← e) h)
 
 -- ---- zeros
 
@@ -39,13 +50,14 @@ or-zero x y =
     let r : bitAnd x y ≤ y = and-le-r x y in
     by-test (eqb x 0)
     (λ e. let p : x ≡ 0 = eqb-true x 0 e in
-    by-test (eqb y 0) (λ f. let q : y ≡ 0 = eqb-true y 0 f in rw (e, f) (eq-eqb (bitOr x y) 0 (omega arith)))
-    (λ f. let q = eqb-false y 0 f in rw (e, f) (ne-eqb (bitOr x y) 0 (λ (z : bitOr x y ≡ 0). q (omega arith)))))
-    (λ e. let p = eqb-false x 0 e in rw e (ne-eqb (bitOr x y) 0 (λ (z : bitOr x y ≡ 0). p (omega arith))))
+    by-test (eqb y 0)
+    (λ f. let q : y ≡ 0 = eqb-true y 0 f in rw (e, f) (eq-eqb (bitOr x y) 0 (omega arith)))
+    (λ f. let q = eqb-false y 0 f in rw (e, f) (ne-eqb (bitOr x y) 0 (λ z. q (omega arith)))))
+    (λ e. let p = eqb-false x 0 e in rw e (ne-eqb (bitOr x y) 0 (λ z. p (omega arith))))
 
-pub empty-sound : (b : List ℕ) (i : ℕ) → countAt b i ≡ 0
-    → allPass (channelTests b i) ≡ zeroFrom b (156 + i * 16) 16
+pub empty-sound : (slots : List ℕ) (i : ℕ) → countAt slots i ≡ 0
+    → allPass (channelTests slots i) ≡ zeroFrom slots (slotsStart i) perChannel
 unfolding channelTests
-empty-sound b i none =
-    rw (none, none-pass (λ s. slotGoes (isDown i) b (156 + i * 16 + s * 2)), add-zero (156 + i * 16))
-    (and-true (zeroFrom b (156 + i * 16) 16))
+empty-sound slots i none =
+    rw (none, none-passed (λ j. slotGoes (isDown i) slots (slot i j)), add-zero (slotsStart i))
+    (and-true (zeroFrom slots (slotsStart i) perChannel))

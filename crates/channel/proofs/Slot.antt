@@ -1,29 +1,24 @@
 -- A slot and the message in it.
 --
--- Two numbers that pass a slot's test are the words of a message, and of that alone: a message found in a number has that very
--- number (`holds`). The words of a message that suits the channel pass, and the message is found in them (`found-at`,
--- `passes-at`). A first number over 32 bits has a kind that no message has (`over-fails`).
+-- Two numbers that pass a slot's test are the words of a message, and of that alone: a message found in a
+-- number has that very number (`holds`). The words of a message that suits the channel pass, and the message
+-- is found in them (`found-at`, `passes-at`). A first number over 32 bits has a kind that no message has
+-- (`over-fails`).
 -- Assumes nothing.
-use mathlib.Core.Path.{_≡_, refl, sym, ap, _∙_}
-use mathlib.Core.Bool.{Bool, true, false, _&&_}
-use mathlib.Core.List.{List}
-use Prim.Native.Nat.{ℕ, _+_, _*_, _/_, _%_, _^_, _≤_, _<_}
+use Rattle.basics.proofs.Prelude.{_≡_, refl, sym, ap, _∙_, Bool, true, false, _&&_, List, getD, ℕ, _+_, _*_}
+use Rattle.basics.proofs.Prelude.{_/_, _%_, _^_, _≤_, _<_, arith, ltb, ne-eqb, ltb-true, lt-ltb}
 use native.Mathlib.Nat.{mod-lt}
-use native.Mathlib.Omega.{arith}
-use lib.Dec.{ltb}
-use lib.ListN.{getD}
 use lib.Pow.{pow-pos}
-use borrow.Author.Tests.{ltb-true, lt-ltb, ne-eqb}
 use Rattle.basics.proofs.Cases.{by-test, both, both-of, true-or-false}
 use Rattle.message.specs.declared.Message.{Message}
 use Rattle.message.specs.declared.Unpacked.{Unpacked}
 use Rattle.message.specs.declared.Unpacked.the-variants.{Good, Refused}
 use Rattle.message.specs.declared.Words.{Words}
-use Rattle.message.specs.Layout.{numberOf, malformed, messageOf, wellFormed, words, wordsOf}
+use Rattle.message.specs.Layout.{numberOf, goes, malformed, messageOf, wellFormed, words, wordsOf}
 use Rattle.message.proofs.Fields.{byWords, by-words}
 use Rattle.message.proofs.Numbers.{only, words-back}
 use Rattle.message.proofs.RoundTrip.{of-words-of}
-use Rattle.channel.specs.Sound.{goes, isDown, wordsGo, messageAt, slotGoes, messageIn}
+use Rattle.channel.specs.Sound.{isDown, wordsGo, messageAt, slotGoes, messageIn}
 
 -- a message that may be on channel i: no field over its width, and it goes the channel's way
 abbrev pub suits : ℕ → Message → Bool
@@ -71,8 +66,7 @@ module _ (i : ℕ) (b : List ℕ) (at : ℕ) (e : slotGoes (isDown i) b at ≡ t
       record {
         high = ap (λ (x : Words). x .0) w;
         low = ap (λ (x : Words). x .1) w;
-        suited = rw is
-            (both-of (wellFormed m) (goes (isDown i) (Good m)) (f .within) (sym (ap (goes (isDown i)) q) ∙ parts .1));
+        suited = rw is (both-of (wellFormed m) _ (f .within) (sym (ap (goes (isDown i)) q) ∙ parts .1));
       }
 
   pub holds : Holds i b at
@@ -117,4 +111,6 @@ over-malformed h l over small = by-words h l small ∙ no-kind (h / 2 ^ 20) (h %
 
 pub over-fails : (down : Bool) (h l : ℕ) → 2 ^ 32 ≤ h → wordsGo down h l ≡ false
 over-fails down h l over =
-    by-test (ltb l (2 ^ 64)) (λ e. rw (e, over-malformed h l over (ltb-true l (2 ^ 64) e)) (nowhere down)) (λ e. rw e)
+    by-test (ltb l (2 ^ 64))
+    (λ e. rw (e, over-malformed h l over (ltb-true l (2 ^ 64) e)) (nowhere down))
+    (λ e. rw e)

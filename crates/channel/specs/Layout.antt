@@ -1,7 +1,8 @@
 -- What the memory of the channels stands for: for each channel the list of its messages, oldest first.
 --
--- `layout` says which numbers stand for such lists. It is the only way: the counts are the lists' lengths, a channel's messages
--- stand in its first slots, and a slot that is not used is zero (01: 'every unused place holds zero bytes').
+-- `layout` says which numbers stand for such lists. It is the only way: the counts are the lists' lengths, a
+-- channel's messages stand in its first slots, and a slot that is not used is zero (01: 'every unused place
+-- holds zero bytes').
 -- Assumes nothing.
 use Prim.Native.Nat.{ℕ, _-_, _*_, _≤_, _<_}
 use mathlib.Core.List.{List, [], _∷_, _++_}
@@ -9,21 +10,21 @@ use lib.ListN.{length, replicate}
 use Rattle.basics.specs.Tables.{listed, tabled}
 use Rattle.message.specs.declared.Message.{Message}
 use Rattle.message.specs.Layout.{wordsOf}
-use Rattle.channel.specs.Memory.{channels, slots, width, span}
+use Rattle.channel.specs.Memory.{channels, capacity, perMessage, perChannel}
 
 -- no channel holds more messages than it has slots
 abbrev pub Fitting : (ℕ → List Message) → Type 0
-Fitting ch = (i : ℕ) → i < channels → length (ch i) ≤ slots
+Fitting held = (i : ℕ) → i < channels → length (held i) ≤ capacity
 
 -- messages one behind the other, each in its two words
 unfoldable pub packed : List Message → List ℕ
 packed [] = []
-packed (m ∷ ms) = wordsOf m .0 ∷ wordsOf m .1 ∷ packed ms
+packed (message ∷ rest) = wordsOf message .0 ∷ wordsOf message .1 ∷ packed rest
 
 -- the slots of a channel: its messages, and zeros in the slots that are not used
 unfoldable pub row : List Message → List ℕ
-row ms = packed ms ++ replicate (span - length ms * width) 0
+row held = packed held ++ replicate (perChannel - length held * perMessage) 0
 
 -- the numbers of all channels: their counts, and their slots
 unfoldable pub layout : (ℕ → List Message) → List ℕ
-layout ch = listed (λ i. length (ch i)) channels ++ tabled (λ i. row (ch i)) channels
+layout held = listed (λ i. length (held i)) channels ++ tabled (λ i. row (held i)) channels

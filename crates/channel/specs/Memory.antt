@@ -1,7 +1,8 @@
 -- The memory of the channels, number by number (01: wires with their places).
 --
--- First stand the counts of the 156 channels, then for each channel eight slots of two numbers, oldest message first. A message
--- in a slot is its two words. What the numbers mean is said in `Layout`; here is what each operation does to any list of numbers.
+-- First stand the counts of the 156 channels, then for each channel eight slots of two numbers, oldest
+-- message first. A message in a slot is its two words. What the numbers mean is said in `Layout`; here is
+-- what each operation does to any list of numbers.
 --
 -- In order: sizes; parts of a channel; numbers written; put, oldest, take and clear.
 -- Assumes nothing.
@@ -12,61 +13,88 @@ use lib.Dec.{eqb, ltb}
 use lib.ListN.{getD, set}
 use Rattle.message.specs.declared.Words.{Words}
 
--- six clients and thirteen servers, a channel each way
+-- servers and clients that there are places for
+abbrev pub servers : ℕ
+servers = 13
+
+abbrev pub clients : ℕ
+clients = 6
+
+-- channels from clients to servers
+abbrev pub upward : ℕ
+upward = clients * servers
+
+-- all channels: as many go back
 abbrev pub channels : ℕ
-channels = 156
+channels = 2 * upward
 
 -- messages that a channel holds at most
-abbrev pub slots : ℕ
-slots = 8
+abbrev pub capacity : ℕ
+capacity = 8
 
 -- numbers of a message
-abbrev pub width : ℕ
-width = 2
+abbrev pub perMessage : ℕ
+perMessage = 2
 
 -- numbers of a channel's slots
-abbrev pub span : ℕ
-span = slots * width
+abbrev pub perChannel : ℕ
+perChannel = capacity * perMessage
 
--- where slot s of channel i begins
+-- numbers of all of them but the last: those that move down
+abbrev pub moved : ℕ
+moved = perChannel - perMessage
+
+-- numbers of the whole memory
+abbrev pub slotsLength : ℕ
+slotsLength = channels + channels * perChannel
+
+-- where the slots of channel i begin
+abbrev pub slotsStart : ℕ → ℕ
+slotsStart i = channels + i * perChannel
+
+-- where slot j of channel i begins
 abbrev pub slot : ℕ → ℕ → ℕ
-slot i s = channels + i * span + s * width
+slot i j = slotsStart i + j * perMessage
 
 -- how many messages channel i holds
 abbrev pub countAt : List ℕ → ℕ → ℕ
-countAt b i = getD b i 0
+countAt slots i = getD slots i 0
 
 -- n numbers from `at` on become v 0, v 1 and so on
 unfoldable pub filled : List ℕ → ℕ → (ℕ → ℕ) → ℕ → List ℕ
-filled b at v zero = b
-filled b at v (suc n) = set (filled b at v n) (at + n) (v n)
+filled slots at v zero = slots
+filled slots at v (suc n) = set (filled slots at v n) (at + n) (v n)
 
 -- n numbers from `at` on become zero
 abbrev pub zeroed : List ℕ → ℕ → ℕ → List ℕ
-zeroed b at n = filled b at (λ j. 0) n
+zeroed slots at n = filled slots at (λ j. 0) n
 
--- the two words w from `at` on
+-- the two words from `at` on
 abbrev pub stored : List ℕ → ℕ → Words → List ℕ
-stored b at w = set (set b at (w .0)) (at + 1) (w .1)
+stored slots at words = set (set slots at (words .0)) (at + 1) (words .1)
 
--- the message w behind those of channel i; a full channel stays as it is
+-- a message, in its two words, behind those of channel i; a full channel stays as it is
 unfoldable pub putOn : List ℕ → ℕ → Words → List ℕ
-putOn b i w =
-    cond (ltb (countAt b i) slots) (set (stored b (slot i (countAt b i)) w) i (countAt b i + 1)) b
+putOn slots i words =
+    let held = countAt slots i in
+    cond (ltb held capacity) (set (stored slots (slot i held) words) i (held + 1)) slots
 
--- the message in the first slot of channel i, which is the oldest; of the first number what a word of 32 bits holds
+-- the message in the first slot of channel i, which is the oldest; of the first number what a word of 32 bits
+-- holds
 unfoldable pub oldestOn : List ℕ → ℕ → Words
-oldestOn b i = record { 0 = getD b (slot i 0) 0 % 2 ^ 32; 1 = getD b (slot i 0 + 1) 0 }
+oldestOn slots i = record { 0 = getD slots (slotsStart i) 0 % 2 ^ 32; 1 = getD slots (slotsStart i + 1) 0 }
 
 -- each of the seven slots from `at` on gets what the next one held
 unfoldable pub shifted : List ℕ → ℕ → List ℕ
-shifted b at = filled b at (λ j. getD b (at + width + j) 0) 14
+shifted slots at = filled slots at (λ j. getD slots (at + perMessage + j) 0) moved
 
 -- channel i without its oldest message: the rest moves down, and the slot that falls free is zeroed
 unfoldable pub taken : List ℕ → ℕ → List ℕ
-taken b i =
-    cond (eqb (countAt b i) 0) b (set (zeroed (shifted b (slot i 0)) (slot i 7) width) i (countAt b i - 1))
+taken slots i =
+    let held = countAt slots i in
+    let rest = zeroed (shifted slots (slotsStart i)) (slot i (capacity - 1)) perMessage in
+    cond (eqb held 0) slots (set rest i (held - 1))
 
 -- channel i without messages
 unfoldable pub cleared : List ℕ → ℕ → List ℕ
-cleared b i = set (zeroed b (slot i 0) span) i 0
+cleared slots i = set (zeroed slots (slotsStart i) perChannel) i 0

@@ -5,6 +5,7 @@ pub mod Shown
 pub mod Outcomes
 pub mod Others
 pub mod Taking
+pub mod Lent
 pub mod Dropping
 pub mod Starting
 pub mod Fitting

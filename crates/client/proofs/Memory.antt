@@ -9,20 +9,16 @@
 -- `load-stored`); storing what was loaded (`store-load`, `store-view`); every memory's length, and the setup;
 -- a client that is loaded.
 -- Assumes nothing.
-use mathlib.Core.Path.{_≡_, refl, sym, ap, _∙_}
-use mathlib.Core.Bool.{Bool, true}
-use mathlib.Core.List.{List, [], _∷_, _++_, append-nil}
-use Prim.Native.Nat.{ℕ, _+_, _-_, _^_, _%_, _≤_, _<_}
-use native.Mathlib.Omega.{arith}
-use lib.Dec.{eqb, leb, ltb}
-use lib.ListN.{length, getD, take, drop, set, replicate, length-drop, length-append}
-use lib.Seq.{take-all, drop-cons, drop-length, drop-at, length-take-le, sets-eq}
-use borrow.Rule.Slice.PartMut.{putMid}
-use borrow.Author.Tests.{leb-true, le-leb, ltb-true, lt-ltb, eqb-true, eq-eqb}
+use Rattle.basics.proofs.Prelude.{_≡_, sym, ap, _∙_, Bool, true, List, [], _∷_, _++_, length, getD, set, drop}
+use Rattle.basics.proofs.Prelude.{replicate, length-append, ℕ, _%_, _^_, _≤_, _<_, arith, eqb, leb, ltb}
+use Rattle.basics.proofs.Prelude.{eqb-true, eq-eqb, leb-true, le-leb}
+use lib.Seq.{drop-cons, sets-eq}
 use Rattle.basics.proofs.Tests.{each, all-of}
 use Rattle.message.specs.declared.ReadNumber.{ReadNumber}
+use Rattle.message.specs.declared.WriteCounter.{WriteCounter}
 use Rattle.register.specs.declared.Phase.{Phase}
 use Rattle.register.specs.declared.Phase.the-variants.{Idle}
+use Rattle.register.specs.Settings.{mostClients}
 use Rattle.register.specs.Thresholds.{size}
 use Rattle.register.specs.Client as model
 use Rattle.register.specs.Client.{isReading, newClient, entryOf}
@@ -32,191 +28,138 @@ use Rattle.replies.proofs.Soundness.{facts, sound}
 use Rattle.replies.proofs.Stores.{row-length}
 use Rattle.replies.proofs.Storing.{store-held, store-cleared}
 use Rattle.client.specs.declared.Client.{Client}
-use Rattle.client.specs.State as inner
+use Rattle.client.specs.Memory.{words, readsAt, phaseAt, entryAt, counterAt, repliesAt, phaseOf}
 use Rattle.client.specs.Memory.{codeOf, counterIn, phaseIn, readsIn, loaded, headOf, stored, view}
 use Rattle.client.specs.Memory.{store}
-use Rattle.client.specs.Sound.{stores, isSoundEntry, isSoundCounter, isSound, isSoundMemory}
+use Rattle.client.specs.Sound.{mostFaulty, stores, isSoundHead, isSound, isSoundMemory}
 use Rattle.client.proofs.Facts.{client-facts, client-sound, of-client, of-memory, of-both}
+use Rattle.client.proofs.Facts.{Passes, passes}
 use Rattle.client.proofs.Heads.{Head, head-facts, head-sound, counter-fits, mod-small, phase-again}
 
 -- ---- the head and the rest
 
--- the part from the fourth number on is all of the rest
-pub rest-whole : (m : List ℕ) → take (length m - 4) (drop 4 m) ≡ drop 4 m
-rest-whole m = take-all (length m - 4) (drop 4 m) (omega (arith, length-drop 4 m))
+-- what `load` and `store` make, from what the calls answer
+pub loaded-by : (d f : ℕ) (memory : List ℕ) (w : WriteCounter) (ph : Phase) (t : ReadNumber)
+    → w ≡ record { 0 = getD memory counterAt 0 % 2 ^ 32 }
+    → ph ≡ phaseOf (getD memory phaseAt 0) (getD memory entryAt 0) (w .0)
+    → t ≡ readsIn memory → record { phase = ph; reads = t; number = d; f = f } ≡ loaded d f memory
+loaded-by d f memory w ph t ew ep et = rw (ep, ew, et)
 
--- what is put in its place stands there
-pub rest-put : (m r : List ℕ) → length m ≡ 95 → drop 4 (putMid 4 (length m - 4) m r) ≡ r
-rest-put m r long =
-    drop-at (take 4 m) (r ++ drop (length m - 4) (drop 4 m)) 4 (length-take-le 4 m (omega arith))
-    ∙ ap (λ (n : ℕ). r ++ drop n (drop 4 m)) (sym (length-drop 4 m))
-    ∙ ap (λ (l : List ℕ). r ++ l) (drop-length (drop 4 m))
-    ∙ append-nil r
+pub stored-by : (memory : List ℕ) (client : Client) (t code e w : ℕ) → length memory ≡ words
+    → t ≡ client .reads .0
+    → code ≡ codeOf (client .phase) → e ≡ entryOf (client .phase) .0 → w ≡ counterIn (client .phase)
+    → set (set (set (set memory readsAt t) phaseAt code) entryAt e) counterAt w ≡ stored memory client
+stored-by memory client t code e w long et ec ee ew =
+    sets-eq (t ∷ code ∷ e ∷ w ∷ []) memory 0 (omega arith) ∙ rw (et, ec, ee, ew)
 
-pub head-put : (m : List ℕ) (a b c d : ℕ) → length m ≡ 95
-    → set (set (set (set m 0 a) 1 b) 2 c) 3 d ≡ a ∷ b ∷ c ∷ d ∷ drop 4 m
-head-put m a b c d long = sets-eq (a ∷ b ∷ c ∷ d ∷ []) m 0 (omega arith)
-
-pub head-rest : (m : List ℕ) → length m ≡ 95
-    → getD m 0 0 ∷ getD m 1 0 ∷ getD m 2 0 ∷ getD m 3 0 ∷ drop 4 m ≡ m
-head-rest m long =
-    sym (drop-cons m 0 0 (omega arith) ∙ ap (λ (l : List ℕ). getD m 0 0 ∷ l) (drop-cons m 1 0 (omega arith)
-    ∙ ap (λ (l : List ℕ). getD m 1 0 ∷ l) (drop-cons m 2 0 (omega arith)
-    ∙ ap (λ (l : List ℕ). getD m 2 0 ∷ l) (drop-cons m 3 0 (omega arith)))))
+pub head-rest : (memory : List ℕ) → length memory ≡ words
+    → getD memory readsAt 0 ∷ getD memory phaseAt 0 ∷ getD memory entryAt 0 ∷ getD memory counterAt 0
+    ∷ drop repliesAt memory ≡ memory
+head-rest memory long =
+    rw (← drop-cons memory 3 0 (omega arith), ← drop-cons memory 2 0 (omega arith))
+    (rw (← drop-cons memory 1 0 (omega arith), ← drop-cons memory 0 0 (omega arith)))
 
 -- ---- a sound memory
 
-pub record SoundMemory (f : ℕ) (m : List ℕ) : Type 0 where
-  pub few : f ≤ 4
-  pub long : length m ≡ 95
-  pub reads : getD m 0 0 < 2 ^ 20
-  pub head : Head (getD m 1 0) (getD m 2 0) (getD m 3 0)
-  pub replies : areSound (size f) (isReading (phaseIn m)) (stores (phaseIn m)) (drop 4 m) ≡ true
+pub record SoundMemory (f : ℕ) (memory : List ℕ) : Type 0 where
+  pub few : f ≤ mostFaulty
+  pub long : length memory ≡ words
+  pub reads : getD memory readsAt 0 < 2 ^ 20
+  pub head : Head (getD memory phaseAt 0) (getD memory entryAt 0) (getD memory counterAt 0)
+  pub replies : areSound (size f) (isReading (phaseIn memory)) (stores (phaseIn memory))
+      (drop repliesAt memory) ≡ true
 
 abbrev tests : ℕ → List ℕ → List Bool
-tests f m =
-    leb f 4
-    ∷ eqb (length m) 95
-    ∷ ltb (getD m 0 0) (2 ^ 20)
-    ∷ leb (getD m 1 0) 3
-    ∷ isSoundEntry (getD m 1 0) (getD m 2 0)
-    ∷ isSoundCounter (getD m 1 0) (getD m 3 0)
-    ∷ areSound (size f) (isReading (phaseIn m)) (stores (phaseIn m)) (drop 4 m)
+tests f memory =
+    leb f mostFaulty
+    ∷ eqb (length memory) words
+    ∷ ltb (getD memory readsAt 0) (2 ^ 20)
+    ∷ isSoundHead (getD memory phaseAt 0) (getD memory entryAt 0) (getD memory counterAt 0)
+    ∷ areSound (size f) (isReading (phaseIn memory)) (stores (phaseIn memory)) (drop repliesAt memory)
     ∷ []
 
-pub memory-facts : (f : ℕ) (m : List ℕ) → isSoundMemory f m ≡ true → SoundMemory f m
+pub memory-facts : (f : ℕ) (memory : List ℕ) → isSoundMemory f memory ≡ true → SoundMemory f memory
 unfolding isSoundMemory
-memory-facts f m h =
-    let t = each (tests f m) h in
-    let u = t .1 .1 .1 in
-    record {
-      few = leb-true f 4 (t .0);
-      long = eqb-true (length m) 95 (t .1 .0);
-      reads = ltb-true (getD m 0 0) (2 ^ 20) (t .1 .1 .0);
-      head = head-facts (getD m 1 0) (getD m 2 0) (getD m 3 0) (u .0) (u .1 .0) (u .1 .1 .0);
-      replies = u .1 .1 .1 .0;
-    }
+memory-facts f memory h = let t = each (tests f memory) h in search (leb-true, eqb-true, head-facts)
+
+pub sound-by : (f : ℕ) (memory : List ℕ) {b : Bool} → Passes (tests f memory) b → b ≡ isSoundMemory f memory
+unfolding isSoundMemory
+sound-by f memory p = passes (tests f memory) p
 
 -- its client and its replies are sound
-pub sound-parts : (d f : ℕ) (m : List ℕ) → 1 ≤ d → d ≤ 6 → isSoundMemory f m ≡ true
-    → isSound (loaded d f m) (drop 4 m) ≡ true
-sound-parts d f m low high h =
-    let s = memory-facts f m h in
+pub sound-parts : (d f : ℕ) (memory : List ℕ) → 1 ≤ d → d ≤ mostClients → isSoundMemory f memory ≡ true
+    → isSound (loaded d f memory) (drop repliesAt memory) ≡ true
+sound-parts d f memory low high h =
+    let s = memory-facts f memory h in
     let small = s .reads in
-    of-both (loaded d f m) (drop 4 m)
-    (client-sound (loaded d f m)
+    of-both (loaded d f memory) (drop repliesAt memory)
+    (client-sound (loaded d f memory)
     (record { low = low; high = high; few = s .few; reads = omega arith; phase = s .head .sound }))
-    (facts (size f) (isReading (phaseIn m)) (stores (phaseIn m)) (drop 4 m) (s .replies))
+    (facts (size f) (isReading (phaseIn memory)) (stores (phaseIn memory)) (drop repliesAt memory)
+    (s .replies))
 
 -- a client that is sound with its replies makes a sound memory
-pub sound-whole : (c : Client) (r : List ℕ) → isSound c r ≡ true
-    → isSoundMemory (c .f) (headOf (c .phase) (c .reads) ++ r) ≡ true
+pub sound-whole : (client : Client) (replies : List ℕ) → isSound client replies ≡ true
+    → isSoundMemory (client .f) (headOf (client .phase) (client .reads) ++ replies) ≡ true
 unfolding isSoundMemory
-sound-whole c r h =
-    let m = headOf (c .phase) (c .reads) ++ r in
-    let s = client-facts c (of-client c r h) in
-    let o = of-memory c r h in
-    let t = head-sound (c .phase) (s .phase) in
-    let same = phase-again (c .phase) (counter-fits (c .phase) (s .phase)) in
-    let long : length m ≡ 95 = omega (arith, o .long) in
-    all-of (tests (c .f) m) (
-      le-leb (c .f) 4 (s .few),
-      (
-        eq-eqb (length m) 95 long,
-        (
-          lt-ltb (c .reads .0) (2 ^ 20) (s .reads),
-          (
-            t .code,
-            (
-              t .entry,
-              (
-                t .counter,
-                (
-                  ap (λ (ph : Phase). areSound (size (c .f)) (isReading ph) (stores ph) r) same
-                      ∙ sound (size (c .f)) (isReading (c .phase)) (stores (c .phase)) r o,
-                  tt,
-                ),
-              ),
-            ),
-          ),
-        ),
-      ),
-    )
+sound-whole client replies h =
+    let memory = headOf (client .phase) (client .reads) ++ replies in
+    let s = client-facts client (of-client client replies h) in
+    let o = of-memory client replies h in
+    let long : length memory ≡ words = omega (arith, o .long) in
+    let replies : areSound (size (client .f)) (isReading (phaseIn memory))
+    (stores (phaseIn memory)) replies ≡ true =
+    ap (λ (ph : Phase). areSound (size (client .f)) (isReading ph) (stores ph) replies)
+    (phase-again (client .phase) (counter-fits (client .phase) (s .phase)))
+    ∙ sound (size (client .f)) (isReading (client .phase)) (stores (client .phase)) replies o in
+    all-of (tests (client .f) memory) (search (le-leb, eq-eqb, head-sound))
 
 -- ---- loading what was stored
 
--- the head of what a model's client holds shows its phase and its read number
-pub phase-stored : (x : model.Client) → counterIn (x .phase) < 2 ^ 32 → phaseIn (store x) ≡ x .phase
-phase-stored x h = phase-again (x .phase) h
-
-pub reads-stored : (x : model.Client) → x .reads .0 < 2 ^ 32 → readsIn (store x) ≡ x .reads
-reads-stored x h = ap (λ (n : ℕ). record { 0 = n }) (mod-small (x .reads .0) h)
-
--- the rest are its replies
-pub rest-stored : (x : model.Client) → drop 4 (store x) ≡ storeReplies x
-rest-stored x = refl
-
--- so the memory shows the client again, where its replies do
+-- the memory shows the client again, where its replies do
 pub view-store : (x : model.Client) → counterIn (x .phase) < 2 ^ 32 → x .reads .0 < 2 ^ 32
     → held (x .phase) (x .reads) (storeReplies x) ≡ x
     → view (store x) ≡ x
-view-store x hw ht e =
-    ap (λ (ph : Phase). held ph (readsIn (store x)) (storeReplies x)) (phase-stored x hw)
-    ∙ ap (λ (t : ReadNumber). held (x .phase) t (storeReplies x)) (reads-stored x ht) ∙ e
+view-store x hw ht e = rw (phase-again (x .phase) hw, mod-small (x .reads .0) ht) e
 
-pub load-stored : (c : Client) (m : List ℕ) → counterIn (c .phase) < 2 ^ 32 → c .reads .0 < 2 ^ 32
-    → loaded (c .number) (c .f) (stored m c) ≡ c
-load-stored c m hw ht =
-    λ i. record {
-      number = c .number;
-      f = c .f;
-      phase = phase-again (c .phase) hw i;
-      reads = record { 0 = mod-small (c .reads .0) ht i };
-    }
+pub load-stored : (client : Client) (memory : List ℕ) → counterIn (client .phase) < 2 ^ 32
+    → client .reads .0 < 2 ^ 32
+    → loaded (client .number) (client .f) (stored memory client) ≡ client
+load-stored client memory hw ht = rw (phase-again (client .phase) hw, mod-small (client .reads .0) ht)
 
 -- ---- storing what was loaded
 
-module _ (f : ℕ) (m : List ℕ) (h : isSoundMemory f m ≡ true) where
-  head-same : headOf (phaseIn m) (readsIn m) ++ drop 4 m ≡ m
-  head-same =
-      let s = memory-facts f m h in
-      let reads : getD m 0 0 % 2 ^ 32 ≡ getD m 0 0 =
-      mod-small (getD m 0 0) (let small = s .reads in omega arith) in
-      rw (reads, s .head .same-code, s .head .same-entry, s .head .same-counter) (head-rest m (s .long))
+module _ (f : ℕ) (memory : List ℕ) (h : isSoundMemory f memory ≡ true) where
+  pub store-load : (d : ℕ) → stored memory (loaded d f memory) ≡ memory
+  store-load d =
+      let s = memory-facts f memory h in
+      let reads : getD memory readsAt 0 % 2 ^ 32 ≡ getD memory readsAt 0 =
+      mod-small (getD memory readsAt 0) (let small = s .reads in omega arith) in
+      rw (reads, s .head .same-code, s .head .same-entry, s .head .same-counter) (head-rest memory (s .long))
 
-  pub store-load : (d : ℕ) → stored m (loaded d f m) ≡ m
-  store-load d = head-same
-
-  pub store-view : store (view m) ≡ m
+  pub store-view : store (view memory) ≡ memory
   store-view =
-      let ph = phaseIn m in
-      ap (λ (r : List ℕ). headOf ph (readsIn m) ++ r)
-      (store-held (size f) (isReading ph) (stores ph) (drop 4 m)
-      (facts (size f) (isReading ph) (stores ph) (drop 4 m) (memory-facts f m h .replies)) ph (readsIn m))
-      ∙ head-same
+      let ph = phaseIn memory in
+      ap (λ (replies : List ℕ). headOf ph (readsIn memory) ++ replies)
+      (store-held (size f) (isReading ph) (stores ph) (drop repliesAt memory)
+      (facts (size f) (isReading ph) (stores ph) (drop repliesAt memory) (memory-facts f memory h .replies))
+      ph
+      (readsIn memory))
+      ∙ store-load 0
 
 -- ---- every memory, and the first
 
-pub store-length : (x : model.Client) → length (store x) ≡ 95
+pub store-length : (x : model.Client) → length (store x) ≡ words
 unfolding storeReplies
 store-length x = simp (length-append, row-length)
 
-pub store-new : store newClient ≡ replicate 95 0
+pub store-new : store newClient ≡ replicate words 0
 unfolding codeOf entryOf counterIn
-store-new = ap (λ (r : List ℕ). headOf Idle (record { 0 = 0 }) ++ r) (store-cleared Idle (record { 0 = 0 }))
+store-new = ap (λ (replies : List ℕ). headOf Idle (record { 0 = 0 }) ++ replies)
+    (store-cleared Idle (record { 0 = 0 }))
 
 -- ---- a client that is loaded from its memory
 
-pub loaded-self : (c : Client) (d f : ℕ) (m : List ℕ) → c ≡ loaded d f m → c ≡ loaded (c .number) (c .f) m
-loaded-self c d f m e = e ∙ ap (λ (x : Client). loaded (x .number) (x .f) m) (sym e)
-
-module _ (c : Client) (m : List ℕ) (e : c ≡ loaded (c .number) (c .f) m) where
-  -- it shows what the memory shows
-  pub loaded-view : inner.view c (drop 4 m) ≡ view m
-  loaded-view = ap (λ (x : Client). held (x .phase) (x .reads) (drop 4 m)) e
-
-  -- and is sound with its replies
-  pub loaded-sound : isSoundMemory (c .f) m ≡ true → 1 ≤ c .number → c .number ≤ 6 → isSound c (drop 4 m)
-      ≡ true
-  loaded-sound h low high =
-      ap (λ (x : Client). isSound x (drop 4 m)) e ∙ sound-parts (c .number) (c .f) m low high h
+pub loaded-self : (client : Client) (d f : ℕ) (memory : List ℕ) → client ≡ loaded d f memory
+    → client ≡ loaded (client .number) (client .f) memory
+loaded-self client d f memory e = e ∙ ap (λ (x : Client). loaded (x .number) (x .f) memory) (sym e)

@@ -1,94 +1,117 @@
--- What is left of a message, and of a phase, once one kind of it is ruled out.
+-- What a message, and a phase, can be once some kinds of it are ruled out.
 -- Assumes nothing.
-use mathlib.Core.Path.{_≡_, refl}
-use mathlib.Core.Bool.{true, false}
-use mathlib.Core.List.{List, [], _∷_}
-use Prim.Native.Nat.{ℕ}
+use Rattle.basics.proofs.Prelude.{_≡_, refl, sym, ap, _∙_, false, List, [], _∷_, ℕ}
 use types.Run.{OneOf, miss}
 use denote.Enum.Declared.{tagOf}
-use Rattle.basics.proofs.Cases.{true-or-false}
+use Rattle.message.specs.declared.Entry.{Entry}
 use Rattle.message.specs.declared.Message.{Message}
 use Rattle.message.specs.declared.Message.the-variants.{GetInfo, Info, Done, WriteInfo, Fwd, WriteAck}
+use Rattle.message.specs.declared.Pair.{Pair}
+use Rattle.message.specs.declared.ReadNumber.{ReadNumber}
 use Rattle.message.specs.declared.Unpacked.the-variants.{Good}
 use Rattle.message.specs.declared.WriteCounter.{WriteCounter}
 use Rattle.message.proofs.Message as M
 use Rattle.register.specs.declared.Phase.{Phase}
 use Rattle.register.specs.declared.Phase.the-variants.{Idle, Reading, ReadingForWrite, Storing}
-use Rattle.register.proofs.Phase as P
+use Rattle.register.proofs.Phase as phases
 use Rattle.register.specs.Client as model
-use Rattle.register.specs.Client.{isStoring}
+use Rattle.register.specs.Client.{isStoring, usesInfo, clientTakes}
 use Rattle.register.specs.Steps.{isReply}
 use Rattle.client.specs.declared.Client.{Client}
 use Rattle.client.specs.Memory.{counterIn}
-use Rattle.client.specs.Collecting.{isInfo, isAck, isCollected}
+use Rattle.client.specs.Sound.{stores}
+use Rattle.client.specs.Sends.{After, receivedOf}
+use Rattle.client.specs.Collecting.{isCollected, withReply, receivedPairOf}
 use Rattle.client.specs.Taking.{isTaken}
 
-pub not-info : (m : Message) → OneOf (0 ∷ 2 ∷ 3 ∷ 4 ∷ 5 ∷ []) (tagOf M.the-type m) → isInfo m ≡ false
-unfolding isInfo
-not-info (GetInfo t) k = refl
-not-info (Info t p) k = absurd (miss (0 ∷ 2 ∷ 3 ∷ 4 ∷ 5 ∷ []) 1 tt k)
-not-info Done k = refl
-not-info (WriteInfo p) k = refl
-not-info (Fwd p) k = refl
-not-info (WriteAck c) k = refl
+-- the tags of the other kinds
+abbrev noInfo : List ℕ
+noInfo = 0 ∷ 2 ∷ 3 ∷ 4 ∷ 5 ∷ []
 
-pub not-ack : (m : Message) → OneOf (0 ∷ 1 ∷ 2 ∷ 3 ∷ 4 ∷ []) (tagOf M.the-type m) → isAck m ≡ false
-unfolding isAck
-not-ack (GetInfo t) k = refl
-not-ack (Info t p) k = refl
-not-ack Done k = refl
-not-ack (WriteInfo p) k = refl
-not-ack (Fwd p) k = refl
-not-ack (WriteAck c) k = absurd (miss (0 ∷ 1 ∷ 2 ∷ 3 ∷ 4 ∷ []) 5 tt k)
+abbrev noFwd : List ℕ
+noFwd = 0 ∷ 1 ∷ 2 ∷ 3 ∷ 5 ∷ []
 
--- a message that is neither INFO nor FWD is not collected
-pub no-pair : (c : Client) (r : List ℕ) (k : ℕ) (m : Message)
-    → OneOf (0 ∷ 1 ∷ 2 ∷ 3 ∷ 5 ∷ []) (tagOf M.the-type m) → isInfo m ≡ false → isCollected c r k m ≡ false
-unfolding isCollected isInfo
-no-pair c r k (GetInfo t) o i = refl
-no-pair c r k (Info t p) o i = absurd (true-or-false true refl i)
-no-pair c r k Done o i = refl
-no-pair c r k (WriteInfo p) o i = refl
-no-pair c r k (Fwd p) o i = absurd (miss (0 ∷ 1 ∷ 2 ∷ 3 ∷ 5 ∷ []) 4 tt o)
-no-pair c r k (WriteAck a) o i = refl
+abbrev noAck : List ℕ
+noAck = 0 ∷ 1 ∷ 2 ∷ 3 ∷ 4 ∷ []
 
--- a message that is neither INFO nor FWD nor WRITE_ACK is not taken
-pub no-reply : (x : model.Client) (k : ℕ) (m : Message) → OneOf (0 ∷ 1 ∷ 2 ∷ 3 ∷ 5 ∷ []) (tagOf M.the-type m)
-    → OneOf (0 ∷ 1 ∷ 2 ∷ 3 ∷ 4 ∷ []) (tagOf M.the-type m)
-    → OneOf (0 ∷ 2 ∷ 3 ∷ 4 ∷ 5 ∷ []) (tagOf M.the-type m)
-    → isTaken x k m ≡ false
+-- a fact of a message that is neither INFO nor FWD
+by-other : (P : Message → Type 0) → ((t : ReadNumber) → P (GetInfo t)) → P Done
+    → ((p : Pair) → P (WriteInfo p))
+    → ((w : WriteCounter) → P (WriteAck w)) → (message : Message) → OneOf noInfo (tagOf M.the-type message)
+    → OneOf noFwd (tagOf M.the-type message) → P message
+by-other P get done write ack (GetInfo t) i f = get t
+by-other P get done write ack (Info t p) i f = absurd (miss noInfo 1 tt i)
+by-other P get done write ack Done i f = done
+by-other P get done write ack (WriteInfo p) i f = write p
+by-other P get done write ack (Fwd p) i f = absurd (miss noFwd 4 tt f)
+by-other P get done write ack (WriteAck w) i f = ack w
+
+-- it is not collected
+pub no-pair : (client : Client) (replies : List ℕ) (k : ℕ) (message : Message)
+    → OneOf noInfo (tagOf M.the-type message)
+    → OneOf noFwd (tagOf M.the-type message) → isCollected client replies k message ≡ false
+unfolding isCollected
+no-pair client replies k =
+    by-other (λ (message : Message). isCollected client replies k message ≡ false) (λ t. refl) refl
+    (λ p. refl) (λ w. refl)
+
+-- and if it is no WRITE_ACK either, it is not taken, and is no reply
+pub none-taken : (x : model.Client) (k : ℕ) (message : Message) → OneOf noInfo (tagOf M.the-type message)
+    → OneOf noFwd (tagOf M.the-type message) → OneOf noAck (tagOf M.the-type message)
+    → false ≡ isTaken x k message
 unfolding isTaken
-no-reply x k (GetInfo t) f a i = refl
-no-reply x k (Info t p) f a i = absurd (miss (0 ∷ 2 ∷ 3 ∷ 4 ∷ 5 ∷ []) 1 tt i)
-no-reply x k Done f a i = refl
-no-reply x k (WriteInfo p) f a i = refl
-no-reply x k (Fwd p) f a i = absurd (miss (0 ∷ 1 ∷ 2 ∷ 3 ∷ 5 ∷ []) 4 tt f)
-no-reply x k (WriteAck w) f a i = absurd (miss (0 ∷ 1 ∷ 2 ∷ 3 ∷ 4 ∷ []) 5 tt a)
+none-taken x k =
+    by-other (λ (message : Message). OneOf noAck (tagOf M.the-type message) → false ≡ isTaken x k message)
+    (λ t a. refl) (λ a. refl)
+    (λ p a. refl) (λ w a. absurd (miss noAck 5 tt a))
 
--- nor is it a reply
-pub not-reply : (m : Message) → OneOf (0 ∷ 1 ∷ 2 ∷ 3 ∷ 5 ∷ []) (tagOf M.the-type m)
-    → OneOf (0 ∷ 1 ∷ 2 ∷ 3 ∷ 4 ∷ []) (tagOf M.the-type m)
-    → OneOf (0 ∷ 2 ∷ 3 ∷ 4 ∷ 5 ∷ []) (tagOf M.the-type m)
-    → isReply (Good m) ≡ false
+pub no-reply : (message : Message) → OneOf noInfo (tagOf M.the-type message)
+    → OneOf noFwd (tagOf M.the-type message)
+    → OneOf noAck (tagOf M.the-type message) → false ≡ isReply (Good message)
 unfolding isReply
-not-reply (GetInfo t) f a i = refl
-not-reply (Info t p) f a i = absurd (miss (0 ∷ 2 ∷ 3 ∷ 4 ∷ 5 ∷ []) 1 tt i)
-not-reply Done f a i = refl
-not-reply (WriteInfo p) f a i = refl
-not-reply (Fwd p) f a i = absurd (miss (0 ∷ 1 ∷ 2 ∷ 3 ∷ 5 ∷ []) 4 tt f)
-not-reply (WriteAck w) f a i = absurd (miss (0 ∷ 1 ∷ 2 ∷ 3 ∷ 4 ∷ []) 5 tt a)
+no-reply =
+    by-other (λ (message : Message). OneOf noAck (tagOf M.the-type message) → false ≡ isReply (Good message))
+    (λ t a. refl)
+    (λ a. refl) (λ p a. refl) (λ w a. absurd (miss noAck 5 tt a))
 
-pub not-storing : (ph : Phase) (c : WriteCounter) → OneOf (0 ∷ 1 ∷ 2 ∷ []) (tagOf P.the-type ph)
-    → isStoring ph c ≡ false
+-- what is no WRITE_ACK is received as INFO and FWD are
+pub as-pair : (client : Client) (replies : List ℕ) (k : ℕ) (message : Message) (a : After)
+    → OneOf noAck (tagOf M.the-type message)
+    → a ≡ receivedPairOf client replies k message → a ≡ receivedOf client replies k message
+unfolding isCollected withReply usesInfo clientTakes
+as-pair client replies k (GetInfo t) a o e = e
+as-pair client replies k (Info t p) a o e = e
+as-pair client replies k Done a o e = e
+as-pair client replies k (WriteInfo p) a o e = e
+as-pair client replies k (Fwd p) a o e = e
+as-pair client replies k (WriteAck w) a o e = absurd (miss noAck 5 tt o)
+
+pub same-receipt : (client : Client) (replies : List ℕ) (k : ℕ) (message n : Message) (a : After)
+    → message ≡ n
+    → a ≡ receivedOf client replies k n → a ≡ receivedOf client replies k message
+same-receipt client replies k message n a same e = e ∙ ap (receivedOf client replies k) (sym same)
+
+-- ---- a phase that does not store
+
+abbrev noStoring : List ℕ
+noStoring = 0 ∷ 1 ∷ 2 ∷ []
+
+by-earlier : (P : Phase → Type 0) → P Idle → P Reading → ((e : Entry) → P (ReadingForWrite e)) → (ph : Phase)
+    → OneOf noStoring (tagOf phases.the-type ph) → P ph
+by-earlier P idle read write Idle o = idle
+by-earlier P idle read write Reading o = read
+by-earlier P idle read write (ReadingForWrite e) o = write e
+by-earlier P idle read write (Storing e w) o = absurd (miss noStoring 3 tt o)
+
+pub not-storing : (ph : Phase) → OneOf noStoring (tagOf phases.the-type ph) → false ≡ stores ph
+unfolding stores
+not-storing = by-earlier (λ (ph : Phase). false ≡ stores ph) refl refl (λ e. refl)
+
+pub not-storing-with : (ph : Phase) (w : WriteCounter) → OneOf noStoring (tagOf phases.the-type ph)
+    → false ≡ isStoring ph w
 unfolding isStoring
-not-storing Idle c k = refl
-not-storing Reading c k = refl
-not-storing (ReadingForWrite e) c k = refl
-not-storing (Storing e w) c k = absurd (miss (0 ∷ 1 ∷ 2 ∷ []) 3 tt k)
+not-storing-with ph w = by-earlier (λ (x : Phase). false ≡ isStoring x w) refl refl (λ e. refl) ph
 
-pub no-counter : (ph : Phase) → OneOf (0 ∷ 1 ∷ 2 ∷ []) (tagOf P.the-type ph) → counterIn ph ≡ 0
+pub no-counter : (ph : Phase) → OneOf noStoring (tagOf phases.the-type ph) → 0 ≡ counterIn ph
 unfolding counterIn
-no-counter Idle k = refl
-no-counter Reading k = refl
-no-counter (ReadingForWrite e) k = refl
-no-counter (Storing e w) k = absurd (miss (0 ∷ 1 ∷ 2 ∷ []) 3 tt k)
+no-counter = by-earlier (λ (ph : Phase). 0 ≡ counterIn ph) refl refl (λ e. refl)

@@ -1,111 +1,146 @@
 -- What a client's memory shows after each change of it: the model's change. And every change keeps the state
 -- sound.
 -- Assumes nothing.
-use mathlib.Core.Path.{_≡_, ap, _∙_}
-use mathlib.Core.Bool.{true}
-use mathlib.Core.List.{List}
-use Prim.Native.Nat.{ℕ, suc, _^_, _≤_, _<_}
-use native.Mathlib.Omega.{arith}
-use lib.ListN.{length, replicate}
-use Rattle.basics.specs.Update.{update}
+use Rattle.basics.proofs.Prelude.{_≡_, ap, _∙_, true, List, length, replicate, ℕ, suc, _-_, _^_, _≤_, _<_}
+use Rattle.basics.proofs.Prelude.{arith}
 use Rattle.message.specs.declared.Pair.{Pair}
 use Rattle.message.specs.Pair.{stamp}
 use Rattle.message.proofs.Pairs.{stamp-fits}
 use Rattle.register.specs.Thresholds.{size}
 use Rattle.register.specs.PairSet.{add}
-use Rattle.register.specs.Client.{isReading, withPair, withInfo, withAck}
-use Rattle.replies.specs.Replies.{setIn, putNote, putAck, putSet}
+use Rattle.register.specs.Settings.{mostServers}
+use Rattle.register.specs.Client.{setLimit, isReading, withPair, withInfo, withAck}
+use Rattle.replies.specs.Replies.{setIn, putNote, putAck, putSet, Padded, replyWords}
 use Rattle.replies.proofs.Places.{size-most}
-use Rattle.replies.proofs.Soundness.{Sound, note-sound, set-sound, ack-sound, empty-sound, add-length}
+use Rattle.replies.proofs.Soundness as soundness
+use Rattle.replies.proofs.Soundness.{set-sound, empty-sound, add-length, padded}
 use Rattle.replies.proofs.Views.{note-length, note-noted, note-sets, note-acks, set-noted, set-sets, set-acks}
 use Rattle.replies.proofs.Views.{ack-noted, ack-sets, ack-acks}
 use Rattle.client.specs.declared.Client.{Client}
 use Rattle.client.specs.State.{view}
-use Rattle.client.specs.Sound.{stores, isSound}
-use Rattle.client.proofs.Facts.{of-client, of-memory, of-both, client-facts}
+use Rattle.client.specs.Sound.{mostFaulty, stores, isSoundClient, isSound}
+use Rattle.client.proofs.Facts.{of-client, of-memory, of-both, client-facts, client-number}
 
 -- the memory with a pair added, and with its timestamp noted too
 abbrev pub paired : List ℕ → ℕ → Pair → List ℕ
-paired r i p = putSet r i (add 4 p (setIn r (suc i)))
+paired replies i pair = putSet replies i (add setLimit pair (setIn replies (suc i)))
 
 abbrev pub informed : List ℕ → ℕ → Pair → List ℕ
-informed r i p = paired (putNote r i (stamp p)) i p
+informed replies i pair = paired (putNote replies i (stamp pair)) i pair
 
-module _ (c : Client) (r : List ℕ) (i : ℕ) (long : length r ≡ 91) (ih : i < 13) where
-  small : (s : List ℕ) (p : Pair) → length s ≡ 91 → length (add 4 p (setIn s (suc i))) ≤ 4
-  small s p ls = add-length 4 p (setIn s (suc i)) (size-most s i ls ih)
+module _ (client : Client) (replies : List ℕ) (i : ℕ) (long : length replies ≡ replyWords)
+    (ih : i < mostServers) where
+  small : (s : List ℕ) (pair : Pair) → length s ≡ replyWords
+      → length (add setLimit pair (setIn s (suc i))) ≤ setLimit
+  small s pair ls = add-length setLimit pair (setIn s (suc i)) (size-most s i ls ih)
 
-  pub pair-shown : (p : Pair) → view c (paired r i p) ≡ withPair (view c r) (suc i) p
+  pair-shown : (pair : Pair) → view client (paired replies i pair) ≡ withPair (view client replies)
+      (suc i) pair
   unfolding withPair
-  pair-shown p =
-      λ q. record {
-        phase = c .phase;
-        reads = c .reads;
-        noted = set-noted r i (add 4 p (setIn r (suc i))) long ih (small r p long) q;
-        sets = set-sets r i (add 4 p (setIn r (suc i))) long ih (small r p long) q;
-        acks = set-acks r i (add 4 p (setIn r (suc i))) long ih (small r p long) q;
-      }
+  pair-shown pair =
+      let l = add setLimit pair (setIn replies (suc i)) in
+      let few = small replies pair long in
+      rw (
+        set-noted replies i l long ih few,
+        set-sets replies i l long ih few,
+        set-acks replies i l long ih few,
+      )
 
-  pub info-shown : (p : Pair) → view c (informed r i p) ≡ withInfo (view c r) (suc i) p
+  info-shown : (pair : Pair) → view client (informed replies i pair) ≡ withInfo (view client replies)
+      (suc i) pair
   unfolding withInfo
-  info-shown p =
-      let s = putNote r i (stamp p) in
-      let ls = note-length r i (stamp p) long ih in
-      let l = add 4 p (setIn s (suc i)) in
-      let few = small s p ls in
-      λ q. record {
-        phase = c .phase;
-        reads = c .reads;
-        noted = (set-noted s i l ls ih few ∙ note-noted r i (stamp p) long ih) q;
-        sets = (set-sets s i l ls ih few
-            ∙ ap (λ (g : ℕ → List Pair). update g (suc i) (add 4 p (g (suc i))))
-            (note-sets r i (stamp p) long ih)) q;
-        acks = (set-acks s i l ls ih few ∙ note-acks r i (stamp p) long ih) q;
-      }
+  info-shown pair =
+      let t = stamp pair in
+      let s = putNote replies i t in
+      let ls = note-length replies i t long ih in
+      let l = add setLimit pair (setIn s (suc i)) in
+      let few = small s pair ls in
+      rw (set-noted s i l ls ih few, set-sets s i l ls ih few, set-acks s i l ls ih few)
+      (rw (note-noted replies i t long ih, note-sets replies i t long ih, note-acks replies i t long ih))
 
-  pub ack-shown : view c (putAck r i) ≡ withAck (view c r) (suc i)
+  ack-shown : view client (putAck replies i) ≡ withAck (view client replies) (suc i)
   unfolding withAck
-  ack-shown =
-      λ q. record {
-        phase = c .phase;
-        reads = c .reads;
-        noted = ack-noted r i long ih q;
-        sets = ack-sets r i long ih q;
-        acks = ack-acks r i long ih q;
-      }
+  ack-shown = rw (ack-noted replies i long ih, ack-sets replies i long ih, ack-acks replies i long ih)
 
--- ---- soundness
+-- ---- a sound state
 
-module _ (c : Client) (r : List ℕ) (i : ℕ) (h : isSound c r ≡ true) (inside : i < size (c .f)) where
-  place : i < 13
-  place = let few = client-facts c (of-client c r h) .few in omega arith
+module _ (client : Client) (replies : List ℕ) (h : isSound client replies ≡ true) where
+  pub sound-long : length replies ≡ replyWords
+  sound-long = of-memory client replies h .long
 
-  pub pair-sound : isReading (c .phase) ≡ true → (p : Pair) → isSound c (paired r i p) ≡ true
-  pair-sound reading p =
-      of-both c (paired r i p) (of-client c r h)
-      (rw reading (set-sound (size (c .f)) r i inside place (stores (c .phase)) p
-      (rw reading at (of-memory c r h))))
+  pub sound-few : client .f ≤ mostFaulty
+  sound-few = client-facts client (of-client client replies h) .few
 
-  pub note-keeps : isReading (c .phase) ≡ true → (t : ℕ) → t < 2 ^ 24 → isSound c (putNote r i t) ≡ true
-  note-keeps reading t fits =
-      of-both c (putNote r i t) (of-client c r h)
-      (rw reading (note-sound (size (c .f)) r i inside place (stores (c .phase)) t fits
-      (rw reading at (of-memory c r h))))
+  pub sound-number : client .number < 2 ^ 4
+  sound-number = client-number client (of-client client replies h)
 
-  pub ack-keeps : stores (c .phase) ≡ true → isSound c (putAck r i) ≡ true
-  ack-keeps storing =
-      of-both c (putAck r i) (of-client c r h)
-      (rw storing (ack-sound (size (c .f)) r i inside place (isReading (c .phase))
-      (rw storing at (of-memory c r h))))
+  pub padded-at : (i : ℕ) → i < mostServers → Padded replies i
+  padded-at = padded (size (client .f)) (isReading (client .phase)) (stores (client .phase)) replies
+      (of-memory client replies h)
 
-pub info-sound : (c : Client) (r : List ℕ) (i : ℕ) (p : Pair) → isSound c r ≡ true → i < size (c .f)
-    → isReading (c .phase) ≡ true → p .0 < 2 ^ 64 → isSound c (informed r i p) ≡ true
-info-sound c r i p h inside reading fits =
-    pair-sound c (putNote r i (stamp p)) i (note-keeps c r i h inside reading (stamp p) (stamp-fits p fits))
-    inside
-    reading p
+-- what server k changes
+module _ (client : Client) (replies : List ℕ) (k : ℕ) (h : isSound client replies ≡ true) (low : 1 ≤ k)
+    (high : k ≤ size (client .f)) where
+  pub place : k - 1 < mostServers
+  place = omega (arith, sound-few client replies h)
 
-pub empty-keeps : (c : Client) → Rattle.client.specs.Sound.isSoundClient c ≡ true
-    → isSound c (replicate 91 0) ≡ true
-empty-keeps c h =
-    of-both c (replicate 91 0) h (empty-sound (size (c .f)) (isReading (c .phase)) (stores (c .phase)))
+  pub at-most : k ≤ mostServers
+  at-most = omega (arith, place)
+
+  number : suc (k - 1) ≡ k
+  number = omega arith
+
+  inside : k - 1 < size (client .f)
+  inside = omega arith
+
+  pub pair-view : (pair : Pair) → view client (paired replies (k - 1) pair) ≡ withPair
+      (view client replies) k pair
+  pair-view pair =
+      pair-shown client replies (k - 1) (sound-long client replies h) place pair
+      ∙ ap (λ (j : ℕ). withPair (view client replies) j pair) number
+
+  pub info-view : (pair : Pair) → view client (informed replies (k - 1) pair) ≡ withInfo
+      (view client replies) k pair
+  info-view pair =
+      info-shown client replies (k - 1) (sound-long client replies h) place pair
+      ∙ ap (λ (j : ℕ). withInfo (view client replies) j pair) number
+
+  pub ack-view : view client (putAck replies (k - 1)) ≡ withAck (view client replies) k
+  ack-view = ack-shown client replies (k - 1) (sound-long client replies h) place
+      ∙ ap (withAck (view client replies)) number
+
+  pub pair-sound : isReading (client .phase) ≡ true → (pair : Pair)
+      → isSound client (paired replies (k - 1) pair) ≡ true
+  pair-sound reading pair =
+      of-both client (paired replies (k - 1) pair) (of-client client replies h)
+      (rw reading (set-sound (size (client .f)) replies (k - 1) inside place (stores (client .phase)) pair
+      (rw reading at (of-memory client replies h))))
+
+  pub note-sound : isReading (client .phase) ≡ true → (t : ℕ) → t < 2 ^ 24
+      → isSound client (putNote replies (k - 1) t) ≡ true
+  note-sound reading t fits =
+      of-both client (putNote replies (k - 1) t) (of-client client replies h)
+      (rw reading (soundness.note-sound (size (client .f)) replies (k - 1) inside place
+      (stores (client .phase)) t fits
+      (rw reading at (of-memory client replies h))))
+
+  pub ack-sound : stores (client .phase) ≡ true → isSound client (putAck replies (k - 1)) ≡ true
+  ack-sound storing =
+      of-both client (putAck replies (k - 1)) (of-client client replies h)
+      (rw storing (soundness.ack-sound (size (client .f)) replies (k - 1) inside place
+      (isReading (client .phase))
+      (rw storing at (of-memory client replies h))))
+
+pub info-sound : (client : Client) (replies : List ℕ) (k : ℕ) → isSound client replies ≡ true → 1 ≤ k
+    → k ≤ size (client .f)
+    → isReading (client .phase) ≡ true → (pair : Pair) → pair .0 < 2 ^ 64
+    → isSound client (informed replies (k - 1) pair) ≡ true
+info-sound client replies k h low high reading pair fits =
+    pair-sound client (putNote replies (k - 1) (stamp pair)) k
+    (note-sound client replies k h low high reading (stamp pair) (stamp-fits pair fits)) low high reading pair
+
+pub empty-keeps : (client : Client) → isSoundClient client ≡ true
+    → isSound client (replicate replyWords 0) ≡ true
+empty-keeps client h =
+    of-both client (replicate replyWords 0) h (empty-sound (size (client .f)) (isReading (client .phase))
+    (stores (client .phase)))

@@ -1,4 +1,4 @@
--- The client end as its user calls it: the refusals of each entry point, lowest first, and what it comes to
+-- The client end as its user calls it: the refusals of each entry point, lowest first, and its outcome
 -- otherwise.
 --
 -- Refused, a step leaves the memory as it was and sends nothing.
@@ -32,12 +32,12 @@ use Rattle.client.specs.Outcome.{After, startedOf, takenOf}
 
 -- a refusal sends nothing and leaves the memory as it was
 abbrev pub refusedBy : List ℕ → Refusal → After
-refusedBy m x = record { memory = m; sends = []; answer = Refused x }
+refusedBy memory x = record { memory = memory; sends = []; answer = Refused x }
 
 -- 01's answer: WENT, READ, WROTE or SPENT as the step has it, or REFUSED 3, 4, 7, 8, 9 or 11
 abbrev pub decided : List ℕ → Option Refusal → After → After
-decided m none a = a
-decided m (some x) a = refusedBy m x
+decided memory none a = a
+decided memory (some x) a = refusedBy memory x
 
 -- ---- who there is: clients 1 to 6, and for f the servers 1 to 3f + 1
 
@@ -47,43 +47,46 @@ isClient d = leb 1 d && leb d mostClients
 abbrev pub isServer : ℕ → ℕ → Bool
 isServer f k = leb 1 k && leb k (size f)
 
--- ---- a read, and a write with its entry, of client d, where f servers may be faulty, in the memory m
+-- ---- a read, and a write with its entry, of client d, where f servers may be faulty, in its memory
 
 abbrev pub readRefusals : ℕ → ℕ → List ℕ → List Rung
-readRefusals d f m =
-    3 whenever not (isSoundMemory f m)
+readRefusals d f memory =
+    3 whenever not (isSoundMemory f memory)
     ∷ 4 whenever not (isClient d)
-    ∷ 7 whenever not (isIdle (phaseIn m))
-    ∷ 11 whenever leb lastRead (readsIn m .0)
+    ∷ 7 whenever not (isIdle (phaseIn memory))
+    ∷ 11 whenever leb lastRead (readsIn memory .0)
     ∷ []
 
 abbrev pub writeRefusals : ℕ → ℕ → List ℕ → Entry → List Rung
-writeRefusals d f m e =
-    3 whenever not (isSoundMemory f m)
+writeRefusals d f memory e =
+    3 whenever not (isSoundMemory f memory)
     ∷ 4 whenever not (isClient d)
-    ∷ 7 whenever not (isIdle (phaseIn m))
+    ∷ 7 whenever not (isIdle (phaseIn memory))
     ∷ 8 whenever not (isLicence (e .0))
-    ∷ 11 whenever leb lastRead (readsIn m .0)
+    ∷ 11 whenever leb lastRead (readsIn memory .0)
     ∷ []
 
 unfoldable pub readOf : ℕ → ℕ → List ℕ → After
-readOf d f m = decided m (lowest (readRefusals d f m)) (startedOf m Reading)
+readOf d f memory = decided memory (lowest (readRefusals d f memory)) (startedOf memory Reading)
 
 unfoldable pub writeOf : ℕ → ℕ → List ℕ → Entry → After
-writeOf d f m e = decided m (lowest (writeRefusals d f m e)) (startedOf m (ReadingForWrite e))
+writeOf d f memory e = decided memory (lowest (writeRefusals d f memory e))
+    (startedOf memory (ReadingForWrite e))
 
 -- ---- bytes from server k
 
 abbrev pub takeRefusals : ℕ → ℕ → List ℕ → ℕ → List ℕ → List Rung
-takeRefusals d f m k bytes =
-    3 whenever not (isSoundMemory f m)
+takeRefusals d f memory k bytes =
+    3 whenever not (isSoundMemory f memory)
     ∷ 4 whenever not (isClient d && isServer f k)
     ∷ 9 whenever not (isReply (unpackOf bytes))
     ∷ []
 
-abbrev pub takesIt : ℕ → ℕ → List ℕ → ℕ → Unpacked → After
-takesIt d f m k (Good x) = takenOf d f m k x
-takesIt d f m k (Refused r) = refusedBy m r
+-- by what they unpack to
+abbrev pub receivedAs : ℕ → ℕ → List ℕ → ℕ → Unpacked → After
+receivedAs d f memory k (Good x) = takenOf d f memory k x
+receivedAs d f memory k (Refused r) = refusedBy memory r
 
 unfoldable pub takeOf : ℕ → ℕ → List ℕ → ℕ → List ℕ → After
-takeOf d f m k bytes = decided m (lowest (takeRefusals d f m k bytes)) (takesIt d f m k (unpackOf bytes))
+takeOf d f memory k bytes = decided memory (lowest (takeRefusals d f memory k bytes))
+    (receivedAs d f memory k (unpackOf bytes))

@@ -5,4 +5,5 @@ pub mod Sends
 pub mod Taking
 pub mod Outcome
 pub mod Entry
+pub mod Starting
 pub mod Collecting

@@ -6,7 +6,7 @@
 -- In order: the places; a phase as numbers; the client that a step loads, and its head stored again; what a
 -- memory shows, and the memory of what a model's client holds.
 -- Assumes nothing.
-use Prim.Native.Nat.{ℕ, _^_, _%_}
+use Prim.Native.Nat.{ℕ, _+_, _^_, _%_}
 use mathlib.Core.Bool.{cond}
 use mathlib.Core.List.{List, [], _∷_, _++_}
 use lib.Dec.{eqb}
@@ -16,7 +16,7 @@ use Rattle.register.specs.declared.Phase.{Phase}
 use Rattle.register.specs.declared.Phase.the-variants.{Idle, Reading, ReadingForWrite, Storing}
 use Rattle.register.specs.Client as model
 use Rattle.register.specs.Client.{entryOf}
-use Rattle.replies.specs.Replies.{held, storeReplies}
+use Rattle.replies.specs.Replies.{held, storeReplies, replyWords}
 use Rattle.client.specs.declared.Client.{Client}
 
 -- ---- the places
@@ -36,9 +36,9 @@ counterAt = 3
 abbrev pub repliesAt : ℕ
 repliesAt = 4
 
--- all of it: the replies are 91
+-- all of it
 abbrev pub words : ℕ
-words = 95
+words = repliesAt + replyWords
 
 -- ---- a phase as numbers
 
@@ -66,14 +66,14 @@ counterIn (Storing e w) = w .0
 
 -- the phase and the read number in a memory; of a number that is loaded to 32 bits the low ones count
 abbrev pub phaseIn : List ℕ → Phase
-phaseIn m = phaseOf (getD m phaseAt 0) (getD m entryAt 0) (getD m counterAt 0 % 2 ^ 32)
+phaseIn memory = phaseOf (getD memory phaseAt 0) (getD memory entryAt 0) (getD memory counterAt 0 % 2 ^ 32)
 
 abbrev pub readsIn : List ℕ → ReadNumber
-readsIn m = record { 0 = getD m readsAt 0 % 2 ^ 32 }
+readsIn memory = record { 0 = getD memory readsAt 0 % 2 ^ 32 }
 
 -- the client with a number and for f, loaded
 abbrev pub loaded : ℕ → ℕ → List ℕ → Client
-loaded d f m = record { number = d; f = f; phase = phaseIn m; reads = readsIn m }
+loaded d f memory = record { number = d; f = f; phase = phaseIn memory; reads = readsIn memory }
 
 -- the four numbers before the replies
 abbrev pub headOf : Phase → ReadNumber → List ℕ
@@ -81,13 +81,13 @@ headOf ph t = t .0 ∷ codeOf ph ∷ entryOf ph .0 ∷ counterIn ph ∷ []
 
 -- a memory with the head of a client
 abbrev pub stored : List ℕ → Client → List ℕ
-stored m c = headOf (c .phase) (c .reads) ++ drop repliesAt m
+stored memory client = headOf (client .phase) (client .reads) ++ drop repliesAt memory
 
 -- ---- the model's client
 
 -- what a memory shows
 abbrev pub view : List ℕ → model.Client
-view m = held (phaseIn m) (readsIn m) (drop repliesAt m)
+view memory = held (phaseIn memory) (readsIn memory) (drop repliesAt memory)
 
 -- the memory of what a model's client holds
 abbrev pub store : model.Client → List ℕ

@@ -19,34 +19,39 @@ use Rattle.replies.specs.Sound.{areSound}
 use Rattle.client.specs.declared.Client.{Client}
 use Rattle.client.specs.Memory.{readsAt, phaseAt, entryAt, counterAt, repliesAt, words, phaseIn}
 
+-- f is at most 4 (01, 'Rehearsal')
+abbrev pub mostFaulty : ℕ
+mostFaulty = 4
+
 -- 'a phase's entry is a licence entry', and a counter has 20 bits
 unfoldable pub isSoundPhase : Phase → Bool
 isSoundPhase Idle = true
 isSoundPhase Reading = true
 isSoundPhase (ReadingForWrite e) = isLicence (e .0)
-isSoundPhase (Storing e c) = isLicence (e .0) && ltb (c .0) (2 ^ 20)
+isSoundPhase (Storing e w) = isLicence (e .0) && ltb (w .0) (2 ^ 20)
 
 -- storing, with whatever counter
 unfoldable pub stores : Phase → Bool
 stores Idle = false
 stores Reading = false
 stores (ReadingForWrite e) = false
-stores (Storing e c) = true
+stores (Storing e w) = true
 
 -- the client: its number, f and its read number are in range
 unfoldable pub isSoundClient : Client → Bool
-isSoundClient c =
+isSoundClient client =
     allPass
-    (leb 1 (c .number)
-    ∷ leb (c .number) mostClients
-    ∷ leb (c .f) 4
-    ∷ ltb (c .reads .0) (2 ^ 20)
-    ∷ isSoundPhase (c .phase)
+    (leb 1 (client .number)
+    ∷ leb (client .number) mostClients
+    ∷ leb (client .f) mostFaulty
+    ∷ ltb (client .reads .0) (2 ^ 20)
+    ∷ isSoundPhase (client .phase)
     ∷ [])
 
 -- the client and its replies
 unfoldable pub isSound : Client → List ℕ → Bool
-isSound c r = isSoundClient c && areSound (size (c .f)) (isReading (c .phase)) (stores (c .phase)) r
+isSound client replies = isSoundClient client && areSound (size (client .f)) (isReading (client .phase))
+    (stores (client .phase)) replies
 
 -- ---- the memory
 
@@ -58,19 +63,22 @@ isSoundEntry code e = cond (ltb code 2) (eqb e 0) (isLicence e)
 abbrev pub isSoundCounter : ℕ → ℕ → Bool
 isSoundCounter code w = ltb w (cond (eqb code 3) (2 ^ 20) 1)
 
+-- a phase's code, its entry and its counter
+unfoldable pub isSoundHead : ℕ → ℕ → ℕ → Bool
+isSoundHead code e w = allPass (leb code 3 ∷ isSoundEntry code e ∷ isSoundCounter code w ∷ [])
+
 -- the replies, in the phase that the memory has
 abbrev pub areSoundReplies : ℕ → List ℕ → Bool
-areSoundReplies f m = areSound (size f) (isReading (phaseIn m)) (stores (phaseIn m)) (drop repliesAt m)
+areSoundReplies f memory = areSound (size f) (isReading (phaseIn memory)) (stores (phaseIn memory))
+    (drop repliesAt memory)
 
 -- the whole memory of a client, where f servers may be faulty
 unfoldable pub isSoundMemory : ℕ → List ℕ → Bool
-isSoundMemory f m =
+isSoundMemory f memory =
     allPass
-    (leb f 4
-    ∷ eqb (length m) words
-    ∷ ltb (getD m readsAt 0) (2 ^ 20)
-    ∷ leb (getD m phaseAt 0) 3
-    ∷ isSoundEntry (getD m phaseAt 0) (getD m entryAt 0)
-    ∷ isSoundCounter (getD m phaseAt 0) (getD m counterAt 0)
-    ∷ areSoundReplies f m
+    (leb f mostFaulty
+    ∷ eqb (length memory) words
+    ∷ ltb (getD memory readsAt 0) (2 ^ 20)
+    ∷ isSoundHead (getD memory phaseAt 0) (getD memory entryAt 0) (getD memory counterAt 0)
+    ∷ areSoundReplies f memory
     ∷ [])

@@ -8,15 +8,21 @@
 -- Assumes nothing.
 use Prim.Native.Nat.{ℕ}
 use mathlib.Core.List.{List}
+use Rattle.register.specs.declared.Phase.{Phase}
 use Rattle.register.specs.Client as model
+use Rattle.register.specs.Client.{cleared}
 use Rattle.replies.specs.Replies.{held}
 use Rattle.client.specs.declared.Client.{Client}
 
 -- what the client and its replies show
 abbrev pub view : Client → List ℕ → model.Client
-view c r = held (c .phase) (c .reads) r
+view client replies = held (client .phase) (client .reads) replies
 
 -- the client, with a number and for f, of what the model's client holds; its replies are `storeReplies` of
 -- the same
 abbrev pub storeClient : ℕ → ℕ → model.Client → Client
 storeClient d f x = record { number = d; f = f; phase = x .phase; reads = x .reads }
+
+-- the client in another phase, at the same read number
+abbrev pub inPhase : Client → Phase → Client
+inPhase client ph = storeClient (client .number) (client .f) (cleared ph (client .reads))

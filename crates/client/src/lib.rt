@@ -7,18 +7,24 @@ ghost use mathlib.Core.Bool.{true, false};
 ghost use Prim.Native.Nat.{_+_, _<_, _≤_};
 ghost use lib.ListN.{length, replicate};
 ghost use Rattle.message.specs.Layout.{lastRead};
+ghost use Rattle.register.specs.Settings.{mostClients, mostServers};
 ghost use Rattle.register.specs.Thresholds.{size};
-ghost use Rattle.register.specs.Client.{isIdle, isReading, isStoring, cleared, entryOf};
+ghost use Rattle.register.specs.Client.{isIdle, isReading, isStoring, entryOf, usesInfo};
 ghost use Rattle.register.specs.Steps.{isReply};
-ghost use Rattle.client.specs.State.{storeClient};
-ghost use Rattle.client.specs.Memory.{phaseOf, codeOf, counterIn, loaded, stored, view};
+ghost use Rattle.replies.specs.Replies.{replyWords};
+ghost use Rattle.client.specs.State as inner;
+ghost use Rattle.client.specs.State.{inPhase};
+ghost use Rattle.client.specs.Memory.{words, phaseOf, codeOf, counterIn, loaded, stored, view};
 ghost use Rattle.client.specs.Sound.{stores, isSoundClient, isSound};
-ghost use Rattle.client.specs.Sound.{isSoundEntry, isSoundCounter, areSoundReplies, isSoundMemory};
-ghost use Rattle.client.specs.Sends.{messagesOf, after, endsWith, concludedOf, lookedOf, takenOf};
+ghost use Rattle.client.specs.Sound.{isSoundEntry, isSoundCounter, isSoundHead, areSoundReplies};
+ghost use Rattle.client.specs.Sound.{isSoundMemory};
+ghost use Rattle.client.specs.Outcome.{messagesOf};
+ghost use Rattle.client.specs.Sends.{after, endsWith, concludedOf, chosenOf, receivedOf};
 ghost use Rattle.client.specs.Taking.{isTaken};
 ghost use Rattle.client.specs.Outcome as outcome;
 ghost use Rattle.client.specs.Entry.{isClient, isServer, readOf, writeOf, takeOf};
-ghost use Rattle.client.specs.Collecting.{isInfo, isAck, Collected};
+ghost use Rattle.client.specs.Starting.{startOf};
+ghost use Rattle.client.specs.Collecting.{Collected, receivedPairOf};
 use message::Entry;
 use message::Message;
 use message::Pair;
@@ -30,9 +36,6 @@ use register::Answer;
 use register::Phase;
 use replies::Choice;
 
-// The numbers of a client's memory.
-pub const WORDS: usize = 95;
-
 // Where a memory has the read number, the phase, the entry, the counter and the replies.
 pub const READS: usize = 0;
 
@@ -43,6 +46,9 @@ const ENTRY: usize = 2;
 const COUNTER: usize = 3;
 
 const REPLIES: usize = 4;
+
+// The numbers of the whole memory.
+pub const WORDS: usize = REPLIES + replies::WORDS;
 
 // The first phase that has an entry, and the one that has a counter.
 const WRITES: u64 = 2;
@@ -70,7 +76,7 @@ pub enum Sends {
 }
 
 // The client after a step, what it sends, and what it answers.
-pub struct Took {
+pub struct Transition {
     pub client: Client,
     pub sends: Sends,
     pub answer: Answer,
@@ -84,10 +90,10 @@ pub struct Outcome {
 
 // ---- phases
 
-pub fn is_idle(ph: Phase) -> bool
-    ensures { λ b. ⌜ b ≡ isIdle ph ⌝ }
+pub fn is_idle(phase: Phase) -> bool
+    ensures { λ b. ⌜ b ≡ isIdle phase ⌝ }
 {
-    match ph {
+    match phase {
         Phase::Idle => true,
         Phase::Reading => false,
         Phase::ReadingForWrite(_) => false,
@@ -95,10 +101,10 @@ pub fn is_idle(ph: Phase) -> bool
     }
 }
 
-pub fn is_reading(ph: Phase) -> bool
-    ensures { λ b. ⌜ b ≡ isReading ph ⌝ }
+pub fn is_reading(phase: Phase) -> bool
+    ensures { λ b. ⌜ b ≡ isReading phase ⌝ }
 {
-    match ph {
+    match phase {
         Phase::Idle => false,
         Phase::Reading => true,
         Phase::ReadingForWrite(_) => true,
@@ -106,220 +112,230 @@ pub fn is_reading(ph: Phase) -> bool
     }
 }
 
-fn is_storing(ph: Phase) -> bool
-    ensures { λ b. ⌜ b ≡ stores ph ⌝ }
+fn is_storing(phase: Phase) -> bool
+    ensures { λ b. ⌜ b ≡ stores phase ⌝ }
 {
-    if is_idle(ph) {
+    let Phase::Storing(_, _) = phase else {
         return false;
+    };
+    true
+}
+
+fn is_storing_with(phase: Phase, counter: WriteCounter) -> bool
+    ensures { λ b. ⌜ b ≡ isStoring phase counter ⌝ }
+{
+    let Phase::Storing(_, own) = phase else {
+        return false;
+    };
+    message::same_counter(own, counter)
+}
+
+fn entry_of(phase: Phase) -> u64
+    ensures { λ n. ⌜ n ≡ entryOf phase .0 ⌝ }
+{
+    match phase {
+        Phase::Idle => 0,
+        Phase::Reading => 0,
+        Phase::ReadingForWrite(entry) => entry.0,
+        Phase::Storing(entry, _) => entry.0,
     }
-    !is_reading(ph)
 }
 
 // ---- a client in another phase
 
-fn in_phase(c: Client, ph: Phase) -> Client
-    ensures { λ x. ⌜ x ≡ storeClient (c .number) (c .f) (cleared ph (c .reads)) ⌝ }
+fn in_phase(client: Client, phase: Phase) -> Client
+    ensures { λ next. ⌜ next ≡ inPhase client phase ⌝ }
 {
-    let t = c.reads;
+    let reads = client.reads;
     Client {
-        number: c.number,
-        f: c.f,
-        phase: ph,
-        reads: t,
+        number: client.number,
+        f: client.f,
+        phase,
+        reads,
     }
 }
 
-fn goes_on(c: Client) -> Took
-    ensures { λ t. ⌜ t ≡ record { client = c; sends = Sends.Nothing; answer = Answer.Went } ⌝ }
+fn unchanged(client: Client) -> Transition
+    ensures { λ step. ⌜ step ≡ record { client = client; sends = Sends.Nothing; answer = Answer.Went } ⌝ }
 {
-    Took {
-        client: c,
+    Transition {
+        client,
         sends: Sends::Nothing,
         answer: Answer::Went,
     }
 }
 
-fn ends(c: Client, s: Sends, a: Answer) -> Took
-    ensures { λ t. ⌜ t ≡ endsWith c s a ⌝ }
+fn ends(client: Client, sends: Sends, answer: Answer) -> Transition
+    ensures { λ step. ⌜ step ≡ endsWith client sends answer ⌝ }
 {
-    let x = in_phase(c, Phase::Idle);
-    Took {
-        client: x,
-        sends: s,
-        answer: a,
+    let idle = in_phase(client, Phase::Idle);
+    Transition {
+        client: idle,
+        sends,
+        answer,
     }
 }
 
 // ---- the choice and what follows from it
 
-// A write goes on with the counter above the chosen one and its own number, or ends as SPENT.
-fn store_next(c: Client, e: Entry, p: Pair) -> Took
-    requires { ⌜ (isSoundClient c ≡ true) × (c .phase ≡ Phase.ReadingForWrite e) ⌝ }
-    ensures { λ t. ⌜ after t (replicate 91 0) ≡ concludedOf c (Phase.ReadingForWrite e) p ⌝ }
+// What a chosen pair leads to, once the replies are emptied: a read ends. A write goes on with the counter
+// above the chosen one and its own number, or ends as SPENT.
+fn conclude(client: Client, pair: Pair) -> Transition
+    requires { ⌜ (isSoundClient client ≡ true) × (isReading (client .phase) ≡ true) ⌝ }
+    ensures { λ step. ⌜ after step (replicate replyWords 0) ≡ concludedOf client pair ⌝ }
 {
-    let w = message::counter_of(p);
-    if message::is_last_counter(w) {
-        return ends(c, Sends::Done, Answer::Spent);
+    let phase = client.phase;
+    let Phase::ReadingForWrite(entry) = phase else {
+        return ends(client, Sends::Done, Answer::Read(pair));
+    };
+    let highest = message::counter_of(pair);
+    if message::is_last_counter(highest) {
+        return ends(client, Sends::Done, Answer::Spent);
     }
-    let next = message::next_counter(w);
-    let q = message::pair_of(next, c.number, e);
-    let x = in_phase(c, Phase::Storing(e, next));
-    Took {
-        client: x,
-        sends: Sends::DoneAndWrite(q),
+    let counter = message::next_counter(highest);
+    let own = message::pair_of(counter, client.number, entry);
+    let next = in_phase(client, Phase::Storing(entry, counter));
+    Transition {
+        client: next,
+        sends: Sends::DoneAndWrite(own),
         answer: Answer::Went,
     }
 }
 
-// What a chosen pair leads to, once the replies are emptied.
-fn conclude(c: Client, p: Pair) -> Took
-    requires { ⌜ isSoundClient c ≡ true ⌝ }
-    ensures { λ t. ⌜ after t (replicate 91 0) ≡ concludedOf c (c .phase) p ⌝ }
-{
-    let ph = c.phase;
-    match ph {
-        Phase::Idle => goes_on(c),
-        Phase::Reading => ends(c, Sends::Done, Answer::Read(p)),
-        Phase::ReadingForWrite(e) => store_next(c, e, p),
-        Phase::Storing(_, _) => goes_on(c),
-    }
-}
-
 // After a taken INFO or FWD: what follows from the choice, if there is one.
-fn look(c: Client, r: &mut [u64]) -> Took
-    requires { ⌜ (isSound c (now r) ≡ true) × (isReading (c .phase) ≡ true) ⌝ }
-    ensures { λ t. ⌜ after t (now (r .exit)) ≡ lookedOf c (now (r .entry)) ⌝ }
+fn follow_choice(client: Client, replies: &mut [u64]) -> Transition
+    requires { ⌜ (isSound client (now replies) ≡ true) × (isReading (client .phase) ≡ true) ⌝ }
+    ensures { λ step. ⌜ after step (now (replies .exit)) ≡ chosenOf client (now (replies .entry)) ⌝ }
 {
-    let Choice::Found(p) = replies::choose(r, c.f) else {
-        return goes_on(c);
+    let Choice::Found(pair) = replies::choose(replies, client.f) else {
+        return unchanged(client);
     };
-    replies::clear(r);
-    conclude(c, p)
+    replies::clear(replies);
+    conclude(client, pair)
 }
 
 // ---- one message of server k
 
-// Collects an INFO: whether it is taken.
-fn info(c: Client, k: u8, t: ReadNumber, p: Pair, r: &mut [u64]) -> bool
-    requires { ⌜ (isSound c (now r) ≡ true) × (1 ≤ k) × (k ≤ size (c .f)) ⌝ }
-    ensures { λ b. ⌜ Collected c (now (r .entry)) k (Message.Info t p) b (now (r .exit)) ⌝ }
+// Whether an INFO with a tag is taken: while the client reads, of this read, and the first of its server.
+fn takes_info(client: Client, k: u8, tag: ReadNumber, replies: &[u64]) -> bool
+    requires { ⌜ (length (now replies) ≡ replyWords) × (1 ≤ k) × (k ≤ mostServers) ⌝ }
+    ensures { λ b. ⌜ b ≡ usesInfo 0 0 0 (inner.view client (now (replies .entry))) k tag ⌝ }
 {
-    let ph = c.phase;
-    if !is_reading(ph) {
+    let phase = client.phase;
+    if !is_reading(phase) {
         return false;
     }
-    if !message::same_read(t, c.reads) {
+    if !message::same_read(tag, client.reads) {
+        return false;
+    }
+    !replies::is_noted(replies, (k - 1) as usize)
+}
+
+// Collects an INFO: whether it is taken.
+fn info(client: Client, k: u8, tag: ReadNumber, pair: Pair, replies: &mut [u64]) -> bool
+    requires { ⌜ (isSound client (now replies) ≡ true) × (1 ≤ k) × (k ≤ size (client .f)) ⌝ }
+    ensures { λ b. ⌜ Collected client (now (replies .entry)) k (Message.Info tag pair) b
+        (now (replies .exit)) ⌝ }
+{
+    if !takes_info(client, k, tag, replies) {
         return false;
     }
     let i = (k - 1) as usize;
-    if replies::is_noted(r, i) {
-        return false;
-    }
-    replies::note(r, i, message::stamp_of(p));
-    replies::insert(r, i, p);
+    replies::note(replies, i, message::stamp_of(pair));
+    replies::insert(replies, i, pair);
     true
 }
 
 // Collects a FWD: whether it is taken.
-fn forwarded(c: Client, k: u8, p: Pair, r: &mut [u64]) -> bool
-    requires { ⌜ (isSound c (now r) ≡ true) × (1 ≤ k) × (k ≤ size (c .f)) ⌝ }
-    ensures { λ b. ⌜ Collected c (now (r .entry)) k (Message.Fwd p) b (now (r .exit)) ⌝ }
+fn forwarded(client: Client, k: u8, pair: Pair, replies: &mut [u64]) -> bool
+    requires { ⌜ (isSound client (now replies) ≡ true) × (1 ≤ k) × (k ≤ size (client .f)) ⌝ }
+    ensures { λ b. ⌜ Collected client (now (replies .entry)) k (Message.Fwd pair) b (now (replies .exit)) ⌝ }
 {
-    let ph = c.phase;
-    if !is_reading(ph) {
+    let phase = client.phase;
+    if !is_reading(phase) {
         return false;
     }
-    replies::insert(r, (k - 1) as usize, p);
+    replies::insert(replies, (k - 1) as usize, pair);
     true
 }
 
-fn collect_fwd(c: Client, k: u8, m: Message, r: &mut [u64]) -> bool
-    requires { ⌜ (isSound c (now r) ≡ true) × (1 ≤ k) × (k ≤ size (c .f)) × (isInfo m ≡ false) ⌝ }
-    ensures { λ b. ⌜ Collected c (now (r .entry)) k m b (now (r .exit)) ⌝ }
+// Collects an INFO or a FWD: whether it is taken. Another kind is not.
+fn collect(client: Client, k: u8, message: Message, replies: &mut [u64]) -> bool
+    requires { ⌜ (isSound client (now replies) ≡ true) × (1 ≤ k) × (k ≤ size (client .f)) ⌝ }
+    ensures { λ b. ⌜ Collected client (now (replies .entry)) k message b (now (replies .exit)) ⌝ }
 {
-    let Message::Fwd(p) = m else {
+    if let Message::Info(tag, pair) = message {
+        return info(client, k, tag, pair, replies);
+    }
+    let Message::Fwd(pair) = message else {
         return false;
     };
-    forwarded(c, k, p, r)
+    forwarded(client, k, pair, replies)
 }
 
-// Collects an INFO or a FWD: whether it is taken. Another kind is not.
-fn collect(c: Client, k: u8, m: Message, r: &mut [u64]) -> bool
-    requires { ⌜ (isSound c (now r) ≡ true) × (1 ≤ k) × (k ≤ size (c .f)) ⌝ }
-    ensures { λ b. ⌜ Collected c (now (r .entry)) k m b (now (r .exit)) ⌝ }
+// What a client does with an INFO or a FWD; another kind is dropped.
+fn receive_pair(client: Client, k: u8, message: Message, replies: &mut [u64]) -> Transition
+    requires { ⌜ (isSound client (now replies) ≡ true) × (1 ≤ k) × (k ≤ size (client .f)) ⌝ }
+    ensures { λ step. ⌜ after step (now (replies .exit))
+        ≡ receivedPairOf client (now (replies .entry)) k message ⌝ }
 {
-    let Message::Info(t, p) = m else {
-        return collect_fwd(c, k, m, r);
-    };
-    info(c, k, t, p, r)
+    if !collect(client, k, message, replies) {
+        return unchanged(client);
+    }
+    follow_choice(client, replies)
 }
 
-fn acknowledged(c: Client, k: u8, a: WriteCounter, r: &mut [u64]) -> Took
-    requires { ⌜ (isSound c (now r) ≡ true) × (1 ≤ k) × (k ≤ size (c .f)) ⌝ }
-    ensures { λ z. ⌜ after z (now (r .exit)) ≡ takenOf c (now (r .entry)) k (Message.WriteAck a) ⌝ }
+// What a client does with a WRITE_ACK: enough of them end its write.
+fn acknowledged(client: Client, k: u8, counter: WriteCounter, replies: &mut [u64]) -> Transition
+    requires { ⌜ (isSound client (now replies) ≡ true) × (1 ≤ k) × (k ≤ size (client .f)) ⌝ }
+    ensures { λ step. ⌜ after step (now (replies .exit))
+        ≡ receivedOf client (now (replies .entry)) k (Message.WriteAck counter) ⌝ }
 {
-    let ph = c.phase;
-    let Phase::Storing(e, w) = ph else {
-        return goes_on(c);
-    };
-    if !message::same_counter(w, a) {
-        return goes_on(c);
+    let phase = client.phase;
+    if !is_storing_with(phase, counter) {
+        return unchanged(client);
     }
-    replies::acknowledge(r, (k - 1) as usize);
-    if !register::is_enough(c.f, replies::acknowledged(r, c.f)) {
-        return goes_on(c);
+    replies::acknowledge(replies, (k - 1) as usize);
+    if !register::is_enough(client.f, replies::acknowledged(replies, client.f)) {
+        return unchanged(client);
     }
-    replies::clear(r);
-    ends(
-        c,
-        Sends::Nothing,
-        Answer::Wrote(message::pair_of(a, c.number, e)),
-    )
-}
-
-// INFO and FWD; another kind is dropped.
-fn taken_pair(c: Client, k: u8, m: Message, r: &mut [u64]) -> Took
-    requires { ⌜ (isSound c (now r) ≡ true) × (1 ≤ k) × (k ≤ size (c .f)) × (isAck m ≡ false) ⌝ }
-    ensures { λ z. ⌜ after z (now (r .exit)) ≡ takenOf c (now (r .entry)) k m ⌝ }
-{
-    if !collect(c, k, m, r) {
-        return goes_on(c);
-    }
-    look(c, r)
+    replies::clear(replies);
+    let own = message::pair_of(counter, client.number, Entry(entry_of(phase)));
+    ends(client, Sends::Nothing, Answer::Wrote(own))
 }
 
 // What a client does with one message of server k.
-fn taken(c: Client, k: u8, m: Message, r: &mut [u64]) -> Took
-    requires { ⌜ (isSound c (now r) ≡ true) × (1 ≤ k) × (k ≤ size (c .f)) ⌝ }
-    ensures { λ z. ⌜ after z (now (r .exit)) ≡ takenOf c (now (r .entry)) k m ⌝ }
+fn receive(client: Client, k: u8, message: Message, replies: &mut [u64]) -> Transition
+    requires { ⌜ (isSound client (now replies) ≡ true) × (1 ≤ k) × (k ≤ size (client .f)) ⌝ }
+    ensures { λ step. ⌜ after step (now (replies .exit))
+        ≡ receivedOf client (now (replies .entry)) k message ⌝ }
 {
-    let Message::WriteAck(a) = m else {
-        return taken_pair(c, k, m, r);
+    let Message::WriteAck(counter) = message else {
+        return receive_pair(client, k, message, replies);
     };
-    acknowledged(c, k, a, r)
+    acknowledged(client, k, counter, replies)
 }
 
-// What the message would have the client send. The replies are not touched: the message is collected in a
-// copy.
-fn foreseen(c: Client, k: u8, m: Message, r: &[u64]) -> Sends
-    requires { ⌜ (isSound c (now r) ≡ true) × (1 ≤ k) × (k ≤ size (c .f)) ⌝ }
-    ensures { λ s. ⌜ messagesOf s ≡ takenOf c (now (r .entry)) k m .sends ⌝ }
+// What a message would have the client send, were the replies its own. It does not ask `receive_pair`: that
+// is called for every message, and the compiler inlines it only while it has one caller.
+fn foreseen(client: Client, k: u8, message: Message, replies: &mut [u64]) -> Sends
+    requires { ⌜ (isSound client (now replies) ≡ true) × (1 ≤ k) × (k ≤ size (client .f)) ⌝ }
+    ensures { λ sends. ⌜ messagesOf sends ≡ receivedPairOf client (now (replies .entry)) k message .sends ⌝ }
 {
-    let mut trial = replies::copied(r);
-    if !collect(c, k, m, &mut trial) {
+    if !collect(client, k, message, replies) {
         return Sends::Nothing;
     }
-    let Choice::Found(p) = replies::choose(&trial, c.f) else {
+    let Choice::Found(pair) = replies::choose(replies, client.f) else {
         return Sends::Nothing;
     };
-    let z = conclude(c, p);
-    z.sends
+    let step = conclude(client, pair);
+    step.sends
 }
 
 // ---- a client in its memory
 
-fn phase_of(code: u64, e: Entry, w: WriteCounter) -> Phase
-    ensures { λ ph. ⌜ ph ≡ phaseOf code (e .0) (w .0) ⌝ }
+fn phase_of(code: u64, entry: Entry, counter: WriteCounter) -> Phase
+    ensures { λ phase. ⌜ phase ≡ phaseOf code (entry .0) (counter .0) ⌝ }
 {
     if code == 0 {
         return Phase::Idle;
@@ -328,31 +344,31 @@ fn phase_of(code: u64, e: Entry, w: WriteCounter) -> Phase
         return Phase::Reading;
     }
     if code == 2 {
-        return Phase::ReadingForWrite(e);
+        return Phase::ReadingForWrite(entry);
     }
-    Phase::Storing(e, w)
+    Phase::Storing(entry, counter)
 }
 
 // The client of a step, from its memory.
-pub fn load(m: &[u64], number: u8, f: u8) -> Client
-    requires { ⌜ length (now m) ≡ 95 ⌝ }
-    ensures { λ c. ⌜ c ≡ loaded number f (now (m .entry)) ⌝ }
+pub fn load(memory: &[u64], number: u8, f: u8) -> Client
+    requires { ⌜ length (now memory) ≡ words ⌝ }
+    ensures { λ client. ⌜ client ≡ loaded number f (now (memory .entry)) ⌝ }
 {
-    let w = message::counter_from(m[COUNTER]);
-    let ph = phase_of(m[PHASE], Entry(m[ENTRY]), w);
-    let t = message::read_from(m[READS]);
+    let counter = message::counter_from(memory[COUNTER]);
+    let phase = phase_of(memory[PHASE], Entry(memory[ENTRY]), counter);
+    let reads = message::read_from(memory[READS]);
     Client {
         number,
         f,
-        phase: ph,
-        reads: t,
+        phase,
+        reads,
     }
 }
 
-fn code_of(ph: Phase) -> u64
-    ensures { λ n. ⌜ n ≡ codeOf ph ⌝ }
+fn code_of(phase: Phase) -> u64
+    ensures { λ n. ⌜ n ≡ codeOf phase ⌝ }
 {
-    match ph {
+    match phase {
         Phase::Idle => 0,
         Phase::Reading => 1,
         Phase::ReadingForWrite(_) => 2,
@@ -360,181 +376,167 @@ fn code_of(ph: Phase) -> u64
     }
 }
 
-fn entry_of(ph: Phase) -> u64
-    ensures { λ n. ⌜ n ≡ entryOf ph .0 ⌝ }
+fn counter_in(phase: Phase) -> u64
+    ensures { λ n. ⌜ n ≡ counterIn phase ⌝ }
 {
-    match ph {
-        Phase::Idle => 0,
-        Phase::Reading => 0,
-        Phase::ReadingForWrite(e) => e.0,
-        Phase::Storing(e, _) => e.0,
-    }
-}
-
-fn counter_in(ph: Phase) -> u64
-    ensures { λ n. ⌜ n ≡ counterIn ph ⌝ }
-{
-    let Phase::Storing(_, w) = ph else {
+    let Phase::Storing(_, counter) = phase else {
         return 0;
     };
-    message::counter_word(w)
+    message::counter_word(counter)
 }
 
 // The head of a memory, from the client of a step. The replies stay.
-pub fn store(m: &mut [u64], c: Client)
-    requires { ⌜ length (now m) ≡ 95 ⌝ }
-    ensures { λ u. ⌜ now (m .exit) ≡ stored (now (m .entry)) c ⌝ }
+pub fn store(memory: &mut [u64], client: Client)
+    requires { ⌜ length (now memory) ≡ words ⌝ }
+    ensures { λ u. ⌜ now (memory .exit) ≡ stored (now (memory .entry)) client ⌝ }
 {
-    let ph = c.phase;
-    m[READS] = message::read_word(c.reads);
-    m[PHASE] = code_of(ph);
-    m[ENTRY] = entry_of(ph);
-    m[COUNTER] = counter_in(ph);
-}
-
-fn is_storing_with(ph: Phase, a: WriteCounter) -> bool
-    ensures { λ b. ⌜ b ≡ isStoring ph a ⌝ }
-{
-    let Phase::Storing(_, w) = ph else {
-        return false;
-    };
-    message::same_counter(w, a)
+    let phase = client.phase;
+    memory[READS] = message::read_word(client.reads);
+    memory[PHASE] = code_of(phase);
+    memory[ENTRY] = entry_of(phase);
+    memory[COUNTER] = counter_in(phase);
 }
 
 // Whether a client takes a message of server k. One that it does not take changes nothing.
-pub fn is_taken(c: Client, k: u8, x: Message, m: &[u64]) -> bool
-    requires { ⌜ (length (now m) ≡ 95) × (1 ≤ k) × (k ≤ 13) × (c ≡ loaded (c .number) (c .f) (now m)) ⌝ }
-    ensures { λ b. ⌜ b ≡ isTaken (view (now (m .entry))) k x ⌝ }
+pub fn is_taken(client: Client, k: u8, message: Message, memory: &[u64]) -> bool
+    requires { ⌜ (length (now memory) ≡ words) × (1 ≤ k) × (k ≤ mostServers)
+        × (client ≡ loaded (client .number) (client .f) (now memory)) ⌝ }
+    ensures { λ b. ⌜ b ≡ isTaken (view (now (memory .entry))) k message ⌝ }
 {
-    let ph = c.phase;
-    if let Message::Fwd(_) = x {
-        return is_reading(ph);
+    let phase = client.phase;
+    if let Message::Fwd(_) = message {
+        return is_reading(phase);
     }
-    if let Message::WriteAck(a) = x {
-        return is_storing_with(ph, a);
+    if let Message::WriteAck(counter) = message {
+        return is_storing_with(phase, counter);
     }
-    let Message::Info(tag, _) = x else {
+    let Message::Info(tag, _) = message else {
         return false;
     };
-    if !is_reading(ph) {
-        return false;
-    }
-    if !message::same_read(tag, c.reads) {
-        return false;
-    }
-    !replies::is_noted(&m[REPLIES..], (k - 1) as usize)
+    takes_info(client, k, tag, &memory[REPLIES..])
 }
 
 // What a client does with one message of server k: the step on the client and its replies, in its memory.
-pub fn take_message(c: Client, k: u8, x: Message, m: &mut [u64]) -> Outcome
-    requires { ⌜ (c ≡ loaded (c .number) (c .f) (now m)) × (isSoundMemory (c .f) (now m) ≡ true)
-        × (1 ≤ c .number) × (c .number ≤ 6) × (1 ≤ k) × (k ≤ size (c .f)) ⌝ }
-    ensures { λ o. ⌜ outcome.after o (now (m .exit))
-        ≡ outcome.takenOf (c .number) (c .f) (now (m .entry)) k x ⌝ }
+pub fn take_message(client: Client, k: u8, message: Message, memory: &mut [u64]) -> Outcome
+    requires { ⌜ (client ≡ loaded (client .number) (client .f) (now memory))
+        × (isSoundMemory (client .f) (now memory) ≡ true)
+        × (1 ≤ client .number) × (client .number ≤ mostClients) × (1 ≤ k) × (k ≤ size (client .f)) ⌝ }
+    ensures { λ result. ⌜ outcome.after result (now (memory .exit))
+        ≡ outcome.takenOf (client .number) (client .f) (now (memory .entry)) k message ⌝ }
 {
-    let t = taken(c, k, x, &mut m[REPLIES..]);
-    let next = t.client;
-    let sends = t.sends;
-    let answer = t.answer;
-    store(m, next);
+    let step = receive(client, k, message, &mut memory[REPLIES..]);
+    let next = step.client;
+    let sends = step.sends;
+    let answer = step.answer;
+    store(memory, next);
     Outcome { sends, answer }
 }
 
-// What the message would have the client send. The memory is not touched.
-pub fn would_send(c: Client, k: u8, x: Message, m: &[u64]) -> Sends
-    requires { ⌜ (c ≡ loaded (c .number) (c .f) (now m)) × (isSoundMemory (c .f) (now m) ≡ true)
-        × (1 ≤ c .number) × (c .number ≤ 6) × (1 ≤ k) × (k ≤ size (c .f)) ⌝ }
-    ensures { λ s. ⌜ messagesOf s ≡ outcome.takenOf (c .number) (c .f) (now (m .entry)) k x .sends ⌝ }
+// What the message would have the client send. The memory is not touched: it is collected in a copy.
+pub fn would_send(client: Client, k: u8, message: Message, memory: &[u64]) -> Sends
+    requires { ⌜ (client ≡ loaded (client .number) (client .f) (now memory))
+        × (isSoundMemory (client .f) (now memory) ≡ true)
+        × (1 ≤ client .number) × (client .number ≤ mostClients) × (1 ≤ k) × (k ≤ size (client .f)) ⌝ }
+    ensures { λ sends. ⌜ messagesOf sends
+        ≡ outcome.takenOf (client .number) (client .f) (now (memory .entry)) k message .sends ⌝ }
 {
-    foreseen(c, k, x, &m[REPLIES..])
+    let mut trial = replies::copied(&memory[REPLIES..]);
+    foreseen(client, k, message, &mut trial)
 }
 
 // ---- a start
 
 // An idle client starts in a phase. What the servers replied to it is empty, so only the head is stored.
-fn start(c: Client, ph: Phase, m: &mut [u64]) -> Outcome
-    requires { ⌜ (c ≡ loaded (c .number) (c .f) (now m)) × (isSoundMemory (c .f) (now m) ≡ true)
-        × (isIdle (c .phase) ≡ true) × (c .reads .0 < lastRead) ⌝ }
-    ensures { λ o. ⌜ outcome.after o (now (m .exit)) ≡ outcome.startedOf (now (m .entry)) ph ⌝ }
+fn begin(client: Client, phase: Phase, memory: &mut [u64]) -> Outcome
+    requires { ⌜ (client ≡ loaded (client .number) (client .f) (now memory))
+        × (isSoundMemory (client .f) (now memory) ≡ true)
+        × (isIdle (client .phase) ≡ true) × (client .reads .0 < lastRead) ⌝ }
+    ensures { λ result. ⌜ outcome.after result (now (memory .exit))
+        ≡ outcome.startedOf (now (memory .entry)) phase ⌝ }
 {
-    let next = message::next_read(c.reads);
-    let x = Client {
-        number: c.number,
-        f: c.f,
-        phase: ph,
-        reads: next,
+    let reads = message::next_read(client.reads);
+    let next = Client {
+        number: client.number,
+        f: client.f,
+        phase,
+        reads,
     };
-    store(m, x);
+    store(memory, next);
     Outcome {
-        sends: Sends::GetInfo(next),
+        sends: Sends::GetInfo(reads),
         answer: Answer::Went,
     }
 }
 
 // ---- soundness
 
-fn is_sound_entry(code: u64, e: u64) -> bool
-    ensures { λ b. ⌜ b ≡ isSoundEntry code e ⌝ }
+fn is_sound_entry(code: u64, entry: u64) -> bool
+    ensures { λ b. ⌜ b ≡ isSoundEntry code entry ⌝ }
 {
     if code < WRITES {
-        return e == 0;
+        return entry == 0;
     }
-    licence::is_licence(e)
+    licence::is_licence(entry)
 }
 
-fn is_sound_counter(code: u64, w: u64) -> bool
-    ensures { λ b. ⌜ b ≡ isSoundCounter code w ⌝ }
+fn is_sound_counter(code: u64, counter: u64) -> bool
+    ensures { λ b. ⌜ b ≡ isSoundCounter code counter ⌝ }
 {
     if code == STORES {
-        return message::fits_counter(w);
+        return message::fits_counter(counter);
     }
-    w < 1
+    counter < 1
 }
 
-fn are_replies_sound(f: u8, m: &[u64]) -> bool
-    requires { ⌜ length (now m) ≡ 95 ⌝ }
-    ensures { λ b. ⌜ b ≡ areSoundReplies f (now (m .entry)) ⌝ }
+fn is_sound_head(code: u64, entry: u64, counter: u64) -> bool
+    ensures { λ b. ⌜ b ≡ isSoundHead code entry counter ⌝ }
 {
-    let c = load(m, 1, f);
-    let ph = c.phase;
+    if STORES < code {
+        return false;
+    }
+    if !is_sound_entry(code, entry) {
+        return false;
+    }
+    is_sound_counter(code, counter)
+}
+
+fn are_replies_sound(f: u8, memory: &[u64]) -> bool
+    requires { ⌜ length (now memory) ≡ words ⌝ }
+    ensures { λ b. ⌜ b ≡ areSoundReplies f (now (memory .entry)) ⌝ }
+{
+    let client = load(memory, 1, f);
+    let phase = client.phase;
     let n = register::servers(f) as usize;
-    replies::are_sound(&m[REPLIES..], n, is_reading(ph), is_storing(ph))
+    replies::are_sound(&memory[REPLIES..], n, is_reading(phase), is_storing(phase))
 }
 
 // Whether a memory is sound, where f servers may be faulty.
-pub fn is_sound(f: u8, m: &[u64]) -> bool
-    ensures { λ b. ⌜ b ≡ isSoundMemory f (now (m .entry)) ⌝ }
+pub fn is_sound(f: u8, memory: &[u64]) -> bool
+    ensures { λ b. ⌜ b ≡ isSoundMemory f (now (memory .entry)) ⌝ }
 {
     if MOST_FAULTY < f {
         return false;
     }
-    if m.len() != WORDS {
+    if memory.len() != WORDS {
         return false;
     }
-    if !message::fits_read(m[READS]) {
+    if !message::fits_read(memory[READS]) {
         return false;
     }
-    let code = m[PHASE];
-    if STORES < code {
+    if !is_sound_head(memory[PHASE], memory[ENTRY], memory[COUNTER]) {
         return false;
     }
-    if !is_sound_entry(code, m[ENTRY]) {
-        return false;
-    }
-    if !is_sound_counter(code, m[COUNTER]) {
-        return false;
-    }
-    are_replies_sound(f, m)
+    are_replies_sound(f, memory)
 }
 
 // ---- entry points
 
-fn refuse(x: Refusal) -> Outcome
-    ensures { λ o. ⌜ o ≡ record { sends = Sends.Nothing; answer = Answer.Refused x } ⌝ }
+fn refuse(refusal: Refusal) -> Outcome
+    ensures { λ result. ⌜ result ≡ record { sends = Sends.Nothing; answer = Answer.Refused refusal } ⌝ }
 {
     Outcome {
         sends: Sends::Nothing,
-        answer: Answer::Refused(x),
+        answer: Answer::Refused(refusal),
     }
 }
 
@@ -556,73 +558,70 @@ fn is_server(k: u8, f: u8) -> bool
     k as u32 <= register::servers(f)
 }
 
-// Client `number` starts a read.
-pub fn read(number: u8, f: u8, m: &mut [u64]) -> Outcome
-    ensures { λ o. ⌜ outcome.after o (now (m .exit)) ≡ readOf number f (now (m .entry)) ⌝ }
+// Client `number` starts in a phase, whose entry, if it has one, is a licence entry or not.
+fn start(number: u8, f: u8, phase: Phase, licensed: bool, memory: &mut [u64]) -> Outcome
+    ensures { λ result. ⌜ outcome.after result (now (memory .exit))
+        ≡ startOf number f (now (memory .entry)) phase licensed ⌝ }
 {
-    if !is_sound(f, m) {
+    if !is_sound(f, memory) {
         return refuse(Refusal::Unsound);
     }
     if !is_client(number) {
         return refuse(Refusal::NoSuchProcess);
     }
-    let c = load(m, number, f);
-    let ph = c.phase;
-    if !is_idle(ph) {
+    let client = load(memory, number, f);
+    let old = client.phase;
+    if !is_idle(old) {
         return refuse(Refusal::Busy);
     }
-    if message::is_last_read(c.reads) {
+    if !licensed {
+        return refuse(Refusal::NoEntry);
+    }
+    if message::is_last_read(client.reads) {
         return refuse(Refusal::Exhausted);
     }
-    start(c, Phase::Reading, m)
+    begin(client, phase, memory)
+}
+
+// Client `number` starts a read.
+pub fn read(number: u8, f: u8, memory: &mut [u64]) -> Outcome
+    ensures { λ result. ⌜ outcome.after result (now (memory .exit))
+        ≡ readOf number f (now (memory .entry)) ⌝ }
+{
+    start(number, f, Phase::Reading, true, memory)
 }
 
 // Client `number` starts a write of an entry.
-pub fn write(number: u8, f: u8, e: Entry, m: &mut [u64]) -> Outcome
-    ensures { λ o. ⌜ outcome.after o (now (m .exit)) ≡ writeOf number f (now (m .entry)) e ⌝ }
+pub fn write(number: u8, f: u8, entry: Entry, memory: &mut [u64]) -> Outcome
+    ensures { λ result. ⌜ outcome.after result (now (memory .exit))
+        ≡ writeOf number f (now (memory .entry)) entry ⌝ }
 {
-    if !is_sound(f, m) {
-        return refuse(Refusal::Unsound);
-    }
-    if !is_client(number) {
-        return refuse(Refusal::NoSuchProcess);
-    }
-    let c = load(m, number, f);
-    let ph = c.phase;
-    if !is_idle(ph) {
-        return refuse(Refusal::Busy);
-    }
-    if !licence::is_licence(e.0) {
-        return refuse(Refusal::NoEntry);
-    }
-    if message::is_last_read(c.reads) {
-        return refuse(Refusal::Exhausted);
-    }
-    start(c, Phase::ReadingForWrite(e), m)
+    let licensed = licence::is_licence(entry.0);
+    start(number, f, Phase::ReadingForWrite(entry), licensed, memory)
 }
 
 // Whether a message is of a kind that a server sends.
-pub fn is_reply(m: Message) -> bool
-    ensures { λ b. ⌜ b ≡ isReply (Unpacked.Good m) ⌝ }
+pub fn is_reply(unpacked: Message) -> bool
+    ensures { λ b. ⌜ b ≡ isReply (Unpacked.Good unpacked) ⌝ }
 {
-    if let Message::Info(_, _) = m {
+    if let Message::Info(_, _) = unpacked {
         return true;
     }
-    if let Message::Fwd(_) = m {
+    if let Message::Fwd(_) = unpacked {
         return true;
     }
-    let Message::WriteAck(_) = m else {
+    let Message::WriteAck(_) = unpacked else {
         return false;
     };
     true
 }
 
 // Client `number` takes bytes from server k.
-pub fn take(number: u8, f: u8, k: u8, bytes: &[u8], m: &mut [u64]) -> Outcome
-    ensures { λ o. ⌜ outcome.after o (now (m .exit))
-        ≡ takeOf number f (now (m .entry)) k (now (bytes .entry)) ⌝ }
+pub fn take(number: u8, f: u8, k: u8, bytes: &[u8], memory: &mut [u64]) -> Outcome
+    ensures { λ result. ⌜ outcome.after result (now (memory .exit))
+        ≡ takeOf number f (now (memory .entry)) k (now (bytes .entry)) ⌝ }
 {
-    if !is_sound(f, m) {
+    if !is_sound(f, memory) {
         return refuse(Refusal::Unsound);
     }
     if !is_client(number) {
@@ -631,12 +630,12 @@ pub fn take(number: u8, f: u8, k: u8, bytes: &[u8], m: &mut [u64]) -> Outcome
     if !is_server(k, f) {
         return refuse(Refusal::NoSuchProcess);
     }
-    let Unpacked::Good(x) = message::unpack(bytes) else {
+    let Unpacked::Good(message) = message::unpack(bytes) else {
         return refuse(Refusal::Malformed);
     };
-    if !is_reply(x) {
+    if !is_reply(message) {
         return refuse(Refusal::Malformed);
     }
-    let c = load(m, number, f);
-    take_message(c, k, x, m)
+    let client = load(memory, number, f);
+    take_message(client, k, message, memory)
 }

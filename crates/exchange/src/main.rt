@@ -1,6 +1,6 @@
 // Drives client 1 and 3f + 1 servers, and then clients 1 and 2, each with f = 0 and f = 1, through writes and
 // reads with the proved ends alone, and prints each message as it is sent and each outcome. With two clients
-// and f = 1 server 4 takes nothing, so that n - f have to be enough.
+// and f = 1 server 4 serves nothing, so that n - f have to be enough.
 //
 // `tests/exchange_oracle.py` works the same lines out from 01, and `stdout` is what it wrote. That comparison
 // says that the lines are right; what is proved here is only that the program never stops short: its
@@ -21,7 +21,14 @@ const MESSAGE_BYTES: usize = 11;
 
 const MOST_SENT: usize = 10;
 
-const SENT_BYTES: usize = 110;
+const SENT_BYTES: usize = MOST_SENT * MESSAGE_BYTES;
+
+// The messages of two clients, and the memory of four servers and of two clients.
+const ALL_SENT: usize = 2 * SENT_BYTES;
+
+const SERVER_WORDS: usize = 4 * server::WORDS;
+
+const CLIENT_WORDS: usize = 2 * client::WORDS;
 
 // 29 February 2024 and 29 February 2028, 40 copies, open.
 const FIRST: u64 = 0x7E_82E8_0141;
@@ -32,18 +39,18 @@ const SECOND: u64 = 0x7E_C2E8_0141;
 // are the same for every server. With f = 0 only the first server is there. Clients, servers and messages are
 // counted from 0.
 struct Group {
-    servers: [u64; 8],
-    clients: [u64; 190],
-    sent: [u8; 220],
+    servers: [u64; SERVER_WORDS],
+    clients: [u64; CLIENT_WORDS],
+    sent: [u8; ALL_SENT],
     counts: [usize; 2],
     f: u8,
 }
 
 // All memory is zero at setup.
 fn new_group(f: u8) -> Group {
-    let servers = [0u64; 8];
-    let clients = [0u64; 190];
-    let sent = [0u8; 220];
+    let servers = [0u64; SERVER_WORDS];
+    let clients = [0u64; CLIENT_WORDS];
+    let sent = [0u8; ALL_SENT];
     let counts = [0usize; 2];
     Group {
         servers,
@@ -56,87 +63,91 @@ fn new_group(f: u8) -> Group {
 
 // ---- what a client does
 
-fn packed(m: Message) -> [u8; 11] {
+fn packed(message: Message) -> [u8; MESSAGE_BYTES] {
     let mut bytes = [0u8; MESSAGE_BYTES];
-    message::pack(m, &mut bytes);
+    message::pack(message, &mut bytes);
     bytes
 }
 
 // Prints a message of client i for each server, and keeps it. More than ten are not kept.
-fn send(g: Group, i: usize, m: Message) -> Group
+fn send(group: Group, i: usize, message: Message) -> Group
     requires { ⌜ i < 2 ⌝ }
 {
-    let bytes = packed(m);
-    print_requests((i + 1) as u64, register::servers(g.f) as u64, &bytes);
-    let n = g.counts[i];
-    if MOST_SENT <= n {
-        return g;
+    let bytes = packed(message);
+    print_requests((i + 1) as u64, register::servers(group.f) as u64, &bytes);
+    let count = group.counts[i];
+    if MOST_SENT <= count {
+        return group;
     }
-    let at = i * SENT_BYTES + n * MESSAGE_BYTES;
-    let mut sent = g.sent;
-    message::pack(m, &mut sent[at..at + MESSAGE_BYTES]);
-    let mut h = g;
-    h.sent = sent;
-    h.counts[i] = n + 1;
-    h
+    let at = i * SENT_BYTES + count * MESSAGE_BYTES;
+    let mut sent = group.sent;
+    message::pack(message, &mut sent[at..at + MESSAGE_BYTES]);
+    let mut changed = group;
+    changed.sent = sent;
+    changed.counts[i] = count + 1;
+    changed
 }
 
-fn send_all(g: Group, i: usize, s: client::Sends) -> Group
+fn send_all(group: Group, i: usize, sends: client::Sends) -> Group
     requires { ⌜ i < 2 ⌝ }
 {
-    match s {
-        client::Sends::Nothing => g,
-        client::Sends::GetInfo(n) => send(g, i, Message::GetInfo(n)),
-        client::Sends::Done => send(g, i, Message::Done),
-        client::Sends::DoneAndWrite(p) => send(send(g, i, Message::Done), i, Message::WriteInfo(p)),
+    match sends {
+        client::Sends::Nothing => group,
+        client::Sends::GetInfo(tag) => send(group, i, Message::GetInfo(tag)),
+        client::Sends::Done => send(group, i, Message::Done),
+        client::Sends::DoneAndWrite(pair) => send(
+            send(group, i, Message::Done),
+            i,
+            Message::WriteInfo(pair),
+        ),
     }
 }
 
 // Client i after a step: what it sends, and then what it answers.
-fn stepped(g: Group, i: usize, clients: [u64; 190], o: client::Outcome) -> Group
+fn stepped(group: Group, i: usize, clients: [u64; CLIENT_WORDS], outcome: client::Outcome) -> Group
     requires { ⌜ i < 2 ⌝ }
 {
-    let sends = o.sends;
-    let answer = o.answer;
-    let mut h = g;
-    h.clients = clients;
-    let next = send_all(h, i, sends);
+    let sends = outcome.sends;
+    let answer = outcome.answer;
+    let mut changed = group;
+    changed.clients = clients;
+    let next = send_all(changed, i, sends);
     print_answer((i + 1) as u64, answer);
     next
 }
 
-fn read(g: Group, i: usize) -> Group
+fn read(group: Group, i: usize) -> Group
     requires { ⌜ i < 2 ⌝ }
 {
-    let mut clients = g.clients;
+    let mut clients = group.clients;
     let at = i * client::WORDS;
-    let o = client::read((i + 1) as u8, g.f, &mut clients[at..at + client::WORDS]);
-    stepped(g, i, clients, o)
+    let outcome = client::read((i + 1) as u8, group.f, &mut clients[at..at + client::WORDS]);
+    stepped(group, i, clients, outcome)
 }
 
-fn write(g: Group, i: usize, entry: u64) -> Group
+fn write(group: Group, i: usize, entry: u64) -> Group
     requires { ⌜ i < 2 ⌝ }
 {
-    let mut clients = g.clients;
+    let mut clients = group.clients;
     let at = i * client::WORDS;
-    let o = client::write(
+    let outcome = client::write(
         (i + 1) as u8,
-        g.f,
+        group.f,
         Entry(entry),
         &mut clients[at..at + client::WORDS],
     );
-    stepped(g, i, clients, o)
+    stepped(group, i, clients, outcome)
 }
 
 // Client i takes bytes from server k.
-fn reach(g: Group, i: usize, k: usize, bytes: [u8; 11]) -> Group
+fn deliver(group: Group, i: usize, k: usize, bytes: [u8; MESSAGE_BYTES]) -> Group
     requires { ⌜ (i < 2) × (k < 4) ⌝ }
 {
-    let mut clients = g.clients;
+    let mut clients = group.clients;
     let at = i * client::WORDS;
     let part = &mut clients[at..at + client::WORDS];
-    let o = client::take((i + 1) as u8, g.f, (k + 1) as u8, &bytes, part);
-    stepped(g, i, clients, o)
+    let outcome = client::take((i + 1) as u8, group.f, (k + 1) as u8, &bytes, part);
+    stepped(group, i, clients, outcome)
 }
 
 // ---- what a server does
@@ -148,7 +159,7 @@ fn is_reader(readers: u8, i: usize) -> bool
     (readers >> (i as u8)) & 1 == 1
 }
 
-fn print_forward(k: usize, i: usize, readers: u8, bytes: [u8; 11])
+fn print_forward(k: usize, i: usize, readers: u8, bytes: [u8; MESSAGE_BYTES])
     requires { ⌜ (i < 2) × (k < 4) ⌝ }
 {
     if is_reader(readers, i) {
@@ -156,149 +167,155 @@ fn print_forward(k: usize, i: usize, readers: u8, bytes: [u8; 11])
     }
 }
 
-fn reach_reader(g: Group, i: usize, k: usize, readers: u8, bytes: [u8; 11]) -> Group
+fn deliver_to_reader(
+    group: Group,
+    i: usize,
+    k: usize,
+    readers: u8,
+    bytes: [u8; MESSAGE_BYTES],
+) -> Group
     requires { ⌜ (i < 2) × (k < 4) ⌝ }
 {
     if !is_reader(readers, i) {
-        return g;
+        return group;
     }
-    reach(g, i, k, bytes)
+    deliver(group, i, k, bytes)
 }
 
 // A reply to one client.
-fn reply(g: Group, i: usize, k: usize, m: Message) -> Group
+fn reply(group: Group, i: usize, k: usize, message: Message) -> Group
     requires { ⌜ (i < 2) × (k < 4) ⌝ }
 {
-    let bytes = packed(m);
+    let bytes = packed(message);
     print_reply((k + 1) as u64, (i + 1) as u64, &bytes);
-    reach(g, i, k, bytes)
+    deliver(group, i, k, bytes)
 }
 
 // FWD to the readers, the lowest first, and WRITE_ACK to client i: all are sent before one is taken.
-fn forward(g: Group, i: usize, k: usize, readers: u8, p: Pair) -> Group
+fn forward(group: Group, i: usize, k: usize, readers: u8, pair: Pair) -> Group
     requires { ⌜ (i < 2) × (k < 4) ⌝ }
 {
-    let fwd = packed(Message::Fwd(p));
-    let ack = packed(Message::WriteAck(message::counter_of(p)));
+    let fwd = packed(Message::Fwd(pair));
+    let ack = packed(Message::WriteAck(message::counter_of(pair)));
     print_forward(k, 0, readers, fwd);
     print_forward(k, 1, readers, fwd);
     print_reply((k + 1) as u64, (i + 1) as u64, &ack);
-    let a = reach_reader(g, 0, k, readers, fwd);
-    let b = reach_reader(a, 1, k, readers, fwd);
-    reach(b, i, k, ack)
+    let first = deliver_to_reader(group, 0, k, readers, fwd);
+    let both = deliver_to_reader(first, 1, k, readers, fwd);
+    deliver(both, i, k, ack)
 }
 
-fn served(g: Group, i: usize, k: usize, o: server::Outcome) -> Group
+fn served(group: Group, i: usize, k: usize, outcome: server::Outcome) -> Group
     requires { ⌜ (i < 2) × (k < 4) ⌝ }
 {
-    let server::Outcome::Sent(s) = o else {
-        return g;
+    let server::Outcome::Sent(sends) = outcome else {
+        return group;
     };
-    match s {
-        server::Sends::Nothing => g,
-        server::Sends::Info(n, p) => reply(g, i, k, Message::Info(n, p)),
-        server::Sends::Forward(readers, p) => forward(g, i, k, readers, p),
+    match sends {
+        server::Sends::Nothing => group,
+        server::Sends::Info(tag, pair) => reply(group, i, k, Message::Info(tag, pair)),
+        server::Sends::Forward(readers, pair) => forward(group, i, k, readers, pair),
     }
 }
 
-// Server k takes message j of client i.
-fn serve(g: Group, i: usize, j: usize, k: usize) -> Group
+// Server k serves message j of client i.
+fn serve(group: Group, i: usize, j: usize, k: usize) -> Group
     requires { ⌜ (i < 2) × (j < 10) × (k < 4) ⌝ }
 {
-    let sent = g.sent;
+    let sent = group.sent;
     let message_at = i * SENT_BYTES + j * MESSAGE_BYTES;
     let bytes = &sent[message_at..message_at + MESSAGE_BYTES];
-    let mut servers = g.servers;
+    let mut servers = group.servers;
     let at = k * server::WORDS;
-    let o = server::take((i + 1) as u32, bytes, &mut servers[at..at + server::WORDS]);
-    let mut h = g;
-    h.servers = servers;
-    served(h, i, k, o)
+    let outcome = server::serve((i + 1) as u32, bytes, &mut servers[at..at + server::WORDS]);
+    let mut changed = group;
+    changed.servers = servers;
+    served(changed, i, k, outcome)
 }
 
-// The servers from place a on, up to place b, take message j of client i, one after the other.
-fn serve_each(g: Group, i: usize, j: usize, a: usize, b: usize) -> Group
-    requires { ⌜ (i < 2) × (j < 10) × (b ≤ 4) ⌝ }
+// The servers from place start on, up to place end, serve message j of client i, one after the other.
+fn serve_each(group: Group, i: usize, j: usize, start: usize, end: usize) -> Group
+    requires { ⌜ (i < 2) × (j < 10) × (end ≤ 4) ⌝ }
 {
-    let mut h = g;
-    let mut k = a;
-    while k < b {
-        h = serve(h, i, j, k);
+    let mut changed = group;
+    let mut k = start;
+    while k < end {
+        changed = serve(changed, i, j, k);
         k += 1;
     }
-    h
+    changed
 }
 
-// ---- who reads and writes when, and which servers take which message. A client never has its own write
+// ---- who reads and writes when, and which servers serve which message. A client never has its own write
 // forwarded: on each channel its WRITE_INFO comes behind its DONE. So client 2 reads while client 1 writes.
 
 // Client 1 writes: GET_INFO, which is its message j, DONE and WRITE_INFO reach the servers that work.
-fn whole_write(g: Group, entry: u64, j: usize, live: usize) -> Group
+fn whole_write(group: Group, entry: u64, j: usize, live: usize) -> Group
     requires { ⌜ (j + 2 < 10) × (live ≤ 4) ⌝ }
 {
-    let a = write(g, 0, entry);
-    let b = serve_each(a, 0, j, 0, live);
-    let c = serve_each(b, 0, j + 1, 0, live);
-    serve_each(c, 0, j + 2, 0, live)
+    let begun = write(group, 0, entry);
+    let asked = serve_each(begun, 0, j, 0, live);
+    let done = serve_each(asked, 0, j + 1, 0, live);
+    serve_each(done, 0, j + 2, 0, live)
 }
 
 // Client 1 reads: GET_INFO, its message j, and DONE reach them.
-fn whole_read(g: Group, j: usize, live: usize) -> Group
+fn whole_read(group: Group, j: usize, live: usize) -> Group
     requires { ⌜ (j + 1 < 10) × (live ≤ 4) ⌝ }
 {
-    let a = read(g, 0);
-    let b = serve_each(a, 0, j, 0, live);
-    serve_each(b, 0, j + 1, 0, live)
+    let begun = read(group, 0);
+    let asked = serve_each(begun, 0, j, 0, live);
+    serve_each(asked, 0, j + 1, 0, live)
 }
 
 // Client 1 writes, reads, writes and reads.
 fn one_client(f: u8, live: usize)
     requires { ⌜ live ≤ 4 ⌝ }
 {
-    let a = whole_write(new_group(f), FIRST, 0, live);
-    let b = whole_read(a, 3, live);
-    let c = whole_write(b, SECOND, 5, live);
-    whole_read(c, 8, live);
+    let written = whole_write(new_group(f), FIRST, 0, live);
+    let seen = whole_read(written, 3, live);
+    let again = whole_write(seen, SECOND, 5, live);
+    whole_read(again, 8, live);
 }
 
 // Client 2 reads; its DONE stays on its way.
-fn other_read(g: Group, live: usize) -> Group
+fn other_read(group: Group, live: usize) -> Group
     requires { ⌜ live ≤ 4 ⌝ }
 {
-    let a = read(g, 1);
-    serve_each(a, 1, 0, 0, live)
+    let begun = read(group, 1);
+    serve_each(begun, 1, 0, 0, live)
 }
 
-// Client 1 writes again, and client 2 starts to read before server 1 takes the WRITE_INFO. The server still
+// Client 1 writes again, and client 2 starts to read before server 1 serves the WRITE_INFO. The server still
 // has client 2 as a reader: the forward is taken before any INFO.
-fn second_write(g: Group, live: usize) -> Group
+fn second_write(group: Group, live: usize) -> Group
     requires { ⌜ live ≤ 4 ⌝ }
 {
-    let a = write(g, 0, SECOND);
-    let b = serve_each(a, 0, 5, 0, live);
-    let c = serve_each(b, 0, 6, 0, live);
-    let d = read(c, 1);
-    serve_each(d, 0, 7, 0, 1)
+    let begun = write(group, 0, SECOND);
+    let asked = serve_each(begun, 0, 5, 0, live);
+    let done = serve_each(asked, 0, 6, 0, live);
+    let both = read(done, 1);
+    serve_each(both, 0, 7, 0, 1)
 }
 
 // The read goes on. With f = 1 no pair counts until server 2 forwards the write, and what server 3 forwards
 // is dropped.
-fn last_read(g: Group, live: usize)
+fn last_read(group: Group, live: usize)
     requires { ⌜ live ≤ 4 ⌝ }
 {
-    let a = serve_each(g, 1, 1, 0, live);
-    let b = serve_each(a, 1, 2, 0, live);
-    let c = serve_each(b, 0, 7, 1, live);
-    serve_each(c, 1, 3, 0, live);
+    let done = serve_each(group, 1, 1, 0, live);
+    let asked = serve_each(done, 1, 2, 0, live);
+    let forwarded = serve_each(asked, 0, 7, 1, live);
+    serve_each(forwarded, 1, 3, 0, live);
 }
 
 fn two_clients(f: u8, live: usize)
     requires { ⌜ live ≤ 4 ⌝ }
 {
-    let a = whole_write(new_group(f), FIRST, 0, live);
-    let b = whole_read(a, 3, live);
-    let c = other_read(b, live);
-    last_read(second_write(c, live), live);
+    let written = whole_write(new_group(f), FIRST, 0, live);
+    let seen = whole_read(written, 3, live);
+    let other = other_read(seen, live);
+    last_read(second_write(other, live), live);
 }
 
 fn main() {

@@ -5,22 +5,22 @@ ghost use Rattle.exchange.specs.Digits.{hexDigit};
 use message::Pair;
 use register::Answer;
 
-fn digit(v: u8) -> u8
-    requires { ⌜ v < 16 ⌝ }
-    ensures { λ r. ⌜ r ≡ hexDigit v ⌝ }
+fn digit(value: u8) -> u8
+    requires { ⌜ value < 16 ⌝ }
+    ensures { λ r. ⌜ r ≡ hexDigit value ⌝ }
 {
-    if v < 10 { 48 + v } else { 55 + v }
+    if value < 10 { 48 + value } else { 55 + value }
 }
 
-fn print_byte(b: u8) {
-    let text = [digit(b / 16), digit(b % 16)];
+fn print_byte(byte: u8) {
+    let text = [digit(byte / 16), digit(byte % 16)];
     io::write_all(1, &text);
 }
 
-fn print_bytes(s: &[u8]) {
+fn print_bytes(bytes: &[u8]) {
     let mut i: usize = 0;
-    while i < s.len() {
-        print_byte(s[i]);
+    while i < bytes.len() {
+        print_byte(bytes[i]);
         i += 1;
     }
 }
@@ -30,52 +30,52 @@ fn print_name(word: &[u8], number: u64) {
     io::print_decimal(1, number);
 }
 
-fn print_message(s: &[u8]) {
+fn print_message(bytes: &[u8]) {
     io::write_all(1, b": ");
-    print_bytes(s);
+    print_bytes(bytes);
     io::write_all(1, b"\n");
 }
 
-fn print_request(d: u64, k: u64, s: &[u8]) {
+fn print_request(d: u64, k: u64, bytes: &[u8]) {
     print_name(b"client ", d);
     print_name(b" to server ", k);
-    print_message(s);
+    print_message(bytes);
 }
 
 // What client d sends to servers 1 to n.
-pub fn print_requests(d: u64, n: u64, s: &[u8]) {
+pub fn print_requests(d: u64, n: u64, bytes: &[u8]) {
     let mut k: u64 = 0;
     while k < n {
         k += 1;
-        print_request(d, k, s);
+        print_request(d, k, bytes);
     }
 }
 
 // What server k sends to client d.
-pub fn print_reply(k: u64, d: u64, s: &[u8]) {
+pub fn print_reply(k: u64, d: u64, bytes: &[u8]) {
     print_name(b"server ", k);
     print_name(b" to client ", d);
-    print_message(s);
+    print_message(bytes);
 }
 
-fn print_entry(e: u64) {
-    print_byte(basics::byte(e, 32));
-    print_byte(basics::byte(e, 24));
-    print_byte(basics::byte(e, 16));
-    print_byte(basics::byte(e, 8));
-    print_byte(basics::byte(e, 0));
+fn print_entry(entry: u64) {
+    print_byte(basics::byte(entry, 32));
+    print_byte(basics::byte(entry, 24));
+    print_byte(basics::byte(entry, 16));
+    print_byte(basics::byte(entry, 8));
+    print_byte(basics::byte(entry, 0));
 }
 
-fn print_pair(word: &[u8], p: Pair) {
-    print_name(word, message::counter_word(message::counter_of(p)));
-    print_name(b" ", message::client_of(p) as u64);
+fn print_pair(word: &[u8], pair: Pair) {
+    print_name(word, message::counter_word(message::counter_of(pair)));
+    print_name(b" ", message::client_of(pair) as u64);
     io::write_all(1, b" ");
-    print_entry(message::entry_of(p).0);
+    print_entry(message::entry_of(pair).0);
 }
 
-fn print_outcome(d: u64, word: &[u8], p: Pair) {
+fn print_outcome(d: u64, word: &[u8], pair: Pair) {
     print_name(b"client ", d);
-    print_pair(word, p);
+    print_pair(word, pair);
     io::write_all(1, b"\n");
 }
 
@@ -86,15 +86,15 @@ fn print_refused(d: u64, number: u8) {
 }
 
 // What client d answers, unless it only goes on.
-pub fn print_answer(d: u64, a: Answer) {
-    match a {
+pub fn print_answer(d: u64, answer: Answer) {
+    match answer {
         Answer::Went => {}
-        Answer::Read(p) => print_outcome(d, b" READ ", p),
-        Answer::Wrote(p) => print_outcome(d, b" WROTE ", p),
+        Answer::Read(pair) => print_outcome(d, b" READ ", pair),
+        Answer::Wrote(pair) => print_outcome(d, b" WROTE ", pair),
         Answer::Spent => {
             print_name(b"client ", d);
             io::write_all(1, b" SPENT\n");
         }
-        Answer::Refused(r) => print_refused(d, refusal::number(r)),
+        Answer::Refused(why) => print_refused(d, refusal::number(why)),
     }
 }

@@ -1,13 +1,10 @@
 -- Five numbers within their widths join to the number that the two words of the code have.
 -- Assumes nothing.
-use mathlib.Core.Path.{_≡_, sym, ap, _∙_}
-use Prim.Native.Nat.{ℕ, _+_, _*_, _%_, _^_, _<_}
+use Rattle.basics.proofs.Prelude.{_≡_, sym, ap, _∙_, ℕ, _+_, _*_, _%_, _^_, _<_, arith, lt-ltb}
 use native.Mathlib.Nat.{mod-eq-of-lt}
-use native.Mathlib.Omega.{arith}
 use lib.Bits.{bitOr, or-shifted}
 use lib.Dec.{lit≤}
 use lib.Pow.{shl-exact}
-use borrow.Author.Tests.{lt-ltb}
 use Rattle.message.specs.declared.Pair.{Pair}
 use Rattle.message.specs.Layout.{joined, messageOf, wordsNumber}
 use Rattle.message.specs.Pair.{pairOf}

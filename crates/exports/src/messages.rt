@@ -45,49 +45,49 @@ fn message_of(kind: u64, tag: u64, counter: u64, client: u64, entry: u64) -> Unp
     if OVER_ENTRY <= entry {
         return Unpacked::Refused(Refusal::Malformed);
     }
-    let p = message::pair_of(message::counter_from(counter), client as u8, Entry(entry));
-    message::of_words(Words(((kind as u32) << KIND_AT) | (tag as u32), p.0))
+    let pair = message::pair_of(message::counter_from(counter), client as u8, Entry(entry));
+    message::of_words(Words(((kind as u32) << KIND_AT) | (tag as u32), pair.0))
 }
 
 // The five numbers of a message.
-fn fields_of(m: Message) -> [u64; 5]
-    ensures { λ r. ⌜ r ≡ fieldsOf m ⌝ }
+fn fields_of(message: Message) -> [u64; 5]
+    ensures { λ r. ⌜ r ≡ fieldsOf message ⌝ }
 {
-    match m {
-        Message::GetInfo(n) => [1, message::read_word(n), 0, 0, 0],
-        Message::Info(n, p) => [
+    match message {
+        Message::GetInfo(tag) => [1, message::read_word(tag), 0, 0, 0],
+        Message::Info(tag, pair) => [
             2,
-            message::read_word(n),
-            counter_word(counter_of(p)),
-            client_of(p) as u64,
-            entry_of(p).0,
+            message::read_word(tag),
+            counter_word(counter_of(pair)),
+            client_of(pair) as u64,
+            entry_of(pair).0,
         ],
         Message::Done => [3, 0, 0, 0, 0],
-        Message::WriteInfo(p) => [
+        Message::WriteInfo(pair) => [
             4,
             0,
-            counter_word(counter_of(p)),
-            client_of(p) as u64,
-            entry_of(p).0,
+            counter_word(counter_of(pair)),
+            client_of(pair) as u64,
+            entry_of(pair).0,
         ],
-        Message::Fwd(p) => [
+        Message::Fwd(pair) => [
             5,
             0,
-            counter_word(counter_of(p)),
-            client_of(p) as u64,
-            entry_of(p).0,
+            counter_word(counter_of(pair)),
+            client_of(pair) as u64,
+            entry_of(pair).0,
         ],
-        Message::WriteAck(c) => [6, 0, counter_word(c), 0, 0],
+        Message::WriteAck(counter) => [6, 0, counter_word(counter), 0, 0],
     }
 }
 
 // Nothing, or the refusal's number.
-fn pack_number(p: Packed) -> u32
-    ensures { λ r. ⌜ r ≡ packNumber p ⌝ }
+fn pack_number(packed: Packed) -> u32
+    ensures { λ r. ⌜ r ≡ packNumber packed ⌝ }
 {
-    match p {
+    match packed {
         Packed::Done => 0,
-        Packed::Refused(n) => refusal::number(n) as u32,
+        Packed::Refused(why) => refusal::number(why) as u32,
     }
 }
 
@@ -99,10 +99,10 @@ pub extern "C" fn exports_pack(fields: &[u64; 5], out: &mut [u8]) -> u32
     ensures bytes { λ r. ⌜ now (out .exit)
         ≡ packedBytes (messageIn (now (fields .entry))) (now (out .entry)) ⌝ }
 {
-    let u = message_of(fields[0], fields[1], fields[2], fields[3], fields[4]);
-    match u {
-        Unpacked::Refused(r) => refusal::number(r) as u32,
-        Unpacked::Good(m) => pack_number(message::pack(m, out)),
+    let given = message_of(fields[0], fields[1], fields[2], fields[3], fields[4]);
+    match given {
+        Unpacked::Refused(why) => refusal::number(why) as u32,
+        Unpacked::Good(message) => pack_number(message::pack(message, out)),
     }
 }
 
@@ -114,11 +114,11 @@ pub extern "C" fn exports_unpack(bytes: &[u8], fields: &mut [u64; 5]) -> u32
     ensures fields { λ r. ⌜ now (fields .exit)
         ≡ unpackedFields (unpackOf (now (bytes .entry))) (now (fields .entry)) ⌝ }
 {
-    let u = message::unpack(bytes);
-    match u {
-        Unpacked::Refused(r) => refusal::number(r) as u32,
-        Unpacked::Good(m) => {
-            *fields = fields_of(m);
+    let given = message::unpack(bytes);
+    match given {
+        Unpacked::Refused(why) => refusal::number(why) as u32,
+        Unpacked::Good(message) => {
+            *fields = fields_of(message);
             0
         }
     }

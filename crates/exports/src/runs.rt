@@ -5,7 +5,7 @@ ghost use lib.ListN.{length};
 ghost use Prim.Native.Nat.{_*_, _≤_};
 ghost use Rattle.register.specs.World.{newWorld};
 ghost use Rattle.state.specs.Sound.{areAllowed};
-ghost use Rattle.system.specs.Run.{Run};
+ghost use Rattle.system.specs.Run.{stepNumbers, answerNumbers, Run};
 ghost use Rattle.system.specs.Setup.{setupOf};
 ghost use Rattle.system.specs.Stored.{Stored};
 ghost use Rattle.exports.specs.Runs.{setupNumber, answersOf};
@@ -14,6 +14,8 @@ use channel::Slots;
 use state::Clients;
 use state::Servers;
 use state::Settings;
+use system::run::ANSWER;
+use system::run::STEP;
 use system::run::run;
 use system::run::step_in;
 use system::run::write_answer;
@@ -21,40 +23,35 @@ use system::setup::Setup;
 use system::setup::set_up;
 use system::step::step;
 
-// The numbers of a step, and of an answer.
-const STEP: usize = 5;
-
-const ANSWER: usize = 2;
-
 // Nothing, or the refusal's number.
 fn setup_number(setup: Setup) -> u32
     ensures { λ r. ⌜ r ≡ setupNumber setup ⌝ }
 {
     match setup {
         Setup::Set(_) => 0,
-        Setup::Refused(n) => refusal::number(n) as u32,
+        Setup::Refused(why) => refusal::number(why) as u32,
     }
 }
 
 // The steps one after the other through `step`, which tests the whole state each time.
 fn step_through(
-    t: Settings,
+    settings: Settings,
     steps: &[u64],
     n: usize,
     out: &mut [u64],
-    s: &mut Servers,
-    c: &mut Clients,
-    b: &mut Slots,
+    servers: &mut Servers,
+    clients: &mut Clients,
+    slots: &mut Slots,
 )
-    requires { ⌜ (areAllowed t ≡ true) × Stored newWorld (now s) (now c) (now b)
-        × (n * 5 ≤ length (now steps)) × (n * 2 ≤ length (now out)) ⌝ }
-    ensures { λ _. ⌜ Run t (now (steps .entry)) (now (out .entry)) n n
-        (now (s .exit)) (now (c .exit)) (now (b .exit)) (now (out .exit)) ⌝ }
+    requires { ⌜ (areAllowed settings ≡ true) × Stored newWorld (now servers) (now clients) (now slots)
+        × (n * stepNumbers ≤ length (now steps)) × (n * answerNumbers ≤ length (now out)) ⌝ }
+    ensures { λ _. ⌜ Run settings (now (steps .entry)) (now (out .entry)) n n
+        (now (servers .exit)) (now (clients .exit)) (now (slots .exit)) (now (out .exit)) ⌝ }
 {
     let mut i = 0;
     while i < n {
-        let a = step(t, step_in(steps, i), s, c, b);
-        write_answer(out, i, a);
+        let answer = step(settings, step_in(steps, i), servers, clients, slots);
+        write_answer(out, i, answer);
         i += 1;
     }
 }
@@ -64,43 +61,60 @@ fn step_through(
 #[no_mangle]
 pub extern "C" fn exports_run(
     f: u32,
-    clients: u32,
+    count: u32,
     faulty: u32,
     steps: &[u64],
     out: &mut [u64],
 ) -> u32
-    ensures answer { λ z. ⌜ z ≡ setupNumber (setupOf f clients faulty) ⌝ }
-    ensures answers { λ z. ⌜ now (out .exit)
-        ≡ answersOf (setupOf f clients faulty) (now (steps .entry)) (now (out .entry)) ⌝ }
+    ensures answer { λ r. ⌜ r ≡ setupNumber (setupOf f count faulty) ⌝ }
+    ensures answers { λ r. ⌜ now (out .exit)
+        ≡ answersOf (setupOf f count faulty) (now (steps .entry)) (now (out .entry)) ⌝ }
 {
-    let mut s = [0u64; 26];
-    let mut c = [0u64; 571];
-    let mut b = channel::empty_slots();
-    setup_number(run(f, clients, faulty, steps, out, &mut s, &mut c, &mut b))
+    let mut servers = [0u64; 26];
+    let mut clients = [0u64; 571];
+    let mut slots = channel::empty_slots();
+    setup_number(run(
+        f,
+        count,
+        faulty,
+        steps,
+        out,
+        &mut servers,
+        &mut clients,
+        &mut slots,
+    ))
 }
 
 // The same run, each step through the public `step`.
 #[no_mangle]
 pub extern "C" fn exports_run_by_steps(
     f: u32,
-    clients: u32,
+    count: u32,
     faulty: u32,
     steps: &[u64],
     out: &mut [u64],
 ) -> u32
-    ensures answer { λ z. ⌜ z ≡ setupNumber (setupOf f clients faulty) ⌝ }
-    ensures answers { λ z. ⌜ now (out .exit)
-        ≡ answersOf (setupOf f clients faulty) (now (steps .entry)) (now (out .entry)) ⌝ }
+    ensures answer { λ r. ⌜ r ≡ setupNumber (setupOf f count faulty) ⌝ }
+    ensures answers { λ r. ⌜ now (out .exit)
+        ≡ answersOf (setupOf f count faulty) (now (steps .entry)) (now (out .entry)) ⌝ }
 {
-    let mut s = [0u64; 26];
-    let mut c = [0u64; 571];
-    let mut b = channel::empty_slots();
-    let setup = set_up(f, clients, faulty, &mut s, &mut c, &mut b);
+    let mut servers = [0u64; 26];
+    let mut clients = [0u64; 571];
+    let mut slots = channel::empty_slots();
+    let setup = set_up(f, count, faulty, &mut servers, &mut clients, &mut slots);
     match setup {
-        Setup::Refused(n) => refusal::number(n) as u32,
-        Setup::Set(t) => {
+        Setup::Refused(why) => refusal::number(why) as u32,
+        Setup::Set(settings) => {
             let n = least(steps.len() / STEP, out.len() / ANSWER);
-            step_through(t, steps, n, out, &mut s, &mut c, &mut b);
+            step_through(
+                settings,
+                steps,
+                n,
+                out,
+                &mut servers,
+                &mut clients,
+                &mut slots,
+            );
             0
         }
     }

@@ -3,18 +3,13 @@
 -- Its sign is their order (`diff-negative`, `diff-positive`, `diff-same`, `diff-zero`). Where both are below
 -- 2 ^ 31 it lies between −2 ^ 31 and 2 ^ 31, so it fits 32 bits (`diff-fits`) and is kept whole (`diff-is`).
 -- Assumes nothing.
-use mathlib.Core.Path.{_≡_, _∙_, ap}
-use mathlib.Core.Bool.{Bool, true, false, cond}
-use Prim.Native.Nat.{ℕ, zero, suc, _-_, _^_, _≤_, _<_}
-use native.Mathlib.Nat.{not-suc-le-zero}
-use native.Mathlib.Omega.{arith}
-use lib.Dec.{ltb}
+use Rattle.basics.proofs.Prelude.{_≡_, ap, _∙_, Bool, true, false, cond, ℕ, zero, suc, _-_, _^_, _≤_, _<_}
+use Rattle.basics.proofs.Prelude.{not-suc-le-zero, arith, ltb, ltb-true, ltb-false, lt-ltb, le-ltb}
 use lib.IntN.{pos, negsuc, _-ℤ_}
 use lib.Signed.{mag, ltZ}
 use mir.Syntax.{w32}
 use mir.Val.{toZ, ofZ, SFits}
 use mir.ValLaws.{toZ-pos, toZ-ofZ}
-use borrow.Author.Tests.{ltb-true, ltb-false, lt-ltb, le-ltb}
 use Rattle.basics.proofs.Cases.{by-test}
 
 diff-less : (a b : ℕ) → a < b → pos a -ℤ pos b ≡ negsuc (b - suc a)

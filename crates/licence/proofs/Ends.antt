@@ -1,10 +1,7 @@
 -- The end of a licence is a real date (`end-real`), so the calendar numbers it; and where the calendar gives
 -- no number, there is no real date (`not-numbered`).
 -- Assumes nothing.
-use mathlib.Core.Path.{_≡_}
-use mathlib.Core.Bool.{true, false}
-use Prim.Native.Nat.{ℕ}
-use native.Mathlib.Omega.{arith}
+use Rattle.basics.proofs.Prelude.{_≡_, true, false, ℕ, arith}
 use Rattle.basics.proofs.Cases.{by-test}
 use Rattle.refusal.specs.declared.Refusal.{Refusal}
 use Rattle.calendar.specs.Calendar.{isDate, dayNumber}

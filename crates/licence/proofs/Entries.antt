@@ -5,31 +5,26 @@
 -- make it one (`is-licence-of`). So splitting an entry and joining gives it back (`join-of-split`), and
 -- joining gives a licence entry whose fields are those joined (`split-of-join`).
 -- Assumes nothing.
-use mathlib.Core.Path.{_≡_, _∙_, ap, sym}
-use mathlib.Core.Bool.{true}
-use Prim.Native.Nat.{ℕ, _^_, _<_}
-use native.Mathlib.Omega.{arith}
-use lib.Dec.{ltb}
-use borrow.Author.Tests.{ltb-true, lt-ltb}
-use Rattle.basics.proofs.Cases.{by-test, both, both-of}
+use Rattle.basics.proofs.Prelude.{_≡_, sym, ap, _∙_, true, ℕ, _^_, _<_, ltb, ltb-true, lt-ltb}
+use Rattle.basics.proofs.Cases.{by-test, both, both-of, clash}
 use Rattle.refusal.specs.Numbers.{numbered}
 use Rattle.licence.specs.declared.Fields.{Fields}
 use Rattle.licence.specs.declared.Joined.{Joined}
-use Rattle.licence.specs.Entry.{fieldsOf, joined, isLicensed, isLicence, joinedOf}
+use Rattle.licence.specs.Entry.{entryBits, fieldsOf, joined, isLicensed, isLicence, joinedOf}
 use Rattle.licence.proofs.Licensed.{narrow}
 use Rattle.licence.proofs.RoundTrip.{split-join, join-split, joined-small}
 
-pub is-licence-small : (e : ℕ) → isLicence e ≡ true → e < 2 ^ 40
+pub is-licence-small : (e : ℕ) → isLicence e ≡ true → e < 2 ^ entryBits
 unfolding isLicence
-is-licence-small e p = ltb-true _ _ (both (ltb e (2 ^ 40)) (isLicensed (fieldsOf e)) p .0)
+is-licence-small e p = ltb-true _ _ (both (ltb e (2 ^ entryBits)) (isLicensed (fieldsOf e)) p .0)
 
 pub entry-fields : (e : ℕ) → isLicence e ≡ true → isLicensed (fieldsOf e) ≡ true
 unfolding isLicence
-entry-fields e p = both (ltb e (2 ^ 40)) (isLicensed (fieldsOf e)) p .1
+entry-fields e p = both (ltb e (2 ^ entryBits)) (isLicensed (fieldsOf e)) p .1
 
-pub is-licence-of : (e : ℕ) → e < 2 ^ 40 → isLicensed (fieldsOf e) ≡ true → isLicence e ≡ true
+pub is-licence-of : (e : ℕ) → e < 2 ^ entryBits → isLicensed (fieldsOf e) ≡ true → isLicence e ≡ true
 unfolding isLicence
-is-licence-of e h p = both-of (ltb e (2 ^ 40)) (isLicensed (fieldsOf e)) (lt-ltb _ _ h) p
+is-licence-of e h p = both-of (ltb e (2 ^ entryBits)) (isLicensed (fieldsOf e)) (lt-ltb _ _ h) p
 
 -- fields of a licence, joined, are a licence entry
 pub joined-licence : (f : Fields) → isLicensed f ≡ true → f .copies < 2 ^ 16 → isLicence (joined f) ≡ true
@@ -53,4 +48,4 @@ split-of-join f e h p =
       sym (ap fieldsOf same) ∙ split-join f (narrow f yes h),
     ))
     (λ no. let q : Joined.Refused (numbered 8) ≡ Joined.Entry e = rw no at p in
-    absurd (let z : _≡_ {A = ℕ} 0 1 = cc in omega arith))
+    clash (cc))

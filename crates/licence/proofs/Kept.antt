@@ -4,14 +4,10 @@
 -- either way it is a day of its month in the new year, since only February's length depends on the year
 -- (`kept-real`).
 -- Assumes nothing.
-use mathlib.Core.Path.{_≡_, refl, _∙_, ap}
-use mathlib.Core.Bool.{Bool, true, false, cond, _&&_}
-use Prim.Native.Nat.{ℕ, _≤_}
-use native.Mathlib.Omega.{arith}
-use lib.Dec.{eqb}
-use borrow.Author.Tests.{eqb-true, eqb-false, eq-eqb, ne-eqb}
+use Rattle.basics.proofs.Prelude.{_≡_, refl, ap, _∙_, Bool, true, false, cond, _&&_, ℕ, _≤_, arith, eqb}
+use Rattle.basics.proofs.Prelude.{eqb-true, eqb-false, eq-eqb, ne-eqb}
 use Rattle.basics.proofs.Cases.{by-test}
-use Rattle.calendar.specs.Calendar.{leap, monthLength}
+use Rattle.calendar.specs.Calendar.{firstYear, lastYear, leap, monthLength}
 use Rattle.calendar.proofs.Dates.{Real}
 use Rattle.licence.specs.declared.Fields.{Fields}
 use Rattle.licence.specs.Renewal.{span, keptDay}
@@ -23,11 +19,6 @@ span-zero = refl
 pub span-given : (years : ℕ) → 1 ≤ years → span years ≡ years
 unfolding span
 span-given years h = rw (ne-eqb years 0 (λ e. omega arith))
-
-pub span-least : (years : ℕ) → 1 ≤ span years
-unfolding span
-span-least years =
-    by-test (eqb years 0) (λ e. rw e (omega arith)) (λ e. rw e (let d = eqb-false years 0 e in omega arith))
 
 -- only February's length depends on the year
 other-month : (l k : Bool) (month : ℕ) → eqb month 2 ≡ false → monthLength l month ≡ monthLength k month
@@ -92,7 +83,8 @@ module _ (f : Fields) (y : ℕ) where
     within =
         by-test (eqb (f .month) 2) (λ e. by-test (leap y) (within-leap e) (within-common e)) within-other
 
-  pub kept-real : Real (f .year) (f .month) (f .day) → 1900 ≤ y → y ≤ 2199 → Real y (f .month) (keptDay f y)
+  pub kept-real : Real (f .year) (f .month) (f .day) → firstYear ≤ y → y ≤ lastYear
+      → Real y (f .month) (keptDay f y)
   kept-real r least most =
       record {
         year-least = least;

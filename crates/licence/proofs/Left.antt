@@ -5,15 +5,11 @@
 -- and day numbers keep the order of dates both ways and are one to one (crate `calendar`). So the sign is the
 -- order of the dates (`on-last-day`, `before-end`, `after-end`).
 -- Assumes nothing.
-use mathlib.Core.Path.{_≡_, _∙_, ap, sym}
-use mathlib.Core.Bool.{true, false, _&&_}
+use Rattle.basics.proofs.Prelude.{_≡_, sym, ap, _∙_, true, false, _&&_, ℕ, ltb-true, lt-ltb}
 use mathlib.Core.Logic.{_↔_}
-use Prim.Native.Nat.{ℕ}
-use native.Mathlib.Omega.{arith}
 use lib.IntN.{ℤ, pos, _-ℤ_}
 use lib.Signed.{ltZ}
-use borrow.Author.Tests.{ltb-true, lt-ltb}
-use Rattle.basics.proofs.Cases.{by-test, both}
+use Rattle.basics.proofs.Cases.{by-test, both, clash}
 use Rattle.refusal.specs.Numbers.{numbered}
 use Rattle.calendar.specs.Calendar.{isDate}
 use Rattle.calendar.specs.Order.{Date, date, isReal, number, earlier}
@@ -54,7 +50,7 @@ module _ (e year month day : ℕ) where
       (λ t. let p = both (isLicence e) (isDate year month day) t in
       let b = left-given (p .0) (p .1) in
       record { licence = p .0; date = p .1; is = cc })
-      (λ f. let b = left-refused f in absurd (let z : _≡_ {A = ℕ} 0 1 = cc in omega arith))
+      (λ f. let b = left-refused f in clash (cc))
 
   module _ (n : ℤ) (a : daysLeft e year month day ≡ Days n) where
     end-is-real : isReal end ≡ true

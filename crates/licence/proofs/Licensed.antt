@@ -4,12 +4,7 @@
 -- (`licensed`, `licensed-of`). So every field but the copies is within its width, and the copies are if they
 -- have 16 bits (`narrow`).
 -- Assumes nothing.
-use mathlib.Core.Path.{_≡_}
-use mathlib.Core.Bool.{true, _&&_}
-use Prim.Native.Nat.{_^_, _≤_, _<_}
-use native.Mathlib.Omega.{arith}
-use lib.Dec.{leb}
-use borrow.Author.Tests.{leb-true, le-leb}
+use Rattle.basics.proofs.Prelude.{_≡_, true, _&&_, _^_, _≤_, _<_, arith, leb, leb-true, le-leb}
 use Rattle.basics.proofs.Cases.{both, both-of}
 use Rattle.calendar.specs.Calendar.{leap, isDate}
 use Rattle.calendar.proofs.Dates.{Real, real, real-date}

@@ -4,14 +4,10 @@
 -- `kindOf` are given exactly to the licence entries (`licence-kind`), to the empty entry (`empty-kind`) and
 -- to all that are neither (`nothing-kind`).
 -- Assumes nothing.
-use mathlib.Core.Path.{_≡_, refl, _∙_, ap}
-use mathlib.Core.Bool.{true, false}
-use mathlib.Core.Logic.{_↔_, _≢_}
-use Prim.Native.Nat.{ℕ}
-use native.Mathlib.Omega.{arith}
-use lib.Dec.{eqb}
-use borrow.Author.Tests.{eqb-true, eqb-false, eq-eqb, ne-eqb}
-use Rattle.basics.proofs.Cases.{by-test, true-or-false}
+use Rattle.basics.proofs.Prelude.{_≡_, refl, ap, _∙_, true, false, _≢_, ℕ, eqb, eqb-true, eqb-false, eq-eqb}
+use Rattle.basics.proofs.Prelude.{ne-eqb}
+use mathlib.Core.Logic.{_↔_}
+use Rattle.basics.proofs.Cases.{by-test, clash}
 use Rattle.calendar.specs.Calendar.{isDate}
 use Rattle.licence.specs.declared.Kind.the-variants.{Licence, Empty, Nothing}
 use Rattle.licence.specs.Entry.{isLicensed, isLicence, empty, kindOf}
@@ -19,10 +15,6 @@ use Rattle.licence.specs.Entry.{isLicensed, isLicence, empty, kindOf}
 pub empty-is-none : isLicence empty ≡ false
 unfolding isLicence isLicensed isDate
 empty-is-none = refl
-
--- a licence entry is not the empty one
-pub licence-not-empty : (e : ℕ) → isLicence e ≡ true → e ≢ empty
-licence-not-empty e p q = true-or-false (isLicence e) p (ap isLicence q ∙ empty-is-none)
 
 module _ (e : ℕ) where
   is-licence : isLicence e ≡ true → kindOf e ≡ Licence
@@ -46,22 +38,13 @@ module _ (e : ℕ) where
       (λ q. let z = eqb-false e empty q in nothing p z (is-nothing p z)))
 
   pub licence-kind : kindOf e ≡ Licence ↔ isLicence e ≡ true
-  licence-kind = (
-    λ k. by-kind (λ p _. p) (λ _ c. absurd (let z : _≡_ {A = ℕ} 0 1 = cc in omega arith))
-        (λ _ _ c. absurd (let z : _≡_ {A = ℕ} 0 1 = cc in omega arith)),
-    is-licence,
-  )
+  licence-kind = (λ k. by-kind (λ p _. p) (λ _ c. clash (cc)) (λ _ _ c. clash (cc)), is-licence)
 
   pub empty-kind : kindOf e ≡ Empty ↔ e ≡ empty
-  empty-kind = (
-    λ k. by-kind (λ _ c. absurd (let z : _≡_ {A = ℕ} 0 1 = cc in omega arith)) (λ p _. p)
-        (λ _ _ c. absurd (let z : _≡_ {A = ℕ} 0 1 = cc in omega arith)),
-    is-empty,
-  )
+  empty-kind = (λ k. by-kind (λ _ c. clash (cc)) (λ p _. p) (λ _ _ c. clash (cc)), is-empty)
 
   pub nothing-kind : kindOf e ≡ Nothing ↔ ((isLicence e ≡ false) × (e ≢ empty))
   nothing-kind = (
-    λ k. by-kind (λ _ c. absurd (let z : _≡_ {A = ℕ} 0 1 = cc in omega arith))
-        (λ _ c. absurd (let z : _≡_ {A = ℕ} 0 1 = cc in omega arith)) (λ p q _. (p, q)),
+    λ k. by-kind (λ _ c. clash (cc)) (λ _ c. clash (cc)) (λ p q _. (p, q)),
     λ h. is-nothing (h .0) (h .1),
   )

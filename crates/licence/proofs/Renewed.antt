@@ -5,25 +5,22 @@
 -- span, with month, copies and state kept and the day by the rule (`renewed`). What may not be renewed is
 -- refused, and nothing else (`renewed-when`, `refused-when`).
 -- Assumes nothing.
-use mathlib.Core.Path.{_≡_, _∙_, ap, subst}
-use mathlib.Core.Bool.{true, false, _&&_}
-use Prim.Native.Nat.{ℕ, _+_, _^_, _≤_, _<_}
-use native.Mathlib.Omega.{arith}
-use lib.Dec.{leb}
-use borrow.Author.Tests.{le-leb, leb-true}
-use Rattle.basics.proofs.Cases.{by-test, both, both-of}
+use Rattle.basics.proofs.Prelude.{_≡_, ap, subst, true, false, _&&_, ℕ, _+_, _^_, _≤_, _<_, arith, leb}
+use Rattle.basics.proofs.Prelude.{leb-true}
+use Rattle.basics.proofs.Cases.{by-test, both, clash}
 use Rattle.refusal.specs.Numbers.{numbered}
+use Rattle.calendar.specs.Calendar.{lastYear}
 use Rattle.licence.specs.declared.Fields.{Fields}
 use Rattle.licence.specs.declared.Renewal.{Renewal}
 use Rattle.licence.specs.Entry.{fieldsOf, joined, isLicensed, isLicence, Narrow}
-use Rattle.licence.specs.Renewal.{span, keptDay, later, isRenewable, renewedOf}
+use Rattle.licence.specs.Renewal.{span, keptDay, later, mostYears, isRenewable, renewedOf}
 use Rattle.licence.proofs.Licensed.{licensed, licensed-of, narrow}
 use Rattle.licence.proofs.RoundTrip.{fields-narrow, split-join}
 use Rattle.licence.proofs.Entries.{entry-fields, joined-licence}
-use Rattle.licence.proofs.Kept.{day-stays, kept-real}
+use Rattle.licence.proofs.Kept.{kept-real}
 
 -- the fields of a licence in another year
-module _ (f : Fields) (y : ℕ) (p : isLicensed f ≡ true) (grows : f .year ≤ y) (most : y ≤ 2199) where
+module _ (f : Fields) (y : ℕ) (p : isLicensed f ≡ true) (grows : f .year ≤ y) (most : y ≤ lastYear) where
   pub later-licensed : isLicensed (later f y) ≡ true
   unfolding later
   later-licensed =
@@ -42,8 +39,8 @@ module _ (f : Fields) (y : ℕ) (p : isLicensed f ≡ true) (grows : f .year ≤
 -- what may be renewed
 pub record Renewable (e years : ℕ) : Type 0 where
   pub licence : isLicence e ≡ true
-  pub years-most : years ≤ 10
-  pub year-most : fieldsOf e .year + span years ≤ 2199
+  pub years-most : years ≤ mostYears
+  pub year-most : fieldsOf e .year + span years ≤ lastYear
 
 -- what the renewed entry r is
 pub record Renewed (e years r : ℕ) : Type 0 where
@@ -63,14 +60,9 @@ module _ (e years : ℕ) where
   pub renewable : isRenewable e years ≡ true → Renewable e years
   unfolding isRenewable
   renewable t =
-      let p = both (isLicence e && leb years 10) _ t in
-      let q = both (isLicence e) (leb years 10) (p .0) in
+      let p = both (isLicence e && leb years mostYears) _ t in
+      let q = both (isLicence e) (leb years mostYears) (p .0) in
       record { licence = q .0; years-most = leb-true _ _ (q .1); year-most = leb-true _ _ (p .1) }
-
-  pub renewable-of : Renewable e years → isRenewable e years ≡ true
-  unfolding isRenewable
-  renewable-of w =
-      both-of _ _ (both-of _ _ (w .licence) (le-leb _ _ (w .years-most))) (le-leb _ _ (w .year-most))
 
   pub renewed-when : isRenewable e years ≡ true → renewedOf e years ≡ Renewal.Entry (joined moved)
   unfolding renewedOf
@@ -110,10 +102,4 @@ module _ (e years : ℕ) where
       (λ t. let b = renewed-when t in
       let same : joined moved ≡ r = cc in
       subst (λ (n : ℕ). Renewed e years n) same (is-renewed (renewable t)))
-      (λ f. let b = refused-when f in absurd (let z : _≡_ {A = ℕ} 0 1 = cc in omega arith))
-
--- the day stays, but for 29 February
-pub renewed-day : (e years r : ℕ) → renewedOf e years ≡ Renewal.Entry r
-    → (fieldsOf e .month ≡ 2 → fieldsOf e .day ≡ 29 → ⊥)
-    → fieldsOf r .day ≡ fieldsOf e .day
-renewed-day e years r a other = renewed e years r a .day ∙ day-stays (fieldsOf e) _ other
+      (λ f. let b = refused-when f in clash (cc))

@@ -4,42 +4,25 @@
 -- (`join-split`), and fields within their widths are the digits of what they are joined to (`split-join`).
 -- What is split is within its widths (`fields-narrow`), and what is joined has forty bits (`joined-small`).
 -- Assumes nothing.
-use mathlib.Core.Path.{_≡_}
-use Prim.Native.Nat.{ℕ, _+_, _*_, _%_, _^_, _<_}
+use Rattle.basics.proofs.Prelude.{_≡_, ℕ, _+_, _*_, _%_, _^_, _<_, arith}
 use native.Mathlib.Nat.{div-one, mod-lt}
-use native.Mathlib.Omega.{arith}
 use lib.Pow.{pow-pos, mod-pow-add, recompose}
 use Rattle.licence.specs.declared.Fields.{Fields}
-use Rattle.licence.specs.Entry.{Place, field, fieldsOf, joined, Narrow}
+use Rattle.licence.specs.Entry.{Place, field, fieldsOf, joined, Narrow, entryBits}
 use Rattle.licence.specs.Entry.{yearPlace, monthPlace, dayPlace, copiesPlace, statePlace}
 
 module _ (f : Fields) (n : Narrow f) where
-  year-back : field yearPlace (joined f) ≡ f .year
-  year-back = omega arith
-
-  month-back : field monthPlace (joined f) ≡ f .month
-  month-back = omega arith
-
-  day-back : field dayPlace (joined f) ≡ f .day
-  day-back = omega arith
-
-  copies-back : field copiesPlace (joined f) ≡ f .copies
-  copies-back = omega arith
-
-  state-back : field statePlace (joined f) ≡ f .state
-  state-back = omega arith
-
-  pub joined-small : joined f < 2 ^ 40
+  pub joined-small : joined f < 2 ^ entryBits
   joined-small = omega arith
 
   pub split-join : fieldsOf (joined f) ≡ f
   split-join =
       λ i. record {
-        year = year-back i;
-        month = month-back i;
-        day = day-back i;
-        copies = copies-back i;
-        state = state-back i;
+        year = (let e : field yearPlace (joined f) ≡ f .year = omega arith in e) i;
+        month = (let e : field monthPlace (joined f) ≡ f .month = omega arith in e) i;
+        day = (let e : field dayPlace (joined f) ≡ f .day = omega arith in e) i;
+        copies = (let e : field copiesPlace (joined f) ≡ f .copies = omega arith in e) i;
+        state = (let e : field statePlace (joined f) ≡ f .state = omega arith in e) i;
       }
 
 -- omega takes each quotient and remainder apart by itself, so here they are variables
@@ -48,7 +31,7 @@ chain : (n y m d c s r₁ r₂ r₃ : ℕ) → y * 2 ^ 28 + r₁ ≡ n → r₁ 
     → y * 2 ^ 28 + m * 2 ^ 24 + d * 2 ^ 19 + c * 2 ^ 3 + s * 2 ^ 0 ≡ n
 chain n y m d c s r₁ r₂ r₃ p q r t = omega arith
 
-pub join-split : (n : ℕ) → n < 2 ^ 40 → joined (fieldsOf n) ≡ n
+pub join-split : (n : ℕ) → n < 2 ^ entryBits → joined (fieldsOf n) ≡ n
 join-split n h =
     rw (div-one n)
     (chain n _ _ _ _ _ (n % 2 ^ 28) (n % 2 ^ 24) (n % 2 ^ 19) (recompose 12 28 h) (mod-pow-add n 4 24)

@@ -6,15 +6,11 @@
 -- pulp is given exactly after the end or to the withdrawn (`pulp-by-date`). Without an answer of days left
 -- the verdict is refused alike (`verdict-refused`).
 -- Assumes nothing.
-use mathlib.Core.Path.{_≡_, _∙_, sym}
-use mathlib.Core.Bool.{true, false, _&&_}
-use mathlib.Core.Logic.{_↔_, _⊎_, inl, inr, ⊎-elim}
-use Prim.Native.Nat.{ℕ, _≤_}
-use native.Mathlib.Omega.{arith}
-use lib.Dec.{eqb}
+use Rattle.basics.proofs.Prelude.{_≡_, sym, _∙_, subst, true, false, _&&_, _⊎_, inl, inr, ⊎-elim, ℕ, _≤_}
+use Rattle.basics.proofs.Prelude.{arith, eqb, eqb-true, eqb-false, eq-eqb, ne-eqb}
+use mathlib.Core.Logic.{_↔_}
 use lib.IntN.{ℤ, pos}
 use lib.Signed.{ltZ}
-use borrow.Author.Tests.{eqb-true, eqb-false, eq-eqb, ne-eqb}
 use Rattle.basics.proofs.Cases.{by-test, by-either, true-or-false}
 use Rattle.refusal.specs.Numbers.{numbered}
 use Rattle.calendar.specs.Calendar.{isDate}
@@ -28,38 +24,20 @@ use Rattle.licence.proofs.Licensed.{licensed}
 use Rattle.licence.proofs.Entries.{entry-fields}
 use Rattle.licence.proofs.Left.{left-of, left-refused, after-end}
 
--- the ways that days left n and a state s of a licence can be, each with its verdict
-data Ways (n : ℤ) (s : ℕ) : Type 0 where
-  gone : ltZ n (pos 0) ≡ true → verdictBy n s ≡ Pulp → Ways n s
-  called-back : ltZ n (pos 0) ≡ false → s ≡ withdrawn → verdictBy n s ≡ Pulp → Ways n s
-  paused : ltZ n (pos 0) ≡ false → s ≡ suspended → verdictBy n s ≡ Hold → Ways n s
-  running : ltZ n (pos 0) ≡ false → s ≡ opened → verdictBy n s ≡ Print → Ways n s
+-- when a verdict is given to days left n and a state s
+abbrev When : ℤ → ℕ → Verdict → Type 0
+When n s Pulp = (ltZ n (pos 0) ≡ true) ⊎ (s ≡ withdrawn)
+When n s Hold = (ltZ n (pos 0) ≡ false) × (s ≡ suspended)
+When n s Print = (ltZ n (pos 0) ≡ false) × (s ≡ opened)
+When n s (Verdict.Refused r) = ⊥
 
-ways : (n : ℤ) (s : ℕ) → 1 ≤ s → s ≤ 3 → Ways n s
+given-when : (n : ℤ) (s : ℕ) → 1 ≤ s → s ≤ 3 → When n s (verdictBy n s)
 unfolding verdictBy
-ways n s least most =
-    by-test (ltZ n (pos 0)) (λ t. gone t (rw t))
-    (λ t. by-test (eqb s 3) (λ w. called-back t (eqb-true s 3 w) (rw (t, w)))
-    (λ w. by-test (eqb s 2) (λ h. paused t (eqb-true s 2 h) (rw (t, w, h)))
-    (λ h. let a = eqb-false s 3 w in let b = eqb-false s 2 h in running t (omega arith) (rw (t, w, h)))))
-
-pulp-only : (n : ℤ) (s : ℕ) → Ways n s → verdictBy n s ≡ Pulp → (ltZ n (pos 0) ≡ true) ⊎ (s ≡ withdrawn)
-pulp-only n s (gone t v) p = inl t
-pulp-only n s (called-back t w v) p = inr w
-pulp-only n s (paused t h v) p = absurd (let z : _≡_ {A = ℕ} 0 1 = cc in omega arith)
-pulp-only n s (running t o v) p = absurd (let z : _≡_ {A = ℕ} 0 1 = cc in omega arith)
-
-hold-only : (n : ℤ) (s : ℕ) → Ways n s → verdictBy n s ≡ Hold → (ltZ n (pos 0) ≡ false) × (s ≡ suspended)
-hold-only n s (gone t v) p = absurd (let z : _≡_ {A = ℕ} 0 1 = cc in omega arith)
-hold-only n s (called-back t w v) p = absurd (let z : _≡_ {A = ℕ} 0 1 = cc in omega arith)
-hold-only n s (paused t h v) p = (t, h)
-hold-only n s (running t o v) p = absurd (let z : _≡_ {A = ℕ} 0 1 = cc in omega arith)
-
-print-only : (n : ℤ) (s : ℕ) → Ways n s → verdictBy n s ≡ Print → (ltZ n (pos 0) ≡ false) × (s ≡ opened)
-print-only n s (gone t v) p = absurd (let z : _≡_ {A = ℕ} 0 1 = cc in omega arith)
-print-only n s (called-back t w v) p = absurd (let z : _≡_ {A = ℕ} 0 1 = cc in omega arith)
-print-only n s (paused t h v) p = absurd (let z : _≡_ {A = ℕ} 0 1 = cc in omega arith)
-print-only n s (running t o v) p = (t, o)
+given-when n s least most =
+    by-test (ltZ n (pos 0)) (λ t. rw t (inl t))
+    (λ t. by-test (eqb s 3) (λ w. rw (t, w) (inr (eqb-true s 3 w)))
+    (λ w. by-test (eqb s 2) (λ h. rw (t, w, h) (t, eqb-true s 2 h))
+    (λ h. let a = eqb-false s 3 w in let b = eqb-false s 2 h in rw (t, w, h) (t, omega arith))))
 
 pulp-given : (n : ℤ) (s : ℕ) → (ltZ n (pos 0) ≡ true) ⊎ (s ≡ withdrawn) → verdictBy n s ≡ Pulp
 unfolding verdictBy
@@ -75,41 +53,42 @@ print-given : (n : ℤ) (s : ℕ) → ltZ n (pos 0) ≡ false → s ≡ opened �
 unfolding verdictBy
 print-given n s t o = rw (t, ne-eqb s 3 (λ w. omega arith), ne-eqb s 2 (λ h. omega arith))
 
-module _ (e year month day : ℕ) where
+module _ (entry year month day : ℕ) where
   abbrev state : ℕ
-  state = fieldsOf e .state
+  state = fieldsOf entry .state
 
   abbrev verdict : Verdict
-  verdict = verdictOf e year month day
+  verdict = verdictOf entry year month day
 
-  pub verdict-refused : isLicence e && isDate year month day ≡ false → verdict ≡ Verdict.Refused (numbered 8)
+  pub verdict-refused : isLicence entry && isDate year month day ≡ false
+      → verdict ≡ Verdict.Refused (numbered 8)
   unfolding verdictOf
-  verdict-refused f = rw (left-refused e year month day f)
+  verdict-refused f = rw (left-refused entry year month day f)
 
-  module _ (n : ℤ) (a : daysLeft e year month day ≡ Days n) where
+  module _ (n : ℤ) (a : daysLeft entry year month day ≡ Days n) where
     is-by : verdict ≡ verdictBy n state
     unfolding verdictOf
     is-by = rw a
 
-    which : Ways n state
-    which =
-        let l = licensed (fieldsOf e) (entry-fields e (left-of e year month day n a .licence)) in
-        ways n state (l .state-least) (l .state-most)
+    only : (v : Verdict) → verdict ≡ v → When n state v
+    only v q =
+        let l = licensed (fieldsOf entry) (entry-fields entry (left-of entry year month day n a .licence)) in
+        subst (λ (x : Verdict). When n state x) (sym is-by ∙ q)
+        (given-when n state (l .state-least) (l .state-most))
 
     pub pulp-when : verdict ≡ Pulp ↔ ((ltZ n (pos 0) ≡ true) ⊎ (state ≡ withdrawn))
-    pulp-when = (λ v. pulp-only n state which (sym is-by ∙ v), λ h. is-by ∙ pulp-given n state h)
+    pulp-when = (only Pulp, λ h. is-by ∙ pulp-given n state h)
 
     pub hold-when : verdict ≡ Hold ↔ ((ltZ n (pos 0) ≡ false) × (state ≡ suspended))
-    hold-when = (λ v. hold-only n state which (sym is-by ∙ v), λ h. is-by ∙ hold-given n state (h .0) (h .1))
+    hold-when = (only Hold, λ h. is-by ∙ hold-given n state (h .0) (h .1))
 
     pub print-when : verdict ≡ Print ↔ ((ltZ n (pos 0) ≡ false) × (state ≡ opened))
-    print-when =
-        (λ v. print-only n state which (sym is-by ∙ v), λ h. is-by ∙ print-given n state (h .0) (h .1))
+    print-when = (only Print, λ h. is-by ∙ print-given n state (h .0) (h .1))
 
     pub pulp-by-date : verdict ≡ Pulp
-        ↔ ((earlier (endOf (fieldsOf e)) (date year month day) ≡ true) ⊎ (state ≡ withdrawn))
+        ↔ ((earlier (endOf (fieldsOf entry)) (date year month day) ≡ true) ⊎ (state ≡ withdrawn))
     pulp-by-date =
-        let after = after-end e year month day n a in (
+        let after = after-end entry year month day n a in (
           λ v. ⊎-elim (λ t. inl (after .0 t)) inr (pulp-when .0 v),
           λ h. pulp-when .1 (⊎-elim (λ t. inl (after .1 t)) inr h),
         )

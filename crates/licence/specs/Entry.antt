@@ -41,26 +41,26 @@ statePlace = record { width = 3; offset = 0 }
 
 -- the field at a place of a number
 abbrev pub field : Place → ℕ → ℕ
-field p e = e / 2 ^ p .offset % 2 ^ p .width
+field place entry = entry / 2 ^ place .offset % 2 ^ place .width
 
 -- a field moved to its place
 abbrev pub placed : Place → ℕ → ℕ
-placed p x = x * 2 ^ p .offset
+placed place value = value * 2 ^ place .offset
 
 abbrev pub fieldsOf : ℕ → Fields
-fieldsOf e =
+fieldsOf entry =
     record {
-      year = field yearPlace e;
-      month = field monthPlace e;
-      day = field dayPlace e;
-      copies = field copiesPlace e;
-      state = field statePlace e;
+      year = field yearPlace entry;
+      month = field monthPlace entry;
+      day = field dayPlace entry;
+      copies = field copiesPlace entry;
+      state = field statePlace entry;
     }
 
 abbrev pub joined : Fields → ℕ
-joined f =
-    placed yearPlace (f .year) + placed monthPlace (f .month) + placed dayPlace (f .day)
-    + placed copiesPlace (f .copies) + placed statePlace (f .state)
+joined fields =
+    placed yearPlace (fields .year) + placed monthPlace (fields .month) + placed dayPlace (fields .day)
+    + placed copiesPlace (fields .copies) + placed statePlace (fields .state)
 
 -- each field is within its width
 pub record Narrow (f : Fields) : Type 0 where
@@ -80,13 +80,19 @@ suspended = 2
 abbrev pub withdrawn : ℕ
 withdrawn = 3
 
--- fields of a licence: a real date from 1900 to 2199, any copies, one of the states
+-- fields of a licence: a real date, any copies, one of the states
 unfoldable pub isLicensed : Fields → Bool
-isLicensed f = isDate (f .year) (f .month) (f .day) && leb opened (f .state) && leb (f .state) withdrawn
+isLicensed fields =
+    isDate (fields .year) (fields .month) (fields .day) && leb opened (fields .state)
+    && leb (fields .state) withdrawn
+
+-- the bits of an entry: 40
+abbrev pub entryBits : ℕ
+entryBits = yearPlace .offset + yearPlace .width
 
 -- a licence entry: forty bits that hold the fields of a licence
 unfoldable pub isLicence : ℕ → Bool
-isLicence e = ltb e (2 ^ 40) && isLicensed (fieldsOf e)
+isLicence entry = ltb entry (2 ^ entryBits) && isLicensed (fieldsOf entry)
 
 -- the empty entry, all bits zero
 abbrev pub empty : ℕ
@@ -94,13 +100,13 @@ empty = 0
 
 -- a licence entry, the empty entry, or no entry
 unfoldable pub kindOf : ℕ → Kind
-kindOf e = cond (isLicence e) Licence (cond (eqb e empty) Empty Nothing)
+kindOf entry = cond (isLicence entry) Licence (cond (eqb entry empty) Empty Nothing)
 
 -- 01's answer: the 'entry' of 40 bits, or refused 8, 'no such entry'
 abbrev pub joinedAnswer : Option Refusal → ℕ → Joined
-joinedAnswer none e = Joined.Entry e
-joinedAnswer (some r) e = Joined.Refused r
+joinedAnswer none entry = Joined.Entry entry
+joinedAnswer (some refusal) entry = Joined.Refused refusal
 
 -- the entry of any fields, refused where they are not a licence's
 unfoldable pub joinedOf : Fields → Joined
-joinedOf f = joinedAnswer (lowest (8 whenever not (isLicensed f) ∷ [])) (joined f)
+joinedOf fields = joinedAnswer (lowest (8 whenever not (isLicensed fields) ∷ [])) (joined fields)

@@ -11,7 +11,7 @@ use mathlib.Core.Option.{Option, none, some}
 use lib.Dec.{eqb, leb}
 use Rattle.refusal.specs.declared.Refusal.{Refusal}
 use Rattle.refusal.specs.Ladder.{_whenever_, lowest}
-use Rattle.calendar.specs.Calendar.{leap}
+use Rattle.calendar.specs.Calendar.{lastYear, leap}
 use Rattle.licence.specs.declared.Fields.{Fields}
 use Rattle.licence.specs.declared.Renewal.{Renewal}
 use Rattle.licence.specs.Entry.{fieldsOf, joined, isLicence}
@@ -20,25 +20,38 @@ use Rattle.licence.specs.Entry.{fieldsOf, joined, isLicence}
 unfoldable pub span : ℕ → ℕ
 span years = cond (eqb years 0) 1 years
 
--- the end's day in the year y: it stays, but 29 February becomes the 28th where y has no 29th
+-- the end's day in a year: it stays, but 29 February becomes the 28th where the year has no 29th
 unfoldable pub keptDay : Fields → ℕ → ℕ
-keptDay f y = cond (eqb (f .month) 2 && eqb (f .day) 29 && not (leap y)) 28 (f .day)
+keptDay fields year =
+    cond (eqb (fields .month) 2 && eqb (fields .day) 29 && not (leap year)) 28 (fields .day)
 
--- the fields with their end in the year y
+-- the fields with their end in a year
 unfoldable pub later : Fields → ℕ → Fields
-later f y = record { year = y; month = f .month; day = keptDay f y; copies = f .copies; state = f .state }
+later fields year =
+    record {
+      year = year;
+      month = fields .month;
+      day = keptDay fields year;
+      copies = fields .copies;
+      state = fields .state;
+    }
 
--- what may be renewed: a licence entry, by at most 10 years, to a year up to 2199
+-- the most years that a renewal adds
+abbrev pub mostYears : ℕ
+mostYears = 10
+
+-- what may be renewed: a licence entry, by at most 10 years, to a year of the calendar
 unfoldable pub isRenewable : ℕ → ℕ → Bool
-isRenewable e years = isLicence e && leb years 10 && leb (fieldsOf e .year + span years) 2199
+isRenewable entry years =
+    isLicence entry && leb years mostYears && leb (fieldsOf entry .year + span years) lastYear
 
 -- 01's answer: the 'entry' renewed, or refused 8, 'no such entry'
 abbrev pub renewalAnswer : Option Refusal → ℕ → Renewal
-renewalAnswer none e = Renewal.Entry e
-renewalAnswer (some r) e = Renewal.Refused r
+renewalAnswer none entry = Renewal.Entry entry
+renewalAnswer (some refusal) entry = Renewal.Refused refusal
 
 -- the entry renewed, refused where it may not be
 unfoldable pub renewedOf : ℕ → ℕ → Renewal
-renewedOf e years =
-    renewalAnswer (lowest (8 whenever not (isRenewable e years) ∷ []))
-    (joined (later (fieldsOf e) (fieldsOf e .year + span years)))
+renewedOf entry years =
+    renewalAnswer (lowest (8 whenever not (isRenewable entry years) ∷ []))
+    (joined (later (fieldsOf entry) (fieldsOf entry .year + span years)))

@@ -22,18 +22,18 @@ use Rattle.licence.specs.Entry.{fieldsOf, isLicence, suspended, withdraw
 
 -- the last day
 abbrev pub endOf : Fields → Date
-endOf f = date (f .year) (f .month) (f .day)
+endOf fields = date (fields .year) (fields .month) (fields .day)
 
 -- 01's answer: the 'days left', or refused 8, 'no such entry'
 abbrev pub daysAnswer : Option Refusal → ℤ → DaysLeft
 daysAnswer none left = Days left
 daysAnswer (some r) left = DaysLeft.Refused r
 
--- the end's day number minus the day's, refused where e is no licence entry or the day no real date
+-- the end's day number minus the day's, refused where the entry is none of a licence, or the day no date
 unfoldable pub daysLeft : ℕ → ℕ → ℕ → ℕ → DaysLeft
-daysLeft e year month day =
-    daysAnswer (lowest (8 whenever not (isLicence e && isDate year month day) ∷ []))
-    (pos (number (endOf (fieldsOf e))) -ℤ pos (number (date year month day)))
+daysLeft entry year month day =
+    daysAnswer (lowest (8 whenever not (isLicence entry && isDate year month day) ∷ []))
+    (pos (number (endOf (fieldsOf entry))) -ℤ pos (number (date year month day)))
 
 -- pulp when days left are negative or the state is withdrawn; otherwise hold when suspended, print when open
 unfoldable pub verdictBy : ℤ → ℕ → Verdict
@@ -46,4 +46,4 @@ judged (Days left) state = verdictBy left state
 judged (DaysLeft.Refused r) state = Verdict.Refused r
 
 unfoldable pub verdictOf : ℕ → ℕ → ℕ → ℕ → Verdict
-verdictOf e year month day = judged (daysLeft e year month day) (fieldsOf e .state)
+verdictOf entry year month day = judged (daysLeft entry year month day) (fieldsOf entry .state)

@@ -39,9 +39,8 @@ const SUSPENDED: u8 = 2;
 
 const WITHDRAWN: u8 = 3;
 
+// The most years that a renewal adds.
 const MOST_YEARS: u8 = 10;
-
-const LAST_YEAR: u16 = 2199;
 
 // The fields of an entry. The date is the licence's last day.
 pub struct Fields {
@@ -52,50 +51,50 @@ pub struct Fields {
     pub state: u8,
 }
 
-pub fn split(e: u64) -> Fields
-    ensures { λ r. ⌜ r ≡ fieldsOf e ⌝ }
+pub fn split(entry: u64) -> Fields
+    ensures { λ r. ⌜ r ≡ fieldsOf entry ⌝ }
 {
     Fields {
-        year: ((e >> YEAR_AT) & YEAR_MASK) as u16,
-        month: ((e >> MONTH_AT) & MONTH_MASK) as u8,
-        day: ((e >> DAY_AT) & DAY_MASK) as u8,
-        copies: ((e >> COPIES_AT) & COPIES_MASK) as u16,
-        state: (e & STATE_MASK) as u8,
+        year: ((entry >> YEAR_AT) & YEAR_MASK) as u16,
+        month: ((entry >> MONTH_AT) & MONTH_MASK) as u8,
+        day: ((entry >> DAY_AT) & DAY_MASK) as u8,
+        copies: ((entry >> COPIES_AT) & COPIES_MASK) as u16,
+        state: (entry & STATE_MASK) as u8,
     }
 }
 
 // The entry of fields that are within their widths.
-fn packed(f: Fields) -> u64
-    requires { ⌜ Narrow f ⌝ }
-    ensures { λ r. ⌜ r ≡ joined f ⌝ }
+fn packed(fields: Fields) -> u64
+    requires { ⌜ Narrow fields ⌝ }
+    ensures { λ r. ⌜ r ≡ joined fields ⌝ }
 {
-    ((f.year as u64) << YEAR_AT)
-        | ((f.month as u64) << MONTH_AT)
-        | ((f.day as u64) << DAY_AT)
-        | ((f.copies as u64) << COPIES_AT)
-        | (f.state as u64)
+    ((fields.year as u64) << YEAR_AT)
+        | ((fields.month as u64) << MONTH_AT)
+        | ((fields.day as u64) << DAY_AT)
+        | ((fields.copies as u64) << COPIES_AT)
+        | (fields.state as u64)
 }
 
 // Whether fields are those of a licence.
-fn is_licensed(f: Fields) -> bool
-    ensures { λ r. ⌜ r ≡ isLicensed f ⌝ }
+fn is_licensed(fields: Fields) -> bool
+    ensures { λ r. ⌜ r ≡ isLicensed fields ⌝ }
 {
-    if !calendar::is_date(f.year, f.month, f.day) {
+    if !calendar::is_date(fields.year, fields.month, fields.day) {
         return false;
     }
-    if f.state < OPEN {
+    if fields.state < OPEN {
         return false;
     }
-    f.state <= WITHDRAWN
+    fields.state <= WITHDRAWN
 }
 
-pub fn is_licence(e: u64) -> bool
-    ensures { λ r. ⌜ r ≡ isLicence e ⌝ }
+pub fn is_licence(entry: u64) -> bool
+    ensures { λ r. ⌜ r ≡ isLicence entry ⌝ }
 {
-    if LARGEST < e {
+    if LARGEST < entry {
         return false;
     }
-    is_licensed(split(e))
+    is_licensed(split(entry))
 }
 
 // What a value is: every one is exactly one of these.
@@ -105,13 +104,13 @@ pub enum Kind {
     Nothing,
 }
 
-pub fn kind_of(e: u64) -> Kind
-    ensures { λ r. ⌜ r ≡ kindOf e ⌝ }
+pub fn kind_of(entry: u64) -> Kind
+    ensures { λ r. ⌜ r ≡ kindOf entry ⌝ }
 {
-    if is_licence(e) {
+    if is_licence(entry) {
         return Kind::Licence;
     }
-    if e == EMPTY {
+    if entry == EMPTY {
         return Kind::Empty;
     }
     Kind::Nothing
@@ -123,42 +122,42 @@ pub enum Joined {
     Refused(Refusal),
 }
 
-pub fn join(f: Fields) -> Joined
-    ensures { λ r. ⌜ r ≡ joinedOf f ⌝ }
+pub fn join(fields: Fields) -> Joined
+    ensures { λ r. ⌜ r ≡ joinedOf fields ⌝ }
 {
-    if !is_licensed(f) {
+    if !is_licensed(fields) {
         return Joined::Refused(Refusal::NoEntry);
     }
-    Joined::Entry(packed(f))
+    Joined::Entry(packed(fields))
 }
 
 // The years that a renewal adds.
-fn span_of(years: u8) -> u8
+fn years_added(years: u8) -> u8
     ensures { λ r. ⌜ r ≡ span years ⌝ }
 {
     if years == 0 { 1 } else { years }
 }
 
 // The day that the end falls on in another year.
-fn kept_day(f: Fields, year: u16) -> u8
-    ensures { λ r. ⌜ r ≡ keptDay f year ⌝ }
+fn kept_day(fields: Fields, year: u16) -> u8
+    ensures { λ r. ⌜ r ≡ keptDay fields year ⌝ }
 {
-    if f.month == 2 && f.day == 29 && !calendar::is_leap(year) {
+    if fields.month == 2 && fields.day == 29 && !calendar::is_leap(year) {
         return 28;
     }
-    f.day
+    fields.day
 }
 
 // The fields with their end in another year.
-fn moved(f: Fields, year: u16) -> Fields
-    ensures { λ r. ⌜ r ≡ later f year ⌝ }
+fn moved(fields: Fields, year: u16) -> Fields
+    ensures { λ r. ⌜ r ≡ later fields year ⌝ }
 {
     Fields {
         year,
-        month: f.month,
-        day: kept_day(f, year),
-        copies: f.copies,
-        state: f.state,
+        month: fields.month,
+        day: kept_day(fields, year),
+        copies: fields.copies,
+        state: fields.state,
     }
 }
 
@@ -168,21 +167,21 @@ pub enum Renewal {
     Refused(Refusal),
 }
 
-pub fn renew(e: u64, years: u8) -> Renewal
-    ensures { λ r. ⌜ r ≡ renewedOf e years ⌝ }
+pub fn renew(entry: u64, years: u8) -> Renewal
+    ensures { λ r. ⌜ r ≡ renewedOf entry years ⌝ }
 {
-    if !is_licence(e) {
+    if !is_licence(entry) {
         return Renewal::Refused(Refusal::NoEntry);
     }
     if MOST_YEARS < years {
         return Renewal::Refused(Refusal::NoEntry);
     }
-    let f = split(e);
-    let year = f.year + span_of(years) as u16;
-    if LAST_YEAR < year {
+    let fields = split(entry);
+    let year = fields.year + years_added(years) as u16;
+    if calendar::LAST_YEAR < year {
         return Renewal::Refused(Refusal::NoEntry);
     }
-    Renewal::Entry(packed(moved(f, year)))
+    Renewal::Entry(packed(moved(fields, year)))
 }
 
 // The days from a day to the licence's last: 0 on the last, negative afterwards.
@@ -199,14 +198,14 @@ fn difference(last: u32, today: u32) -> i32
     (last as i32) - (today as i32)
 }
 
-pub fn days_left(e: u64, year: u16, month: u8, day: u8) -> DaysLeft
-    ensures { λ r. ⌜ r ≡ daysLeft e year month day ⌝ }
+pub fn days_left(entry: u64, year: u16, month: u8, day: u8) -> DaysLeft
+    ensures { λ r. ⌜ r ≡ daysLeft entry year month day ⌝ }
 {
-    if !is_licence(e) {
+    if !is_licence(entry) {
         return DaysLeft::Refused(Refusal::NoEntry);
     }
-    let f = split(e);
-    let DayNumber::Day(last) = calendar::day_number(f.year, f.month, f.day) else {
+    let fields = split(entry);
+    let DayNumber::Day(last) = calendar::day_number(fields.year, fields.month, fields.day) else {
         return DaysLeft::Refused(Refusal::NoEntry);
     };
     let DayNumber::Day(today) = calendar::day_number(year, month, day) else {
@@ -238,11 +237,11 @@ fn judge(left: i32, state: u8) -> Verdict
     Verdict::Print
 }
 
-pub fn verdict_on(e: u64, year: u16, month: u8, day: u8) -> Verdict
-    ensures { λ r. ⌜ r ≡ verdictOf e year month day ⌝ }
+pub fn verdict_on(entry: u64, year: u16, month: u8, day: u8) -> Verdict
+    ensures { λ r. ⌜ r ≡ verdictOf entry year month day ⌝ }
 {
-    match days_left(e, year, month, day) {
-        DaysLeft::Days(left) => judge(left, split(e).state),
-        DaysLeft::Refused(r) => Verdict::Refused(r),
+    match days_left(entry, year, month, day) {
+        DaysLeft::Days(left) => judge(left, split(entry).state),
+        DaysLeft::Refused(refusal) => Verdict::Refused(refusal),
     }
 }

@@ -2,17 +2,13 @@
 --
 -- The number is head * 2 ^ 64 + low: the head is kind * 2 ^ 20 + tag, and low is the pair, or a counter in
 -- the pair's place, or 0 (`number-words`). With a tag and a counter within their widths, `messageOf` finds
--- the message again (`found`). Conversely each case of `messageOf` takes only numbers whose unused fields are
+-- the message again (`found`). Conversely each case of `messageOf` has only numbers whose unused fields are
 -- zero, so the message found has that very number (`only`).
 -- Assumes nothing.
-use mathlib.Core.Path.{_≡_, refl, sym, ap, _∙_, subst}
-use mathlib.Core.Bool.{Bool, true, cond, _&&_}
-use Prim.Native.Nat.{ℕ, _+_, _*_, _/_, _%_, _^_, _<_}
+use Rattle.basics.proofs.Prelude.{_≡_, refl, sym, ap, _∙_, subst, Bool, true, cond, _&&_, ℕ, _+_, _*_, _/_}
+use Rattle.basics.proofs.Prelude.{_%_, _^_, _<_, arith, eqb, ltb, eqb-true, eq-eqb, ltb-true, lt-ltb}
 use native.Mathlib.Nat.{mod-lt, mod-mod, mod-eq-of-lt}
-use native.Mathlib.Omega.{arith}
-use lib.Dec.{eqb, ltb}
 use lib.Pow.{high, low, split, pow-pos, shl-shr, shr-lt}
-use borrow.Author.Tests.{eqb-true, eq-eqb, ltb-true, lt-ltb}
 use Rattle.basics.proofs.Cases.{by-test, both, both-of}
 use Rattle.message.specs.declared.Message.{Message}
 use Rattle.message.specs.declared.Message.the-variants.{GetInfo, Info, Done, WriteInfo, Fwd, WriteAck}
@@ -20,7 +16,8 @@ use Rattle.message.specs.declared.Unpacked.{Unpacked}
 use Rattle.message.specs.declared.Unpacked.the-variants.{Good}
 use Rattle.message.specs.declared.Words.{Words}
 use Rattle.message.specs.Pair.{counter, client, entry}
-use Rattle.message.specs.Layout.{numberOf, malformed, messageOf, wellFormed, words, wordsNumber, wordsOf}
+use Rattle.message.specs.Layout.{numberOf, malformed, messageOf, wellFormed, words, wordsNumber}
+use Rattle.message.specs.Layout.{wordsOf}
 use Rattle.message.proofs.Fields.{case, byWords, by-words}
 
 -- ---- the words of a message
@@ -47,30 +44,32 @@ pair-bits : (x : ℕ)
     ≡ x % 2 ^ 64
 pair-bits x = rw (mod-mod (x / 2 ^ 40) (2 ^ 4), mod-mod x (2 ^ 40)) (omega arith)
 
-pub number-words : (m : Message) → numberOf m ≡ headOf m * 2 ^ 64 + lowOf m
+-- the number of a message by its words, and the words within their widths
+record ByWords (m : Message) : Type 0 where
+  number : numberOf m ≡ headOf m * 2 ^ 64 + lowOf m
+  head : headOf m < 2 ^ 24
+  low : lowOf m < 2 ^ 64
+
+by-its-words : (m : Message) → ByWords m
 unfolding numberOf counter client entry
-number-words (GetInfo r) = omega arith
-number-words (Info r p) = omega (arith, pair-bits (p .0))
-number-words Done = omega arith
-number-words (WriteInfo p) = omega (arith, pair-bits (p .0))
-number-words (Fwd p) = omega (arith, pair-bits (p .0))
-number-words (WriteAck c) = omega arith
+by-its-words (GetInfo tag) = record { number = omega arith; head = omega arith; low = omega arith }
+by-its-words (Info tag pair) =
+    record { number = omega (arith, pair-bits (pair .0)); head = omega arith; low = omega arith }
+by-its-words Done = record { number = omega arith; head = omega arith; low = omega arith }
+by-its-words (WriteInfo pair) =
+    record { number = omega (arith, pair-bits (pair .0)); head = omega arith; low = omega arith }
+by-its-words (Fwd pair) =
+    record { number = omega (arith, pair-bits (pair .0)); head = omega arith; low = omega arith }
+by-its-words (WriteAck count) = record { number = omega arith; head = omega arith; low = omega arith }
+
+pub number-words : (m : Message) → numberOf m ≡ headOf m * 2 ^ 64 + lowOf m
+number-words m = by-its-words m .number
 
 pub head-lt : (m : Message) → headOf m < 2 ^ 24
-head-lt (GetInfo r) = omega arith
-head-lt (Info r p) = omega arith
-head-lt Done = omega arith
-head-lt (WriteInfo p) = omega arith
-head-lt (Fwd p) = omega arith
-head-lt (WriteAck c) = omega arith
+head-lt m = by-its-words m .head
 
 pub low-lt : (m : Message) → lowOf m < 2 ^ 64
-low-lt (GetInfo r) = omega arith
-low-lt (Info r p) = omega arith
-low-lt Done = omega arith
-low-lt (WriteInfo p) = omega arith
-low-lt (Fwd p) = omega arith
-low-lt (WriteAck c) = omega arith
+low-lt m = by-its-words m .low
 
 -- ---- a message within its widths is found again
 
@@ -110,13 +109,13 @@ found m w = ap messageOf (number-words m) ∙ by-words (headOf m) (lowOf m) (low
 pub no-message : (m : Message) → malformed ≡ Good m → ⊥
 no-message m e = let z : _≡_ {A = ℕ} 0 1 = cc in omega arith
 
-by-case : {C : Type 0} (k j : ℕ) (fine : Bool) (x : Message) (other : Unpacked) (m : Message)
-    → case k j fine x other ≡ Good m
-    → (k ≡ j → fine ≡ true → x ≡ m → C) → (other ≡ Good m → C) → C
-by-case k j fine x other m e this next =
+-- what is true of the message of each kind is true of the message found
+by-case : (P : Message → Type 0) (k j : ℕ) (fine : Bool) (x : Message) (other : Unpacked) (m : Message)
+    → case k j fine x other ≡ Good m → (k ≡ j → fine ≡ true → P x) → (other ≡ Good m → P m) → P m
+by-case P k j fine x other m e this next =
     by-test (eqb k j)
     (λ same. let e′ : cond fine (Good x) malformed ≡ Good m = rw same at e in
-    by-test fine (λ f. let g : Good x ≡ Good m = rw f at e′ in this (eqb-true k j same) f (cc))
+    by-test fine (λ f. let g : Good x ≡ Good m = rw f at e′ in subst P (cc) (this (eqb-true k j same) f))
     (λ f. absurd (no-message m (rw f at e′))))
     (λ differ. next (rw differ at e))
 
@@ -178,15 +177,13 @@ module _ (k t l : ℕ) (th : t < 2 ^ 20) (lh : l < 2 ^ 64) where
   by-kind : (m : Message) → byWords k t l ≡ Good m → Found (three k t l) m
   unfolding byWords
   by-kind m e =
-      let move : (x : Message) → Found (three k t l) x → x ≡ m → Found (three k t l) m =
-      λ x f same. subst (λ (y : Message). Found (three k t l) y) same f in
-      by-case k 1 _ _ _ m e (λ a z same. move _ (get-info a z) same)
-      (λ e. by-case k 2 true _ _ m e (λ a z same. move _ (info a) same)
-      (λ e. by-case k 3 _ _ _ m e (λ a z same. move _ (done a z) same)
-      (λ e. by-case k 4 _ _ _ m e (λ a z same. move _ (write-info a z) same)
-      (λ e. by-case k 5 _ _ _ m e (λ a z same. move _ (fwd a z) same)
-      (λ e. by-case k 6 _ _ _ m e (λ a z same. move _ (write-ack a z) same)
-      (λ e. absurd (no-message m e)))))))
+      let P : Message → Type 0 = Found (three k t l) in
+      by-case P k 1 _ _ _ m e get-info
+      (λ e. by-case P k 2 true _ _ m e (λ a z. info a)
+      (λ e. by-case P k 3 _ _ _ m e done
+      (λ e. by-case P k 4 _ _ _ m e write-info
+      (λ e. by-case P k 5 _ _ _ m e fwd
+      (λ e. by-case P k 6 _ _ _ m e write-ack (λ e. absurd (no-message m e)))))))
 
 pub only : (n : ℕ) (m : Message) → messageOf n ≡ Good m → Found n m
 only n m e =

@@ -3,15 +3,9 @@
 -- In the table's order: a field over its width (9), a short buffer (13), packed. Eleven bytes stored from the
 -- front stand before what was behind them.
 -- Assumes nothing.
-use mathlib.Core.Path.{_≡_, refl, ap, _∙_}
-use mathlib.Core.Bool.{true, false}
-use mathlib.Core.List.{List, _++_}
-use Prim.Native.Nat.{ℕ, _≤_, _<_}
-use native.Mathlib.Nat.{zero-add}
-use native.Mathlib.Omega.{arith}
-use lib.ListN.{length, drop}
+use Rattle.basics.proofs.Prelude.{_≡_, refl, ap, _∙_, true, false, List, _++_, length, drop, ℕ, _≤_, _<_}
+use Rattle.basics.proofs.Prelude.{zero-add, arith, lt-ltb, le-ltb}
 use lib.Seq.{sets, sets-eq}
-use borrow.Author.Tests.{lt-ltb, le-ltb}
 use Rattle.refusal.specs.Numbers.{numbered}
 use Rattle.refusal.specs.Ladder.{rising}
 use Rattle.message.specs.declared.Message.{Message}

@@ -6,15 +6,11 @@
 -- `stamp-of`), a pair is the pair of its parts (`parts`), and of two numbers the one with the lower first
 -- digit is lower, whatever the rest (`digits-order`).
 -- Assumes nothing.
-use mathlib.Core.Path.{_≡_, refl, sym, ap, _∙_}
-use mathlib.Core.Bool.{Bool}
-use Prim.Native.Nat.{ℕ, _+_, _*_, _/_, _%_, _^_, _≤_, _<_}
+use Rattle.basics.proofs.Prelude.{_≡_, refl, sym, ap, _∙_, Bool, ℕ, _+_, _*_, _/_, _%_, _^_, _<_, arith, ltb}
+use Rattle.basics.proofs.Prelude.{eq-eqb, ne-eqb, ltb-true, ltb-false, lt-ltb, le-ltb}
 use native.Mathlib.Nat.{mod-lt}
-use native.Mathlib.Omega.{arith}
 use lib.Arith.{digits-lt}
-use lib.Dec.{ltb}
-use lib.Pow.{split, shr-mono, shr-lt, shr-shr, pow-pos}
-use borrow.Author.Tests.{ltb-true, ltb-false, lt-ltb, le-ltb, eq-eqb, ne-eqb}
+use lib.Pow.{split, shr-lt, pow-pos}
 use Rattle.basics.proofs.Cases.{by-test}
 use Rattle.message.specs.declared.Entry.{Entry}
 use Rattle.message.specs.declared.Pair.{Pair}
@@ -83,15 +79,6 @@ stamp-fits p h = shr-lt 24 40 h
 pub same-number : (p q : Pair) → p .0 ≡ q .0 → p ≡ q
 same-number p q h = λ i. record { 0 = h i }
 
-pub same-parts : (p q : Pair) → stamp p ≡ stamp q → entry p ≡ entry q → p ≡ q
-same-parts p q s e =
-    let e′ : entry p .0 ≡ entry q .0 = ap (λ (x : Entry). x .0) e in
-    same-number p q (omega (arith, number-is p, number-is q))
-
-pub counter-of-stamp : (p : Pair) → counter p .0 ≡ stamp p / 16
-unfolding counter stamp
-counter-of-stamp p = sym (shr-shr (p .0) 40 4)
-
 pub client-of-stamp : (p : Pair) → client p ≡ stamp p % 16
 unfolding client stamp
 client-of-stamp p = refl
@@ -106,11 +93,6 @@ unfolding stamp
 initial-stamp = refl
 
 -- ---- the order
-
--- the higher pair has no lower timestamp
-pub stamp-mono : (p q : Pair) → p .0 ≤ q .0 → stamp p ≤ stamp q
-unfolding stamp
-stamp-mono p q h = shr-mono 40 h
 
 -- the pair with the higher timestamp is the higher
 pub stamp-lt : (p q : Pair) → stamp p < stamp q → p .0 < q .0

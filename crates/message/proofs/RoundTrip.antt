@@ -1,25 +1,18 @@
--- Packing and unpacking undo each other: no bytes but a message's own are taken for it.
+-- Packing and unpacking undo each other: no bytes but a message's own unpack to it.
 --
 -- A message within its widths is found again in its number (`Numbers.found`), and eleven bytes spell that
 -- number, so its bytes unpack to it (`unpack-pack`). Conversely bytes are those of the number that they
 -- spell, and a message found in a number has that very number (`Numbers.only`), so what is unpacked packs
 -- into the bytes that it was unpacked from (`pack-unpack`).
 -- Assumes nothing.
-use mathlib.Core.Path.{_≡_, sym, ap, _∙_}
-use mathlib.Core.Bool.{true, _&&_}
-use mathlib.Core.List.{List}
-use Prim.Native.Nat.{ℕ, _^_, _<_}
-use native.Mathlib.Omega.{arith}
-use lib.Dec.{eqb}
-use lib.ListN.{length}
+use Rattle.basics.proofs.Prelude.{_≡_, sym, ap, _∙_, true, _&&_, List, length, ℕ, _^_, _<_, arith, eqb}
+use Rattle.basics.proofs.Prelude.{eqb-true, eq-eqb}
 use lib.Pow.{areBytes, split}
-use borrow.Author.Tests.{eqb-true, eq-eqb}
 use Rattle.basics.specs.Bytes.{bigEndian, spelt}
 use Rattle.basics.proofs.Bytes.{bytes-length, bytes-are, spelt-is, bytes-back}
 use Rattle.basics.proofs.Cases.{by-test, both}
 use Rattle.message.specs.declared.Message.{Message}
 use Rattle.message.specs.declared.Unpacked.the-variants.{Good}
-use Rattle.message.specs.declared.Words.{Words}
 use Rattle.message.specs.Layout.{numberOf, malformed, messageOf, wellFormed, bytesOf, unpackOf, words}
 use Rattle.message.specs.Layout.{wordsNumber, wordsOf}
 use Rattle.message.proofs.Numbers.{number-words, head-lt, low-lt, found, only, no-message}
@@ -64,7 +57,7 @@ pack-unpack s m e =
     })
     (λ t. absurd (no-message m (rw t at e)))
 
--- so a message is taken from one list only, and one list as one message only
+-- so a message unpacks from one list only, and one list to one message only
 pub one-packing : (s t : List ℕ) (m : Message) → unpackOf s ≡ Good m → unpackOf t ≡ Good m → s ≡ t
 one-packing s t m p q = sym (pack-unpack s m p .packing) ∙ pack-unpack t m q .packing
 
@@ -74,10 +67,6 @@ pub refused-none : (s : List ℕ) (m : Message) → unpackOf s ≡ malformed →
 refused-none s m b w e = no-message m (sym b ∙ ap unpackOf (sym e) ∙ unpack-pack m w)
 
 -- ---- by words: what `words_of`, `store`, `load` and `of_words` do one after the other
-
--- the bytes of a message's words are its packing
-pub words-bytes : (m : Message) → bigEndian 11 (wordsNumber (wordsOf m)) ≡ bytesOf m
-words-bytes m = ap (λ (n : ℕ). bigEndian 11 n) (words-number m)
 
 -- its packing spells its number
 pub packing-spells : (m : Message) → spelt 0 (bytesOf m) ≡ numberOf m
@@ -91,8 +80,3 @@ of-words-of m w = ap messageOf (words-number m) ∙ found m w
 pub of-words-unpacks : (s : List ℕ) → length s ≡ 11 → areBytes s ≡ true
     → messageOf (wordsNumber (words (spelt 0 s))) ≡ unpackOf s
 of-words-unpacks s l b = ap messageOf (split (spelt 0 s) 64) ∙ sym (unpack-bytes s l b)
-
--- no other words are taken for a message
-pub words-of-only : (w : Words) (m : Message) → messageOf (wordsNumber w) ≡ Good m
-    → wordsNumber w ≡ wordsNumber (wordsOf m)
-words-of-only w m e = sym (words-number m ∙ only (wordsNumber w) m e .number)

@@ -3,11 +3,11 @@
 -- They are one number of 88 bits, most significant first: kind 4, tag 20, counter 20, client 4, entry 40.
 --
 -- In order: the fields and their places; the number of a message; the message of a number; which messages
--- keep to their widths; the bytes, packed and unpacked; the number in two words. What packing answers is in
--- `Packing`.
+-- are replies, and which keep to their widths; the bytes, packed and unpacked; the number in two words. What
+-- packing answers is in `Packing`.
 -- Assumes nothing.
-use Prim.Native.Nat.{ℕ, _+_, _*_, _/_, _%_, _^_}
-use mathlib.Core.Bool.{Bool, true, cond, _&&_}
+use Prim.Native.Nat.{ℕ, _+_, _-_, _*_, _/_, _%_, _^_}
+use mathlib.Core.Bool.{Bool, true, false, cond, not, _&&_}
 use mathlib.Core.List.{List, [], _∷_}
 use lib.Dec.{eqb, ltb}
 use lib.ListN.{length}
@@ -22,43 +22,26 @@ use Rattle.message.specs.declared.Unpacked.{Unpacked}
 use Rattle.message.specs.declared.Unpacked.the-variants.{Good, Refused}
 use Rattle.message.specs.declared.Words.{Words}
 use Rattle.message.specs.declared.WriteCounter.{WriteCounter}
-use Rattle.message.specs.Pair.{counter, client, entry, pairOf}
+use Rattle.message.specs.Pair.{clientAt, counterAt, counter, client, entry, pairOf}
+pub use Rattle.message.specs.Pair.{counterBits, clientBits, entryBits}
 
 -- ---- the fields
 
--- how many bits each field has
+-- how many bits kind and tag have; the others are those of a pair
 abbrev pub kindBits : ℕ
 kindBits = 4
 
 abbrev pub tagBits : ℕ
 tagBits = 20
 
-abbrev pub counterBits : ℕ
-counterBits = 20
-
-abbrev pub clientBits : ℕ
-clientBits = 4
-
-abbrev pub entryBits : ℕ
-entryBits = 40
-
 -- the highest read number (the tag is one), and the highest write counter
 abbrev pub lastRead : ℕ
-lastRead = 1048575
+lastRead = 2 ^ tagBits - 1
 
 abbrev pub lastCounter : ℕ
-lastCounter = 1048575
+lastCounter = 2 ^ counterBits - 1
 
--- how many bits stand behind each field; behind the tag stands the pair
-abbrev pub entryAt : ℕ
-entryAt = 0
-
-abbrev pub clientAt : ℕ
-clientAt = entryAt + entryBits
-
-abbrev pub counterAt : ℕ
-counterAt = clientAt + clientBits
-
+-- how many bits stand behind the tag, which are the pair's, and behind the kind
 abbrev pub tagAt : ℕ
 tagAt = counterAt + counterBits
 
@@ -90,24 +73,24 @@ abbrev pub clientOf : ℕ → ℕ
 clientOf = field clientAt clientBits
 
 abbrev pub entryOf : ℕ → ℕ
-entryOf = field entryAt entryBits
+entryOf = field 0 entryBits
 
 -- ---- the number of a message
 
 -- the number of a kind and its fields: tag, counter, client, entry
 abbrev pub joined : ℕ → ℕ → ℕ → ℕ → ℕ → ℕ
-joined k t c d e =
-    k * 2 ^ kindAt + placed tagAt tagBits t + placed counterAt counterBits c + placed clientAt clientBits d
-    + placed entryAt entryBits e
+joined kind tag count d content =
+    kind * 2 ^ kindAt + placed tagAt tagBits tag + placed counterAt counterBits count
+    + placed clientAt clientBits d + placed 0 entryBits content
 
 -- 'Kinds and the fields they use .. A field not used is zero.'
 unfoldable pub numberOf : Message → ℕ
-numberOf (GetInfo r) = joined 1 (r .0) 0 0 0
-numberOf (Info r p) = joined 2 (r .0) (counter p .0) (client p) (entry p .0)
+numberOf (GetInfo tag) = joined 1 (tag .0) 0 0 0
+numberOf (Info tag pair) = joined 2 (tag .0) (counter pair .0) (client pair) (entry pair .0)
 numberOf Done = joined 3 0 0 0 0
-numberOf (WriteInfo p) = joined 4 0 (counter p .0) (client p) (entry p .0)
-numberOf (Fwd p) = joined 5 0 (counter p .0) (client p) (entry p .0)
-numberOf (WriteAck c) = joined 6 0 (c .0) 0 0
+numberOf (WriteInfo pair) = joined 4 0 (counter pair .0) (client pair) (entry pair .0)
+numberOf (Fwd pair) = joined 5 0 (counter pair .0) (client pair) (entry pair .0)
+numberOf (WriteAck count) = joined 6 0 (count .0) 0 0
 
 -- ---- the message of a number
 
@@ -130,10 +113,11 @@ abbrev pub zeros : List ℕ → Bool
 zeros [] = true
 zeros (x ∷ xs) = eqb x 0 && zeros xs
 
--- a number of kind k is the message m if the fields that the kind does not use are zero; a number of another
+-- a number of this kind is the message if the fields that the kind does not use are zero; a number of another
 -- kind is `other`
 abbrev pub kind : ℕ → ℕ → List ℕ → Message → Unpacked → Unpacked
-kind n k unused m other = cond (eqb (kindOf n) k) (cond (zeros unused) (Good m) malformed) other
+kind n number unused message other =
+    cond (eqb (kindOf n) number) (cond (zeros unused) (Good message) malformed) other
 
 -- kind, unused fields, and the message of the used ones
 unfoldable pub messageOf : ℕ → Unpacked
@@ -145,34 +129,50 @@ messageOf n =
     (kind n 5 (tagOf n ∷ []) (Fwd (pairIn n))
     (kind n 6 (tagOf n ∷ clientOf n ∷ entryOf n ∷ []) (WriteAck (writeCounterOf n)) malformed)))))
 
--- ---- widths
+-- ---- kinds and widths
+
+-- GET_INFO, DONE and WRITE_INFO go to servers; INFO, FWD and WRITE_ACK are replies, to clients
+unfoldable pub isReply : Message → Bool
+isReply (GetInfo tag) = false
+isReply (Info tag pair) = true
+isReply Done = false
+isReply (WriteInfo pair) = false
+isReply (Fwd pair) = true
+isReply (WriteAck count) = true
+
+-- a message goes down, from a server to a client, or up to a server; what is no message goes neither way
+unfoldable pub goes : Bool → Unpacked → Bool
+unfolding isReply
+goes down (Good message) = cond down (isReply message) (not (isReply message))
+goes down (Refused refusal) = false
 
 -- no field of the message is over its width; those of a pair are not if its number has 64 bits
 unfoldable pub wellFormed : Message → Bool
-wellFormed (GetInfo r) = ltb (r .0) (2 ^ tagBits)
-wellFormed (Info r p) = ltb (r .0) (2 ^ tagBits) && ltb (p .0) (2 ^ tagAt)
+wellFormed (GetInfo tag) = ltb (tag .0) (2 ^ tagBits)
+wellFormed (Info tag pair) = ltb (tag .0) (2 ^ tagBits) && ltb (pair .0) (2 ^ tagAt)
 wellFormed Done = true
-wellFormed (WriteInfo p) = ltb (p .0) (2 ^ tagAt)
-wellFormed (Fwd p) = ltb (p .0) (2 ^ tagAt)
-wellFormed (WriteAck c) = ltb (c .0) (2 ^ counterBits)
+wellFormed (WriteInfo pair) = ltb (pair .0) (2 ^ tagAt)
+wellFormed (Fwd pair) = ltb (pair .0) (2 ^ tagAt)
+wellFormed (WriteAck count) = ltb (count .0) (2 ^ counterBits)
 
 -- ---- the bytes
 
 -- a message packed
 abbrev pub bytesOf : Message → List ℕ
-bytesOf m = bigEndian messageBytes (numberOf m)
+bytesOf message = bigEndian messageBytes (numberOf message)
 
 -- numbers unpacked: those that are not eleven bytes are no message
 unfoldable pub unpackOf : List ℕ → Unpacked
-unpackOf s = cond (eqb (length s) messageBytes && areBytes s) (messageOf (spelt 0 s)) malformed
+unpackOf bytes =
+    cond (eqb (length bytes) messageBytes && areBytes bytes) (messageOf (spelt 0 bytes)) malformed
 
--- a number in two words, the last 64 bits and those before, and back
+-- a number in two words, the pair's 64 bits and those before, and back
 abbrev pub words : ℕ → Words
-words n = record { 0 = n / 2 ^ 64; 1 = n % 2 ^ 64 }
+words n = record { 0 = n / 2 ^ tagAt; 1 = n % 2 ^ tagAt }
 
 abbrev pub wordsNumber : Words → ℕ
-wordsNumber w = w .0 * 2 ^ 64 + w .1
+wordsNumber pieces = pieces .0 * 2 ^ tagAt + pieces .1
 
 -- a message in two words
 unfoldable pub wordsOf : Message → Words
-wordsOf m = words (numberOf m)
+wordsOf message = words (numberOf message)

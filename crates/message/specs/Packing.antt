@@ -17,7 +17,8 @@ use Rattle.message.specs.Layout.{messageBytes, wellFormed, bytesOf}
 
 -- 9 a field over its width, then 13 a buffer of fewer bytes
 abbrev pub packLadder : Message → List ℕ → List Rung
-packLadder m s = 9 whenever not (wellFormed m) ∷ 13 whenever ltb (length s) messageBytes ∷ []
+packLadder message out =
+    9 whenever not (wellFormed message) ∷ 13 whenever ltb (length out) messageBytes ∷ []
 
 -- 01's answer: packed, or refused 9, 'misprint', or 13, 'short sheet'
 abbrev pub answered : Option Refusal → Packed
@@ -25,12 +26,12 @@ answered none = Packed.Done
 answered (some r) = Packed.Refused r
 
 unfoldable pub packAnswer : Message → List ℕ → Packed
-packAnswer m s = answered (lowest (packLadder m s))
+packAnswer message out = answered (lowest (packLadder message out))
 
 -- the buffer: the message's bytes in front of what stood behind them, or, refused, what it was
 abbrev pub kept : Option Refusal → List ℕ → List ℕ → List ℕ
-kept none s bs = bs ++ drop messageBytes s
-kept (some r) s bs = s
+kept none out bytes = bytes ++ drop messageBytes out
+kept (some r) out bytes = out
 
 unfoldable pub packLeaves : Message → List ℕ → List ℕ
-packLeaves m s = kept (lowest (packLadder m s)) s (bytesOf m)
+packLeaves message out = kept (lowest (packLadder message out)) out (bytesOf message)

@@ -1,19 +1,21 @@
 // The types of the protocol and the message's eleven bytes (01, section 'Message').
 ghost use mathlib.Core.Path.{_≡_};
-ghost use mathlib.Core.Bool.{cond, _&&_};
+ghost use mathlib.Core.Bool.{true, false, cond, _&&_};
 ghost use Prim.Native.Nat.{_<_, _≤_, _+_, _*_, _%_, _^_};
 ghost use lib.Dec.{eqb, leb, ltb};
 ghost use lib.ListN.{length, take, drop};
 ghost use lib.Seq.{sets};
 ghost use Rattle.basics.specs.Bytes.{bigEndian, spelt};
-ghost use Rattle.message.specs.Layout.{lastRead, lastCounter, malformed, messageOf, wellFormed};
-ghost use Rattle.message.specs.Layout.{unpackOf, words, wordsNumber, wordsOf};
+ghost use Rattle.message.specs.Layout.{kindBits, tagBits, lastRead, lastCounter, messageBytes};
+ghost use Rattle.message.specs.Layout.{goes, malformed, messageOf, isReply, wellFormed, unpackOf};
+ghost use Rattle.message.specs.Layout.{words, wordsNumber, wordsOf};
 ghost use Rattle.message.specs.Packing.{packAnswer, packLeaves};
+ghost use Rattle.message.specs.Pair.{counterBits, clientBits, entryBits};
 ghost use Rattle.message.specs.Pair.{counter, client, entry, stamp, pairOf, below};
 use refusal::Refusal;
 
 // The number of a client's read (01: the tag). Never a write counter, although document 001 calls both
-// my_ctr: only the functions below look inside, and none takes both.
+// my_ctr: only the functions below read it, and none has both.
 pub struct ReadNumber(u32);
 
 // The counter of a write, half of its timestamp.
@@ -54,12 +56,12 @@ pub enum Packed {
     Refused(Refusal),
 }
 
-// The bytes of a message, of its first word, and of its second.
-const MESSAGE_BYTES: usize = 11;
-
+// The bytes of a message's first word, of its second, and of all.
 const HEAD_BYTES: usize = 3;
 
 const LOW_BYTES: usize = 8;
+
+pub const MESSAGE_BYTES: usize = HEAD_BYTES + LOW_BYTES;
 
 // The bits behind the kind in the first word, and behind counter and client in the second.
 const KIND_AT: u32 = 20;
@@ -71,7 +73,7 @@ const CLIENT_AT: u32 = 40;
 // The bits of a tag or counter, and the first number over its width.
 const TWENTY_BITS: u32 = 0xF_FFFF;
 
-const OVER_TWENTY: u32 = 0x10_0000;
+const OVER_TWENTY: u32 = TWENTY_BITS + 1;
 
 // The bits of a client, of an entry, and all behind the counter.
 const CLIENT_BITS: u64 = 0xF;
@@ -81,172 +83,175 @@ const ENTRY_BITS: u64 = 0xFF_FFFF_FFFF;
 const BEHIND_COUNTER: u64 = 0xFFF_FFFF_FFFF;
 
 // The highest read number, and the highest write counter.
-const LAST_READ: u32 = 0xF_FFFF;
+const LAST_READ: u32 = TWENTY_BITS;
 
-const LAST_COUNTER: u32 = 0xF_FFFF;
+const LAST_COUNTER: u32 = TWENTY_BITS;
 
 // A number of 32 bits is below this.
 const OVER_32: u64 = 0x1_0000_0000;
 
 // ---- read numbers
 
-pub fn same_read(a: ReadNumber, b: ReadNumber) -> bool
-    ensures { λ r. ⌜ r ≡ eqb (a .0) (b .0) ⌝ }
+pub fn same_read(tag: ReadNumber, other: ReadNumber) -> bool
+    ensures { λ r. ⌜ r ≡ eqb (tag .0) (other .0) ⌝ }
 {
-    a.0 == b.0
+    tag.0 == other.0
 }
 
 // No higher one follows.
-pub fn is_last_read(n: ReadNumber) -> bool
-    ensures { λ r. ⌜ r ≡ leb lastRead (n .0) ⌝ }
+pub fn is_last_read(tag: ReadNumber) -> bool
+    ensures { λ r. ⌜ r ≡ leb lastRead (tag .0) ⌝ }
 {
-    LAST_READ <= n.0
+    LAST_READ <= tag.0
 }
 
-pub fn next_read(n: ReadNumber) -> ReadNumber
-    requires { ⌜ n .0 < lastRead ⌝ }
-    ensures { λ r. ⌜ r ≡ record { 0 = n .0 + 1 } ⌝ }
+pub fn next_read(tag: ReadNumber) -> ReadNumber
+    requires { ⌜ tag .0 < lastRead ⌝ }
+    ensures { λ r. ⌜ r ≡ record { 0 = tag .0 + 1 } ⌝ }
 {
-    ReadNumber(n.0 + 1)
+    ReadNumber(tag.0 + 1)
 }
 
 // A word of memory has no more than a read number's twenty bits.
-pub fn fits_read(x: u64) -> bool
-    ensures { λ r. ⌜ r ≡ ltb x (2 ^ 20) ⌝ }
+pub fn fits_read(word: u64) -> bool
+    ensures { λ r. ⌜ r ≡ ltb word (2 ^ tagBits) ⌝ }
 {
-    x < OVER_TWENTY as u64
+    word < OVER_TWENTY as u64
 }
 
 // The read number of a word, of which the low 32 bits count, and its word.
-pub fn read_from(x: u64) -> ReadNumber
-    ensures { λ r. ⌜ r ≡ record { 0 = x % 2 ^ 32 } ⌝ }
+pub fn read_from(word: u64) -> ReadNumber
+    ensures { λ r. ⌜ r ≡ record { 0 = word % 2 ^ 32 } ⌝ }
 {
-    ReadNumber((x % OVER_32) as u32)
+    ReadNumber((word % OVER_32) as u32)
 }
 
-pub fn read_word(n: ReadNumber) -> u64
-    ensures { λ r. ⌜ r ≡ n .0 ⌝ }
+pub fn read_word(tag: ReadNumber) -> u64
+    ensures { λ r. ⌜ r ≡ tag .0 ⌝ }
 {
-    n.0 as u64
+    tag.0 as u64
 }
 
 // ---- write counters
 
-pub fn same_counter(a: WriteCounter, b: WriteCounter) -> bool
-    ensures { λ r. ⌜ r ≡ eqb (a .0) (b .0) ⌝ }
+pub fn same_counter(count: WriteCounter, other: WriteCounter) -> bool
+    ensures { λ r. ⌜ r ≡ eqb (count .0) (other .0) ⌝ }
 {
-    a.0 == b.0
+    count.0 == other.0
 }
 
 // It is the highest.
-pub fn is_last_counter(c: WriteCounter) -> bool
-    ensures { λ r. ⌜ r ≡ eqb (c .0) lastCounter ⌝ }
+pub fn is_last_counter(count: WriteCounter) -> bool
+    ensures { λ r. ⌜ r ≡ eqb (count .0) lastCounter ⌝ }
 {
-    c.0 == LAST_COUNTER
+    count.0 == LAST_COUNTER
 }
 
-pub fn next_counter(c: WriteCounter) -> WriteCounter
-    requires { ⌜ c .0 < lastCounter ⌝ }
-    ensures { λ r. ⌜ r ≡ record { 0 = c .0 + 1 } ⌝ }
+pub fn next_counter(count: WriteCounter) -> WriteCounter
+    requires { ⌜ count .0 < lastCounter ⌝ }
+    ensures { λ r. ⌜ r ≡ record { 0 = count .0 + 1 } ⌝ }
 {
-    WriteCounter(c.0 + 1)
+    WriteCounter(count.0 + 1)
 }
 
 // A word of memory has no more than a counter's twenty bits.
-pub fn fits_counter(x: u64) -> bool
-    ensures { λ r. ⌜ r ≡ ltb x (2 ^ 20) ⌝ }
+pub fn fits_counter(word: u64) -> bool
+    ensures { λ r. ⌜ r ≡ ltb word (2 ^ counterBits) ⌝ }
 {
-    x < OVER_TWENTY as u64
+    word < OVER_TWENTY as u64
 }
 
 // The counter of a word, of which the low 32 bits count, and its word.
-pub fn counter_from(x: u64) -> WriteCounter
-    ensures { λ r. ⌜ r ≡ record { 0 = x % 2 ^ 32 } ⌝ }
+pub fn counter_from(word: u64) -> WriteCounter
+    ensures { λ r. ⌜ r ≡ record { 0 = word % 2 ^ 32 } ⌝ }
 {
-    WriteCounter((x % OVER_32) as u32)
+    WriteCounter((word % OVER_32) as u32)
 }
 
-pub fn counter_word(c: WriteCounter) -> u64
-    ensures { λ r. ⌜ r ≡ c .0 ⌝ }
+pub fn counter_word(count: WriteCounter) -> u64
+    ensures { λ r. ⌜ r ≡ count .0 ⌝ }
 {
-    c.0 as u64
+    count.0 as u64
 }
 
 // ---- pairs
 
-pub fn counter_of(p: Pair) -> WriteCounter
-    ensures { λ r. ⌜ r ≡ counter p ⌝ }
+pub fn counter_of(pair: Pair) -> WriteCounter
+    ensures { λ r. ⌜ r ≡ counter pair ⌝ }
 {
-    WriteCounter((p.0 >> COUNTER_AT) as u32)
+    WriteCounter((pair.0 >> COUNTER_AT) as u32)
 }
 
-pub fn client_of(p: Pair) -> u8
-    ensures { λ r. ⌜ r ≡ client p ⌝ }
+pub fn client_of(pair: Pair) -> u8
+    ensures { λ r. ⌜ r ≡ client pair ⌝ }
 {
-    ((p.0 >> CLIENT_AT) & CLIENT_BITS) as u8
+    ((pair.0 >> CLIENT_AT) & CLIENT_BITS) as u8
 }
 
-pub fn entry_of(p: Pair) -> Entry
-    ensures { λ r. ⌜ r ≡ entry p ⌝ }
+pub fn entry_of(pair: Pair) -> Entry
+    ensures { λ r. ⌜ r ≡ entry pair ⌝ }
 {
-    Entry(p.0 & ENTRY_BITS)
+    Entry(pair.0 & ENTRY_BITS)
 }
 
-pub fn stamp_of(p: Pair) -> Timestamp
-    ensures { λ r. ⌜ r .0 ≡ stamp p ⌝ }
+pub fn stamp_of(pair: Pair) -> Timestamp
+    ensures { λ r. ⌜ r .0 ≡ stamp pair ⌝ }
 {
-    Timestamp((p.0 >> CLIENT_AT) as u32)
+    Timestamp((pair.0 >> CLIENT_AT) as u32)
 }
 
-// Whether p is the lower pair: by timestamp, then by entry.
-pub fn is_below(p: Pair, q: Pair) -> bool
-    ensures { λ r. ⌜ r ≡ below p q ⌝ }
+// Whether the first is the lower pair: by timestamp, then by entry.
+pub fn is_below(pair: Pair, other: Pair) -> bool
+    ensures { λ r. ⌜ r ≡ below pair other ⌝ }
 {
-    p.0 < q.0
+    pair.0 < other.0
 }
 
-// Whether p has the lower timestamp.
-pub fn is_earlier(p: Pair, q: Pair) -> bool
-    ensures { λ r. ⌜ r ≡ ltb (stamp p) (stamp q) ⌝ }
+// Whether the first has the lower timestamp.
+pub fn is_earlier(pair: Pair, other: Pair) -> bool
+    ensures { λ r. ⌜ r ≡ ltb (stamp pair) (stamp other) ⌝ }
 {
-    p.0 >> CLIENT_AT < q.0 >> CLIENT_AT
+    pair.0 >> CLIENT_AT < other.0 >> CLIENT_AT
 }
 
 // The pair of a counter, the client that writes, and an entry.
-pub fn pair_of(c: WriteCounter, by: u8, e: Entry) -> Pair
-    requires { ⌜ (c .0 < 2 ^ 20) × (by < 2 ^ 4) × (e .0 < 2 ^ 40) ⌝ }
-    ensures { λ r. ⌜ r ≡ pairOf c by e ⌝ }
+pub fn pair_of(count: WriteCounter, d: u8, content: Entry) -> Pair
+    requires { ⌜ (count .0 < 2 ^ counterBits) × (d < 2 ^ clientBits) × (content .0 < 2 ^ entryBits) ⌝ }
+    ensures { λ r. ⌜ r ≡ pairOf count d content ⌝ }
 {
-    Pair(((c.0 as u64) << COUNTER_AT) | ((by as u64) << CLIENT_AT) | e.0)
+    Pair(((count.0 as u64) << COUNTER_AT) | ((d as u64) << CLIENT_AT) | content.0)
 }
 
 // ---- a message as a number in two words
 
-// Kind and tag, of which the last twenty bits are taken.
+// Kind and tag, of which the last twenty bits count.
 fn head(kind: u32, tag: u32) -> u32
-    requires { ⌜ kind < 2 ^ 4 ⌝ }
-    ensures { λ r. ⌜ r ≡ kind * 2 ^ 20 + tag % 2 ^ 20 ⌝ }
+    requires { ⌜ kind < 2 ^ kindBits ⌝ }
+    ensures { λ r. ⌜ r ≡ kind * 2 ^ tagBits + tag % 2 ^ tagBits ⌝ }
 {
     (kind << KIND_AT) | (tag & TWENTY_BITS)
 }
 
 // The number of a message. A tag or counter over its width loses bits here; `pack` refuses it.
-pub fn words_of(m: Message) -> Words
-    ensures { λ r. ⌜ r ≡ wordsOf m ⌝ }
+pub fn words_of(message: Message) -> Words
+    ensures { λ r. ⌜ r ≡ wordsOf message ⌝ }
 {
-    match m {
-        Message::GetInfo(n) => Words(head(1, n.0), 0),
-        Message::Info(n, p) => Words(head(2, n.0), p.0),
+    match message {
+        Message::GetInfo(tag) => Words(head(1, tag.0), 0),
+        Message::Info(tag, pair) => Words(head(2, tag.0), pair.0),
         Message::Done => Words(head(3, 0), 0),
-        Message::WriteInfo(p) => Words(head(4, 0), p.0),
-        Message::Fwd(p) => Words(head(5, 0), p.0),
-        Message::WriteAck(c) => Words(head(6, 0), ((c.0 & TWENTY_BITS) as u64) << COUNTER_AT),
+        Message::WriteInfo(pair) => Words(head(4, 0), pair.0),
+        Message::Fwd(pair) => Words(head(5, 0), pair.0),
+        Message::WriteAck(count) => Words(
+            head(6, 0),
+            ((count.0 & TWENTY_BITS) as u64) << COUNTER_AT,
+        ),
     }
 }
 
-// The message m, if what it does not use of the tag and the low bits is zero.
-fn if_zero(tag: u32, low: u64, m: Message) -> Unpacked
-    ensures { λ r. ⌜ r ≡ cond (eqb tag 0 && eqb low 0) (Unpacked.Good m) malformed ⌝ }
+// The message, if what it does not use of the tag and the low bits is zero.
+fn if_zero(tag: u32, low: u64, message: Message) -> Unpacked
+    ensures { λ r. ⌜ r ≡ cond (eqb tag 0 && eqb low 0) (Unpacked.Good message) malformed ⌝ }
 {
     if tag != 0 {
         return Unpacked::Refused(Refusal::Malformed);
@@ -254,16 +259,16 @@ fn if_zero(tag: u32, low: u64, m: Message) -> Unpacked
     if low != 0 {
         return Unpacked::Refused(Refusal::Malformed);
     }
-    Unpacked::Good(m)
+    Unpacked::Good(message)
 }
 
 // The message of a number.
-pub fn of_words(w: Words) -> Unpacked
-    ensures { λ r. ⌜ r ≡ messageOf (wordsNumber w) ⌝ }
+pub fn of_words(words: Words) -> Unpacked
+    ensures { λ r. ⌜ r ≡ messageOf (wordsNumber words) ⌝ }
 {
-    let kind = w.0 >> KIND_AT;
-    let tag = w.0 & TWENTY_BITS;
-    let low = w.1;
+    let kind = words.0 >> KIND_AT;
+    let tag = words.0 & TWENTY_BITS;
+    let low = words.1;
     match kind {
         1 => if_zero(0, low, Message::GetInfo(ReadNumber(tag))),
         2 => Unpacked::Good(Message::Info(ReadNumber(tag), Pair(low))),
@@ -279,94 +284,142 @@ pub fn of_words(w: Words) -> Unpacked
     }
 }
 
+// The message of a number that is known to go up to a server, or down from one, as on a sound channel: the
+// kind alone tells which.
+pub fn request_of(words: Words) -> Unpacked
+    requires { ⌜ goes false (messageOf (wordsNumber words)) ≡ true ⌝ }
+    ensures { λ r. ⌜ r ≡ messageOf (wordsNumber words) ⌝ }
+{
+    let kind = words.0 >> KIND_AT;
+    if kind == 1 {
+        return Unpacked::Good(Message::GetInfo(ReadNumber(words.0 & TWENTY_BITS)));
+    }
+    if kind == 4 {
+        return Unpacked::Good(Message::WriteInfo(Pair(words.1)));
+    }
+    Unpacked::Good(Message::Done)
+}
+
+pub fn reply_of(words: Words) -> Unpacked
+    requires { ⌜ goes true (messageOf (wordsNumber words)) ≡ true ⌝ }
+    ensures { λ r. ⌜ r ≡ messageOf (wordsNumber words) ⌝ }
+{
+    let kind = words.0 >> KIND_AT;
+    if kind == 5 {
+        return Unpacked::Good(Message::Fwd(Pair(words.1)));
+    }
+    if kind == 6 {
+        let counter = WriteCounter((words.1 >> COUNTER_AT) as u32);
+        return Unpacked::Good(Message::WriteAck(counter));
+    }
+    Unpacked::Good(Message::Info(ReadNumber(words.0 & TWENTY_BITS), Pair(words.1)))
+}
+
 // ---- words as bytes
 
-// Writes the last bytes of x, count of them, from place at on.
-fn write_bytes(x: u64, count: usize, out: &mut [u8], at: usize)
+// Writes the last bytes of a number, count of them, from place at on.
+fn write_bytes(number: u64, count: usize, out: &mut [u8], at: usize)
     requires { ⌜ (count ≤ 8) × (at + count ≤ length (now out)) ⌝ }
-    ensures { λ r. ⌜ now (out .exit) ≡ sets (now (out .entry)) at (bigEndian count x) ⌝ }
+    ensures { λ r. ⌜ now (out .exit) ≡ sets (now (out .entry)) at (bigEndian count number) ⌝ }
 {
-    let mut left = count;
+    let mut rest = count;
     let mut i = at;
-    while 0 < left {
-        left -= 1;
-        out[i] = basics::byte(x, (8 * left) as u32);
+    while 0 < rest {
+        rest -= 1;
+        out[i] = basics::byte(number, (8 * rest) as u32);
         i += 1;
     }
 }
 
 // The number that the bytes from place at on spell, count of them.
-fn read_bytes(s: &[u8], at: usize, count: usize) -> u64
-    requires { ⌜ (count ≤ 8) × (at + count ≤ length (now s)) ⌝ }
+fn read_bytes(bytes: &[u8], at: usize, count: usize) -> u64
+    requires { ⌜ (count ≤ 8) × (at + count ≤ length (now bytes)) ⌝ }
     ensures within { λ r. ⌜ r < 256 ^ count ⌝ }
-    ensures spelt { λ r. ⌜ r ≡ spelt 0 (take count (drop at (now (s .entry)))) ⌝ }
+    ensures spelt { λ r. ⌜ r ≡ spelt 0 (take count (drop at (now (bytes .entry)))) ⌝ }
 {
-    let mut x: u64 = 0;
+    let mut number: u64 = 0;
     let mut i: usize = 0;
     while i < count {
-        x = basics::push(x, s[at + i]);
+        number = basics::push(number, bytes[at + i]);
         i += 1;
     }
-    x
+    number
 }
 
-// Writes the eleven bytes of a number from place at on.
-pub fn store(w: Words, out: &mut [u8], at: usize)
-    requires { ⌜ at + 11 ≤ length (now out) ⌝ }
-    ensures { λ r. ⌜ now (out .exit) ≡ sets (now (out .entry)) at (bigEndian 11 (wordsNumber w)) ⌝ }
+// Writes the bytes of a message's number from place at on.
+pub fn store(words: Words, out: &mut [u8], at: usize)
+    requires { ⌜ at + messageBytes ≤ length (now out) ⌝ }
+    ensures { λ r. ⌜ now (out .exit)
+        ≡ sets (now (out .entry)) at (bigEndian messageBytes (wordsNumber words)) ⌝ }
 {
-    write_bytes(w.0 as u64, HEAD_BYTES, out, at);
-    write_bytes(w.1, LOW_BYTES, out, at + HEAD_BYTES);
+    write_bytes(words.0 as u64, HEAD_BYTES, out, at);
+    write_bytes(words.1, LOW_BYTES, out, at + HEAD_BYTES);
 }
 
-// The number that the eleven bytes from place at on spell.
-pub fn load(s: &[u8], at: usize) -> Words
-    requires { ⌜ at + 11 ≤ length (now s) ⌝ }
-    ensures { λ r. ⌜ r ≡ words (spelt 0 (take 11 (drop at (now (s .entry))))) ⌝ }
+// The number that the bytes of a message from place at on spell.
+pub fn load(bytes: &[u8], at: usize) -> Words
+    requires { ⌜ at + messageBytes ≤ length (now bytes) ⌝ }
+    ensures { λ r. ⌜ r ≡ words (spelt 0 (take messageBytes (drop at (now (bytes .entry))))) ⌝ }
 {
     Words(
-        read_bytes(s, at, HEAD_BYTES) as u32,
-        read_bytes(s, at + HEAD_BYTES, LOW_BYTES),
+        read_bytes(bytes, at, HEAD_BYTES) as u32,
+        read_bytes(bytes, at + HEAD_BYTES, LOW_BYTES),
     )
+}
+
+// ---- kinds and widths
+
+// Whether a message goes to a client: INFO, FWD and WRITE_ACK are replies, the others requests.
+pub fn is_reply(message: Message) -> bool
+    ensures { λ r. ⌜ r ≡ isReply message ⌝ }
+{
+    match message {
+        Message::GetInfo(_) => false,
+        Message::Info(_, _) => true,
+        Message::Done => false,
+        Message::WriteInfo(_) => false,
+        Message::Fwd(_) => true,
+        Message::WriteAck(_) => true,
+    }
+}
+
+// No field over its width. A pair's are not, since it has 64 bits.
+pub fn is_well_formed(message: Message) -> bool
+    ensures { λ r. ⌜ r ≡ wellFormed message ⌝ }
+{
+    match message {
+        Message::GetInfo(tag) => tag.0 < OVER_TWENTY,
+        Message::Info(tag, _pair) => tag.0 < OVER_TWENTY,
+        Message::Done => true,
+        Message::WriteInfo(_pair) => true,
+        Message::Fwd(_pair) => true,
+        Message::WriteAck(count) => count.0 < OVER_TWENTY,
+    }
 }
 
 // ---- packing and unpacking
 
-// No field over its width. A pair's are not, since it has 64 bits.
-pub fn is_well_formed(m: Message) -> bool
-    ensures { λ r. ⌜ r ≡ wellFormed m ⌝ }
+// Packs a message into the first bytes of out, or refuses (9, then 13) and leaves out as it was.
+pub fn pack(message: Message, out: &mut [u8]) -> Packed
+    ensures answer { λ r. ⌜ r ≡ packAnswer message (now (out .entry)) ⌝ }
+    ensures bytes { λ r. ⌜ now (out .exit) ≡ packLeaves message (now (out .entry)) ⌝ }
 {
-    match m {
-        Message::GetInfo(n) => n.0 < OVER_TWENTY,
-        Message::Info(n, _p) => n.0 < OVER_TWENTY,
-        Message::Done => true,
-        Message::WriteInfo(_p) => true,
-        Message::Fwd(_p) => true,
-        Message::WriteAck(c) => c.0 < OVER_TWENTY,
-    }
-}
-
-// Packs m into the first eleven bytes of out, or refuses (9, then 13) and leaves out as it was.
-pub fn pack(m: Message, out: &mut [u8]) -> Packed
-    ensures answer { λ r. ⌜ r ≡ packAnswer m (now (out .entry)) ⌝ }
-    ensures bytes { λ r. ⌜ now (out .exit) ≡ packLeaves m (now (out .entry)) ⌝ }
-{
-    if !is_well_formed(m) {
+    if !is_well_formed(message) {
         return Packed::Refused(Refusal::Malformed);
     }
     if out.len() < MESSAGE_BYTES {
         return Packed::Refused(Refusal::ShortBuffer);
     }
-    store(words_of(m), out, 0);
+    store(words_of(message), out, 0);
     Packed::Done
 }
 
 // The message of a slice of any length, or a refusal (9).
-pub fn unpack(s: &[u8]) -> Unpacked
-    ensures { λ r. ⌜ r ≡ unpackOf (now (s .entry)) ⌝ }
+pub fn unpack(bytes: &[u8]) -> Unpacked
+    ensures { λ r. ⌜ r ≡ unpackOf (now (bytes .entry)) ⌝ }
 {
-    if s.len() != MESSAGE_BYTES {
+    if bytes.len() != MESSAGE_BYTES {
         return Unpacked::Refused(Refusal::Malformed);
     }
-    of_words(load(s, 0))
+    of_words(load(bytes, 0))
 }

@@ -1,13 +1,13 @@
 -- Laws of ladders, for every crate that refuses.
 --
--- A ladder gives the refusal of the first rung that applies. So one that refuses nothing has no rung that applies
--- (`none-applies`: each that did would have been given). Code that tests rung by rung and returns at the first that
--- applies gives what the ladder gives (`climbs`: the rungs before it give way). Two ladders of the same refusals give
--- the same one if each test agrees where no rung before it applies (`lowest-same`: what stands behind a rung that
--- applies is not looked at).
+-- A ladder gives the refusal of the first rung that applies. So one that refuses nothing has no rung that
+-- applies (`none-applies`: each that did would have been given). Code that tests rung by rung and returns
+-- at the first that applies gives what the ladder gives (`climbs`: the rungs before it give way). Two
+-- ladders of the same refusals give the same one if each test agrees where no rung before it applies
+-- (`lowest-same`: what stands behind a rung that applies is not looked at).
 --
--- Ladders compute: where the tests stand in the goal as they are known, `rw (test₁, test₂)` does what `climbs` does.
--- That a ladder stands in the table's order is said beside each ladder, by `refl`.
+-- Ladders compute: where the tests stand in the goal as they are known, `rw (test₁, test₂)` does what
+-- `climbs` does. That a ladder stands in the table's order is said beside each ladder, by `refl`.
 -- Assumes nothing.
 use Prim.Native.Nat.{ℕ}
 use mathlib.Core.Path.{_≡_, refl}
@@ -26,7 +26,8 @@ abbrev pub NoneApplies : List Rung → Type 0
 NoneApplies [] = Unit {0}
 NoneApplies (x ∷ xs) = (x .applies ≡ false) × NoneApplies xs
 
-passed : {P : Type 0} (a : Bool) (r : Refusal) (o : Option Refusal) → (o ≡ none → P) → cond a (some r) o ≡ none
+passed : {P : Type 0} (a : Bool) (r : Refusal) (o : Option Refusal) → (o ≡ none → P)
+    → cond a (some r) o ≡ none
     → (a ≡ false) × P
 passed true r o rest e = absurd (let z : _≡_ {A = ℕ} 0 1 = cc in omega arith)
 passed false r o rest e = (refl, rest e)
@@ -52,12 +53,12 @@ climbs _ (next {xs = xs} e rest) = rw e (climbs xs rest)
 -- ---- two ladders
 
 -- the same refusals, and each test agrees where no rung before it applies
-pub data Agree : List Rung → List Rung → Type 0 where
-  done : Agree [] []
-  same : {n : ℕ} {a b : Bool} {xs ys : List Rung} → a ≡ b → (b ≡ false → Agree xs ys)
-      → Agree (n whenever a ∷ xs) (n whenever b ∷ ys)
+pub data Alike : List Rung → List Rung → Type 0 where
+  done : Alike [] []
+  same : {n : ℕ} {a b : Bool} {xs ys : List Rung} → a ≡ b → (b ≡ false → Alike xs ys)
+      → Alike (n whenever a ∷ xs) (n whenever b ∷ ys)
 
-pub lowest-same : (xs ys : List Rung) → Agree xs ys → lowest xs ≡ lowest ys
+pub lowest-same : (xs ys : List Rung) → Alike xs ys → lowest xs ≡ lowest ys
 lowest-same _ _ done = refl
 lowest-same _ _ (same {b = true} e rest) = rw e
 lowest-same _ _ (same {b = false} {xs = xs} {ys = ys} e rest) = rw e (lowest-same xs ys (rest refl))

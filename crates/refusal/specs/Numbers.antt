@@ -5,8 +5,9 @@ use Prim.Native.Nat.{ℕ}
 use mathlib.Core.Bool.{cond}
 use lib.Dec.{eqb}
 use Rattle.refusal.specs.declared.Refusal.{Refusal}
-use Rattle.refusal.specs.declared.Refusal.the-variants.{BadSettings, TooManyFaulty, Unsound, NoSuchProcess, WrongRole}
-use Rattle.refusal.specs.declared.Refusal.the-variants.{Stopped, Busy, NoEntry, Malformed, EmptyChannel, Exhausted}
+use Rattle.refusal.specs.declared.Refusal.the-variants.{BadSettings, TooManyFaulty, Unsound}
+use Rattle.refusal.specs.declared.Refusal.the-variants.{NoSuchProcess, WrongRole, Stopped, Busy}
+use Rattle.refusal.specs.declared.Refusal.the-variants.{NoEntry, Malformed, EmptyChannel, Exhausted}
 use Rattle.refusal.specs.declared.Refusal.the-variants.{FullChannel, ShortBuffer}
 
 -- the number of a refusal

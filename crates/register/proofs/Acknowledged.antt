@@ -1,25 +1,18 @@
 -- Acknowledged: an honest server that has acknowledged a write is at or above the write's timestamp.
 --
--- Why: it sends WRITE_ACK c to a client only when it takes a WRITE_INFO of that client with counter c, which
--- carries the client's own number, and after that it is at or above that pair (`Grows.taken-write`) and never
--- falls.
+-- Why: it sends WRITE_ACK c to a client only when it serves a WRITE_INFO of that client with counter c,
+-- which carries the client's own number, and after that it is at or above that pair (`Grows.served-write`)
+-- and never falls.
 -- Assumes nothing.
-use mathlib.Core.Path.{_≡_, refl, sym, ap}
-use mathlib.Core.Bool.{true, false}
-use mathlib.Core.Logic.{inl}
-use Prim.Native.Nat.{ℕ, zero, suc, _+_, _*_, _≤_}
-use native.Mathlib.Nat.{le-trans}
-use native.Mathlib.Omega.{arith}
+use Rattle.basics.proofs.Prelude.{_≡_, refl, sym, ap, true, false, inl, ℕ, zero, suc, _+_, _*_, _≤_, le-trans}
+use Rattle.basics.proofs.Prelude.{arith}
 use Rattle.basics.specs.Members.{Member}
 use Rattle.basics.proofs.Cases.{by-either, true-or-false, clash}
-use Rattle.message.specs.declared.Message.{Message}
-use Rattle.message.specs.declared.Message.the-variants.{WriteInfo, WriteAck}
-use Rattle.message.specs.declared.Pair.{Pair}
-use Rattle.message.specs.declared.WriteCounter.{WriteCounter}
-use Rattle.message.specs.Pair.{stamp, counter, client}
+use Rattle.register.proofs.Vocabulary.{Message, WriteInfo, WriteAck, Pair, WriteCounter, stamp}
+use Rattle.register.proofs.Vocabulary.{counter, client}
 use Rattle.message.proofs.Pairs.{stamp-is}
 use Rattle.register.specs.Settings.{Settings, isHonest}
-use Rattle.register.specs.Server.{Server, serverAfter}
+use Rattle.register.specs.Server.{Server, nextServer}
 use Rattle.register.specs.Client.{Client, started}
 use Rattle.register.specs.World.{World, Event, apply}
 use Rattle.register.specs.Steps.{Formats}
@@ -27,11 +20,10 @@ use Rattle.register.specs.History.{worldAt}
 use Rattle.register.proofs.Enabled.{Enabled}
 use Rattle.register.proofs.Run.{Run, world, event, enabled-at}
 use Rattle.register.proofs.Sends.{Reply, info, forward, ack}
-use Rattle.register.proofs.Frames.{ClientNext, same, starts, took, client-next, Answers, Puts}
-use Rattle.register.proofs.Frames.{up-cases, down-cases}
-use Rattle.register.proofs.Frames.{server-after}
-use Rattle.register.proofs.Grows.{taken-write, grows}
-use Rattle.register.proofs.ClientFacts.{Acks, outcome-acks}
+use Rattle.register.proofs.Frames.{ClientNext, same, starts, responds, client-next, Answers, Puts}
+use Rattle.register.proofs.Frames.{up-cases, down-cases, server-after}
+use Rattle.register.proofs.Grows.{served-write, grows}
+use Rattle.register.proofs.ClientFacts.{Acks, came}
 use Rattle.register.proofs.Entries.{sent-stamp}
 
 -- server k is at or above the timestamp of counter c and client d
@@ -60,8 +52,8 @@ module _ (S : Settings) (F : Formats) (w : World) (e : Event) (en : Enabled S F 
       let s = ack-of (w .servers k) (a .sender) (a .message) d (WriteAck c) (a .reply) c refl in
       let p = s .0 in
       let own : client p ≡ a .sender = A .own (a .sender) k p (rw (a .channel) (inl (sym (s .1)))) in
-      let high : stamp p ≤ stamp (serverAfter (w .servers k) (a .sender) (a .message) .pair) =
-      taken-write (w .servers k) (a .sender) (a .message) p (s .1) in
+      let high : stamp p ≤ stamp (nextServer (w .servers k) (a .sender) (a .message) .pair) =
+      served-write (w .servers k) (a .sender) (a .message) p (s .1) in
       let is : stamp p ≡ counter p .0 * 16 + client p = stamp-is p in
       let same : counter p .0 ≡ c .0 = ap (λ (n : WriteCounter). n .0) (s .2) in
       let to : a .sender ≡ d = s .3 in
@@ -73,8 +65,9 @@ module _ (S : Settings) (F : Formats) (w : World) (e : Event) (en : Enabled S F 
   unfolding started
   counts d k g c y (same _ _) h = A .counted d k g c h
   counts d k g c y (starts ph _ _) h = absurd (true-or-false false (h .acks) refl)
-  counts d k g c y (took j m ms o _ on _ v) h =
-      by-either (outcome-acks S d (w .clients d) j m o v k c h) (λ a. A .counted d k g c a)
+  counts d k g c y (responds t o _ v) h =
+      let on = t .enabled in
+      by-either (came v .acks k c h) (λ a. A .counted d k g c a)
       (λ a. A .channel d k g c (rw (← (a .0), on .channel) (inl (sym (a .1)))))
 
   acknowledged-next : Acknowledged S (apply S w e)
@@ -83,8 +76,8 @@ module _ (S : Settings) (F : Formats) (w : World) (e : Event) (en : Enabled S F 
         own = λ d k p h. by-either (up-cases S F w e en d k (WriteInfo p) h) (λ a. A .own d k p a) (λ a. new
             d p a);
         channel = λ d k g c h. by-either (down-cases S F w e en d k g (WriteAck c) h)
-            (λ a. le-trans (A .channel d k g c a) (grows S w e k)) (λ a. answered d k c a);
-        counted = λ d k g c h. le-trans (counts d k g c _ (client-next S F w e en d) h) (grows S w e k);
+            (λ a. le-trans (A .channel d k g c a) (grows S F w e en k)) (λ a. answered d k c a);
+        counted = λ d k g c h. le-trans (counts d k g c _ (client-next S F w e en d) h) (grows S F w e en k);
       }
 
 pub acknowledged : (r : Run) (n : ℕ) → Acknowledged (r .S) (world r n)

@@ -4,38 +4,37 @@
 -- for each event, and `enabled` that every event of a step has it. All later proofs go by cases on events and
 -- use this, and never look at the ladders.
 -- Assumes nothing.
-use mathlib.Core.Path.{_≡_, refl}
-use mathlib.Core.Bool.{true, false, _||_}
-use mathlib.Core.List.{List, [], _∷_}
-use mathlib.Core.Option.{none}
-use Prim.Native.Nat.{ℕ, _<_}
-use lib.ListN.{length}
-use borrow.Author.Tests.{leb-false, not-false}
+use Rattle.basics.proofs.Prelude.{_≡_, refl, true, false, _||_, List, [], _∷_, none, length, ℕ, _≤_, _<_}
+use Rattle.basics.proofs.Prelude.{le-refl, arith, leb-false, not-false}
 use Rattle.basics.proofs.Cases.{by-option, both}
 use Rattle.refusal.proofs.Ladders.{none-applies}
 use Rattle.message.specs.Layout.{lastRead}
-use Rattle.message.specs.declared.Message.{Message}
+use Rattle.register.proofs.Vocabulary.{Message, Phase, Idle, Reading, ReadingForWrite, Storing}
 use Rattle.message.specs.declared.Unpacked.{Unpacked}
 use Rattle.message.specs.declared.Unpacked.the-variants.{Good, Refused}
-use Rattle.register.specs.declared.Phase.{Phase}
-use Rattle.register.specs.declared.Phase.the-variants.{Idle, Reading, ReadingForWrite, Storing}
 use Rattle.register.specs.Settings.{Settings, isServer, isClient, isHonest}
 use Rattle.register.specs.Client.{isIdle}
-use Rattle.register.specs.World.{World, Event, refuses, begins, serves, takes, stops, lies, takenBy}
+use Rattle.register.specs.World.{World, Event, refuses, begins, serves, takes, stops, lies, responseOf}
 use Rattle.register.specs.Steps.{Step, R, W, K, D, C, L, Formats, oldest, hasRoom, isReply, roomUp}
-use Rattle.register.specs.Steps.{roomDown}
-use Rattle.register.specs.Steps.{ladder, refusalOf, servesOldest, takesOldest, liesWith, accepted}
-use Rattle.register.specs.Steps.{eventOf}
+use Rattle.register.specs.Steps.{roomDown, ladder, refusalOf, servesOldest, takesOldest, liesWith}
+use Rattle.register.specs.Steps.{accepted, eventOf}
 use Rattle.register.proofs.Bounds.{honest-of}
 
--- the slots that a start keeps free on every channel to an honest server: a read's DONE, a write's WRITE_INFO too
+-- the slots that a start keeps free on every channel to an honest server: a read's DONE, a write's
+-- WRITE_INFO too
 abbrev pub slotsFor : Phase → ℕ
 slotsFor Idle = 1
 slotsFor Reading = 2
 slotsFor (ReadingForWrite e) = 3
 slotsFor (Storing e c) = 1
 
--- the phase of a start, with an entry that the system takes
+pub some-slot : (ph : Phase) → 1 ≤ slotsFor ph
+some-slot Idle = le-refl _
+some-slot Reading = omega arith
+some-slot (ReadingForWrite e) = omega arith
+some-slot (Storing e c) = le-refl _
+
+-- the phase of a start, with a licence entry
 abbrev pub Starts : Formats → Phase → Type 0
 Starts F Idle = ⊥
 Starts F Reading = Unit {0}
@@ -64,7 +63,7 @@ module _ (S : Settings) (F : Formats) (w : World) where
     server : isServer S k ≡ true;
     works : w .stopped d ≡ false;
     channel : w .down d k ≡ m ∷ ms;
-    room : roomUp S F w d (length (takenBy S w d k m .sends)) ≡ true;
+    room : roomUp S F w d (length (responseOf S w d k m .sends)) ≡ true;
   }
   Enabled (stops d) = record { client : isClient S d ≡ true; works : w .stopped d ≡ false }
   Enabled (lies k d m) = record {
@@ -84,7 +83,7 @@ module _ (S : Settings) (F : Formats) (w : World) where
   serves-enabled k d (m ∷ ms) e c h r = record { client = c; honest = h; channel = e; room = r }
 
   takes-enabled : (d k : ℕ) (l : List Message) → w .down d k ≡ l → isClient S d ≡ true → isServer S k ≡ true
-      → w .stopped d ≡ false → roomUp S F w d (length (takenBy S w d k (oldest l) .sends)) ≡ true
+      → w .stopped d ≡ false → roomUp S F w d (length (responseOf S w d k (oldest l) .sends)) ≡ true
       → Enabled (takesOldest S F d k l)
   unfolding oldest
   takes-enabled d k [] e c s h r = tt

@@ -3,27 +3,21 @@
 --
 -- Why: a write begins with a licence entry, which fits (`Lawful`), and keeps it.
 -- Assumes nothing.
-use mathlib.Core.Path.{_≡_, ap, _∙_, subst}
-use Prim.Native.Nat.{ℕ, zero, suc, _+_, _*_, _^_, _<_}
-use native.Mathlib.Omega.{arith}
-use Rattle.message.specs.declared.Pair.{Pair}
-use Rattle.message.specs.Pair.{stamp, counter, client}
+use Rattle.basics.proofs.Prelude.{_≡_, ap, _∙_, ℕ, zero, suc, _+_, _*_, _^_, _<_, arith}
+use Rattle.register.proofs.Vocabulary.{Pair, stamp, counter, client, Phase, Idle, Reading}
+use Rattle.register.proofs.Vocabulary.{ReadingForWrite, Storing}
 use Rattle.message.proofs.Pairs.{stamp-of, client-of}
-use Rattle.register.specs.declared.Phase.{Phase}
-use Rattle.register.specs.declared.Phase.the-variants.{Idle, Reading, ReadingForWrite, Storing}
 use Rattle.register.specs.Client.{entryOf}
-use Rattle.register.specs.World.{takes}
 use Rattle.register.specs.Steps.{Formats}
 use Rattle.register.specs.History.{worldAt}
 use Rattle.register.proofs.Bounds.{client-small}
-use Rattle.register.proofs.Enabled.{Enabled, Starts}
+use Rattle.register.proofs.Enabled.{Starts}
 use Rattle.register.proofs.Lawful.{Lawful}
-use Rattle.register.proofs.Run.{Run, world, event, enabled-at}
+use Rattle.register.proofs.Run.{Run, world}
 use Rattle.register.proofs.Outcomes.{nextCounter}
-use Rattle.register.proofs.Turns.{Turn, rested, opened, showed, spent, sent, ended}
-use Rattle.register.proofs.Since.{turn-at}
-use Rattle.register.proofs.PutCases.{SendsWrite, puts-write, sent-pair}
-use Rattle.register.proofs.WriteStatus.{PutsAt}
+use Rattle.register.proofs.Turns.{rested, opened, showed, spent, sent, ended}
+use Rattle.register.proofs.Since.{TurnAt, turn-at}
+use Rattle.register.proofs.PutCases.{PutsAt, SendsAt, sends-at, sent-pair}
 
 start-small : (F : Formats) → Lawful F → (ph : Phase) → Starts F ph → entryOf ph .0 < 2 ^ 40
 unfolding entryOf
@@ -38,8 +32,7 @@ module _ (r : Run) where
   entries zero d = omega arith
   entries (suc n) d = go (entries n d) (turn-at r n d)
     where
-      go : entryOf (world r n .clients d .phase) .0 < 2 ^ 40
-          → Turn (r .S) (r .F) (world r n) (event r n) d (world r (suc n) .clients d)
+      go : entryOf (world r n .clients d .phase) .0 < 2 ^ 40 → TurnAt r n d
           → entryOf (world r (suc n) .clients d .phase) .0 < 2 ^ 40
       go ih (rested ph _ _ _) = rw ph ih
       go ih (opened ph q en now) = rw now (start-small (r .F) (r .lawful) ph (en .phase))
@@ -48,31 +41,23 @@ module _ (r : Run) where
       go ih (sent p e _ ph now _ _) = rw now (rw ph at ih)
       go ih (ended e c _ _ _ _ now _) = rw now (omega arith)
 
-  -- an event of a client: its number fits four bits
-  takes-small : (n d : ℕ) (p : Pair) → SendsWrite (r .S) (r .F) (world r n) (event r n) d p → d < 2 ^ 4
-  takes-small n d p s =
-      let en : Enabled (r .S) (r .F) (world r n) (takes d (s .server) (s .message) (s .rest)) =
-      subst (Enabled (r .S) (r .F) (world r n)) (s .event) (enabled-at r n) in
-      let b = client-small (r .S) (r .accepted) d (en .client) in
-      let h = b .1 in
-      omega arith
-
   -- what a write sends has its client's number, and the timestamp of its counter and that number
   pub record SentStamp (n d : ℕ) (p : Pair) : Type 0 where
     pub small : d < 2 ^ 4
     pub client : client p ≡ d
-    pub send : SendsWrite (r .S) (r .F) (world r n) (event r n) d p
+    pub send : SendsAt r n d p
     pub stamp : stamp p ≡ (counter (send .put .pair) .0 + 1) * 16 + d
 
   pub sent-stamp : (n d : ℕ) (p : Pair) → PutsAt r n d p → SentStamp n d p
   unfolding entryOf
   sent-stamp n d p h =
-      let s = puts-write (r .S) (r .F) (world r n) (event r n) d p h in
-      let small = takes-small n d p s in
+      let s = sends-at r n d p h in
+      let range = client-small (r .S) (r .accepted) d (s .by .enabled .client) in
+      let small : d < 2 ^ 4 = omega arith in
       let c = nextCounter (s .put .pair) in
       let e = s .put .entry in
       let fits : e .0 < 2 ^ 40 = rw (s .put .phase) at (entries n d) in
-      let is = sent-pair (r .S) (r .F) (world r n) (event r n) d p s in
+      let is = sent-pair r n d p s in
       record {
         small = small;
         client = ap client is ∙ client-of c d e small fits;

@@ -3,63 +3,53 @@
 -- Why: the event of that step tells whether a read began there, and of which client; from then on the read is
 -- open or has ended (`ReadStatus`), and an open one is no finished read.
 -- Assumes nothing.
-use mathlib.Core.Path.{_≡_, refl}
-use mathlib.Core.Logic.{_⊎_, inl, inr}
-use Prim.Native.Nat.{ℕ, _<_}
-use native.Mathlib.Omega.{arith}
-use lib.Dec.{ltb}
-use lib.ListN.{length}
-use borrow.Author.Tests.{ltb-true, ltb-false}
+use Rattle.basics.proofs.Prelude.{_≡_, refl, _⊎_, inl, inr, length, ℕ, _<_, arith, ltb, ltb-true, ltb-false}
 use Rattle.basics.proofs.Cases.{by-test, by-either, clash}
-use Rattle.message.specs.declared.Pair.{Pair}
-use Rattle.register.specs.declared.Phase.the-variants.{Idle, Reading, ReadingForWrite, Storing}
+use Rattle.basics.proofs.Ranges.{Happened}
+use Rattle.register.proofs.Vocabulary.{Pair, Idle, Reading, ReadingForWrite, Storing}
 use Rattle.register.specs.World.{Event, refuses, begins, serves, takes, stops, lies}
-use Rattle.register.specs.History.{ReadBegins, ReadEnds}
+use Rattle.register.specs.History.{ReadBegins}
 use Rattle.register.proofs.Run.{Run, event}
-use Rattle.register.proofs.ReadStatus.{EndedRead, read-status}
-use Rattle.register.proofs.Translation.{read-begins, read-began, reads-in, reads-out}
+use Rattle.register.proofs.ReadStatus.{EndsRead, read-status}
+use Rattle.register.proofs.Translation.{ReadEndsIn, read-begins, read-began, reads-in, reads-out}
 
 module _ (r : Run) where
-  abbrev EndsAt : ℕ → ℕ → ℕ → Pair → Type 0
-  EndsAt b d j p = ReadEnds (r .S) (r .F) (r .steps) b d j p
-
   -- the read b has ended
   pub record Finished (b : ℕ) : Type 0 where
     pub client : ℕ
     pub at : ℕ
     pub pair : Pair
-    pub ends : EndsAt b client at pair
+    pub ends : ReadEndsIn r b client at pair
 
   -- the read b has not ended, or there is none
   abbrev pub Unfinished : ℕ → Type 0
-  Unfinished b = (d j : ℕ) (p : Pair) → EndsAt b d j p → ⊥
+  Unfinished b = (d j : ℕ) (p : Pair) → ReadEndsIn r b d j p → ⊥
 
   -- the read of client d that began at b ends where its status says
   pub read-ends : (b d : ℕ) → ReadBegins (r .S) (r .F) (r .steps) b d
-      → (o : EndedRead r b d (length (r .steps)))
-      → EndsAt b d (o .at) (o .pair)
+      → (o : Happened (EndsRead r b d) b (length (r .steps))) → ReadEndsIn r b d (o .at) (o .how .pair)
   read-ends b d x o =
       record {
         begins = x;
         later = o .after;
-        ends = reads-out r (o .at) d (o .pair) (o .before) (o .reads);
-        next = λ i lo hi p y. o .first i lo hi p (reads-in r i d p y);
+        ends = reads-out r (o .before) (o .how .reads);
+        next = λ i lo hi p y. o .how .first i lo hi p (reads-in r y);
       }
 
   -- no read began at b
   no-read : (b : ℕ) → ((d : ℕ) → event r b ≡ begins d Reading → ⊥) → Finished b ⊎ Unfinished b
-  no-read b h = inr (λ d j p x. h d (read-begins r b d (x .begins)))
+  no-read b h = inr (λ d j p x. h d (read-begins r (x .begins)))
 
   began : (b c : ℕ) → b < length (r .steps) → event r b ≡ begins c Reading → Finished b ⊎ Unfinished b
   began b c lt e =
       by-either (read-status r b c e (length (r .steps)) lt)
-      (λ o. inr (λ d j p x. let e′ = read-begins r b d (x .begins) in
+      (λ o. inr (λ d j p x. let e′ = read-begins r (x .begins) in
       let same : d ≡ c = cc in
-      o .silent j (x .later) (x .ends .inList) p (reads-in r j c p (rw same at (x .ends)))))
+      o .silent j (x .later) (x .ends .inList) p (reads-in r (rw same at (x .ends)))))
       (λ o. inl (record {
         client = c;
         at = o .at;
-        pair = o .pair;
+        pair = o .how .pair;
         ends = read-ends b c (read-began r b c lt e) o;
       }))
 

@@ -2,15 +2,10 @@
 --
 -- Why: a licence entry has 40 bits, and what unpacks is well formed, so its fields are in their widths.
 -- Assumes nothing.
-use mathlib.Core.Path.{_≡_}
-use mathlib.Core.Bool.{true}
-use Prim.Native.Nat.{_^_}
-use lib.Dec.{ltb}
-use borrow.Author.Tests.{ltb-true}
+use Rattle.basics.proofs.Prelude.{_≡_, true, _^_, ltb, ltb-true}
 use Rattle.basics.proofs.Cases.{both}
 use Rattle.licence.proofs.Entries.{is-licence-small}
-use Rattle.message.specs.declared.Message.{Message}
-use Rattle.message.specs.declared.Message.the-variants.{GetInfo, Info, Done, WriteInfo, Fwd, WriteAck}
+use Rattle.register.proofs.Vocabulary.{Message, GetInfo, Info, Done, WriteInfo, Fwd, WriteAck}
 use Rattle.message.specs.Layout.{wellFormed}
 use Rattle.message.proofs.RoundTrip.{pack-unpack}
 use Rattle.register.specs.Formats.{formats}

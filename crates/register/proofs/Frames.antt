@@ -1,34 +1,28 @@
 -- What an event does to one client, one server and one channel.
 --
--- A client is as it was, or starts, or takes a message (`client-next`); a server is as it was, or takes a
--- message (`server-next`). A message on a channel after an event was there before or has just been put there
--- (`up-cases`, `down-cases`), and one that was there before stays, or is the one that is taken, or its
--- channel is emptied by a stop (`up-stays`, `down-stays`). What is put on a channel that does not drop is
+-- A client is as it was, or starts, or takes a message (`client-next`); a server is as it was, or serves one
+-- (`server-next`). A message on a channel after an event was there before or has just been put there
+-- (`up-cases`, `down-cases`), and one that was there before stays, or is the one that is taken or served, or
+-- its channel is emptied by a stop (`up-stays`, `down-stays`). What is put on a channel that does not drop is
 -- there (`up-new`, `down-new`).
 -- Assumes nothing.
-use mathlib.Core.Path.{_≡_, refl}
-use mathlib.Core.Bool.{Bool, true, false, cond, _&&_}
-use mathlib.Core.Logic.{_⊎_, inl, inr}
-use mathlib.Core.List.{List, [], _∷_}
-use Prim.Native.Nat.{ℕ}
-use lib.Dec.{eqb}
-use borrow.Author.Tests.{eqb-true, eq-eqb, ne-eqb}
+use Rattle.basics.proofs.Prelude.{_≡_, refl, ap, Bool, true, false, _&&_, _⊎_, inl, inr, List, _∷_, ℕ, eqb}
+use Rattle.basics.proofs.Prelude.{eqb-true, eq-eqb, ne-eqb}
 use Rattle.basics.specs.Members.{Member}
 use Rattle.basics.proofs.Cases.{by-test, by-either, both, true-or-false}
-use Rattle.basics.proofs.Members.{member-left, member-right, member-cases}
+use Rattle.basics.proofs.Members.{member-left, member-right, member-cases, member-if}
 use Rattle.basics.proofs.Update.{update-at, update-same}
-use Rattle.message.specs.declared.Message.{Message}
-use Rattle.message.specs.declared.Message.the-variants.{GetInfo}
-use Rattle.register.specs.declared.Phase.{Phase}
+use Rattle.register.proofs.Vocabulary.{Message, GetInfo, Phase}
 use Rattle.register.specs.Settings.{Settings, isServer, isHonest}
-use Rattle.register.specs.Server.{Server, serverAfter, serverSends, sentTo}
-use Rattle.register.specs.Client.{Client, nextRead, started, Taken}
-use Rattle.register.specs.World.{World, Event, refuses, begins, serves, takes, stops, lies, takenBy}
+use Rattle.register.specs.Server.{Server, nextServer, serverSends, sentTo}
+use Rattle.register.specs.Client.{Client, nextRead, started, Response}
+use Rattle.register.specs.World.{World, Event, refuses, begins, serves, takes, stops, lies, responseOf}
 use Rattle.register.specs.World.{putsUp, putsDown, leavesUp, leavesDown, nextUp, nextDown, nextServers}
-use Rattle.register.specs.World.{nextClients, apply}
+use Rattle.register.specs.World.{nextClients, nextStopped, apply}
 use Rattle.register.specs.Steps.{Formats}
 use Rattle.register.proofs.Bounds.{honest-server, honest-not-faulty}
 use Rattle.register.proofs.Enabled.{Enabled}
+use Rattle.register.proofs.Dropping.{at-channel}
 use Rattle.register.proofs.Sends.{Reply, replies}
 use Rattle.register.proofs.Outcomes.{Outcome, outcome}
 
@@ -50,32 +44,40 @@ takesAt (stops c) d = false
 takesAt (lies k c m) d = false
 
 module _ (S : Settings) (F : Formats) (w : World) where
+  -- the event is a step D of client d
+  pub record Takes (e : Event) (d : ℕ) : Type 0 where
+    pub server : ℕ
+    pub message : Message
+    pub rest : List Message
+    pub event : e ≡ takes d server message rest
+    pub enabled : Enabled S F w (takes d server message rest)
+
   -- client d after an event
   pub data ClientNext (e : Event) (d : ℕ) : Client → Type 0 where
     same : startsAt e d ≡ false → takesAt e d ≡ false → ClientNext e d (w .clients d)
     starts : (ph : Phase) → e ≡ begins d ph → Enabled S F w (begins d ph)
         → ClientNext e d (started (w .clients d) ph)
-    took : (k : ℕ) (m : Message) (ms : List Message) (o : Taken) → e ≡ takes d k m ms
-        → Enabled S F w (takes d k m ms)
-        → o ≡ takenBy S w d k m → Outcome S d (w .clients d) k m o → ClientNext e d (o .client)
+    responds : (t : Takes e d) (o : Response) → o ≡ responseOf S w d (t .server) (t .message)
+        → Outcome S d (w .clients d) (t .server) (t .message) o → ClientNext e d (o .client)
 
   -- server k after an event
   pub data ServerNext (e : Event) (k : ℕ) : Server → Type 0 where
     kept : ServerNext e k (w .servers k)
-    heard : (d : ℕ) (m : Message) (ms : List Message) → e ≡ serves k d m ms → Enabled S F w (serves k d m ms)
-        → ServerNext e k (serverAfter (w .servers k) d m)
+    served : (d : ℕ) (m : Message) (ms : List Message) → e ≡ serves k d m ms → Enabled S F w (serves k d m ms)
+        → ServerNext e k (nextServer (w .servers k) d m)
 
   pub client-next : (e : Event) → Enabled S F w e → (d : ℕ) → ClientNext e d (apply S w e .clients d)
   unfolding apply nextClients
   client-next (refuses r) en d = same refl refl
   client-next (begins c ph) en d =
-      update-at (λ (x : Client). ClientNext (begins c ph) d x) (w .clients) c d _ (λ q. rw (← q) (starts ph
-      refl en))
+      update-at (ClientNext (begins c ph) d) (w .clients) c d _ (λ q. rw (← q) (starts ph refl en))
       (λ q. same (ne-eqb c d q) refl)
   client-next (serves k c m ms) en d = same refl refl
   client-next (takes c k m ms) en d =
-      update-at (λ (x : Client). ClientNext (takes c k m ms) d x) (w .clients) c d _
-      (λ q. rw (← q) (took k m ms _ refl en refl (outcome S c (w .clients c) k m)))
+      update-at (ClientNext (takes c k m ms) d) (w .clients) c d _
+      (λ q. rw (← q) (responds
+      (record { server = k; message = m; rest = ms; event = refl; enabled = en }) _ refl
+      (outcome S c (w .clients c) k m)))
       (λ q. same refl (ne-eqb c d q))
   client-next (stops c) en d = same refl refl
   client-next (lies k c m) en d = same refl refl
@@ -85,11 +87,24 @@ module _ (S : Settings) (F : Formats) (w : World) where
   server-next (refuses r) en k = kept
   server-next (begins c ph) en k = kept
   server-next (serves j c m ms) en k =
-      update-at (λ (x : Server). ServerNext (serves j c m ms) k x) (w .servers) j k _
-      (λ q. rw (← q) (heard c m ms refl en)) (λ q. kept)
+      update-at (ServerNext (serves j c m ms) k) (w .servers) j k _
+      (λ q. rw (← q) (served c m ms refl en)) (λ q. kept)
   server-next (takes c j m ms) en k = kept
   server-next (stops c) en k = kept
   server-next (lies j c m) en k = kept
+
+  -- whether client d has stopped is as it was, or it stops now
+  pub stopped-next : (e : Event) (d : ℕ) → (apply S w e .stopped d ≡ w .stopped d)
+      ⊎ ((e ≡ stops d) × (apply S w e .stopped d ≡ true))
+  unfolding apply nextStopped
+  stopped-next (refuses r) d = inl refl
+  stopped-next (begins c ph) d = inl refl
+  stopped-next (serves k c m ms) d = inl refl
+  stopped-next (takes c k m ms) d = inl refl
+  stopped-next (stops c) d =
+      update-at (λ b. (b ≡ w .stopped d) ⊎ ((stops c ≡ stops d) × (b ≡ true))) (w .stopped) c d true
+      (λ q. inr (ap stops q, refl)) (λ q. inl refl)
+  stopped-next (lies k c m) d = inl refl
 
   -- ---- channels from clients to servers
 
@@ -98,24 +113,19 @@ module _ (S : Settings) (F : Formats) (w : World) where
   Puts (refuses r) d m = ⊥
   Puts (begins c ph) d m = (c ≡ d) × (m ≡ GetInfo (nextRead (w .clients c)))
   Puts (serves k c x xs) d m = ⊥
-  Puts (takes c k x xs) d m = (c ≡ d) × Member m (takenBy S w c k x .sends)
+  Puts (takes c k x xs) d m = (c ≡ d) × Member m (responseOf S w c k x .sends)
   Puts (stops c) d m = ⊥
   Puts (lies k c x) d m = ⊥
-
-  -- a list on one channel of one client
-  member-cond : (b : Bool) (m : Message) (l : List Message) → Member m (cond b l []) → (b ≡ true) × Member m l
-  member-cond true m l h = (refl, h)
-  member-cond false m l h = absurd h
 
   pub puts-of : (e : Event) (d k : ℕ) (m : Message) → Member m (putsUp S w e d k) → Puts e d m
   unfolding putsUp
   puts-of (refuses r) d k m h = h
   puts-of (begins c ph) d k m h =
-      let a = member-cond (eqb c d && isServer S k) m _ h in
+      let a = member-if (eqb c d && isServer S k) m _ h in
       (eqb-true c d (both (eqb c d) (isServer S k) (a .0) .0), by-either (a .1) (λ q. q) (λ q. absurd q))
   puts-of (serves j c x xs) d k m h = h
   puts-of (takes c j x xs) d k m h =
-      let a = member-cond (eqb c d && isServer S k) m _ h in
+      let a = member-if (eqb c d && isServer S k) m _ h in
       (eqb-true c d (both (eqb c d) (isServer S k) (a .0) .0), a .1)
   puts-of (stops c) d k m h = h
   puts-of (lies j c x) d k m h = h
@@ -130,42 +140,33 @@ module _ (S : Settings) (F : Formats) (w : World) where
   of-puts (stops c) d k m g h = h
   of-puts (lies j c x) d k m g h = h
 
-  -- one of two lists, by the channel
-  at-channel : (P : List Message → Type 0) (a b x y : ℕ) (l r : List Message) → (a ≡ x → b ≡ y → P l) → P r
-      → P (cond (eqb a x && eqb b y) l r)
-  at-channel P a b x y l r new old =
-      by-test (eqb a x && eqb b y)
-      (λ e. let q = both (eqb a x) (eqb b y) e in rw e (new (eqb-true a x (q .0)) (eqb-true b y (q .1))))
-      (λ e. rw e old)
-
-  left-up : (e : Event) → Enabled S F w e → (d k : ℕ) (m : Message) → Member m (leavesUp S w e d k)
+  was-up : (e : Event) → Enabled S F w e → (d k : ℕ) (m : Message) → Member m (leavesUp S w e d k)
       → Member m (w .up d k)
   unfolding leavesUp
-  left-up (refuses r) en d k m h = h
-  left-up (begins c ph) en d k m h = h
-  left-up (serves j c x xs) en d k m h =
+  was-up (refuses r) en d k m h = h
+  was-up (begins c ph) en d k m h = h
+  was-up (serves j c x xs) en d k m h =
       at-channel (λ (l : List Message). Member m l → Member m (w .up d k)) j c k d xs (w .up d k)
       (λ ek ed h′. rw (← ek, ← ed, en .channel) (inr h′)) (λ h′. h′) h
-  left-up (takes c j x xs) en d k m h = h
-  left-up (stops c) en d k m h = h
-  left-up (lies j c x) en d k m h = h
+  was-up (takes c j x xs) en d k m h = h
+  was-up (stops c) en d k m h = h
+  was-up (lies j c x) en d k m h = h
 
   pub up-cases : (e : Event) → Enabled S F w e → (d k : ℕ) (m : Message) → Member m (apply S w e .up d k)
       → Member m (w .up d k) ⊎ Puts e d m
   unfolding apply nextUp
   up-cases e en d k m h =
-      by-either (member-cases m (leavesUp S w e d k) _ h) (λ a. inl (left-up e en d k m a))
+      by-either (member-cases m (leavesUp S w e d k) _ h) (λ a. inl (was-up e en d k m a))
       (λ a. by-test (S .faulty k) (λ q. absurd (rw q at a)) (λ q. inr (puts-of e d k m (rw q at a))))
 
-  -- a message stays on its channel, or it is the one that is taken
+  -- a message stays on its channel, or it is the one that is served
   leaves-up : (e : Event) → Enabled S F w e → (d k : ℕ) (m : Message) → Member m (w .up d k)
       → Member m (leavesUp S w e d k) ⊎ ((ms : List Message) × (e ≡ serves k d m ms))
   unfolding leavesUp
   leaves-up (refuses r) en d k m h = inl h
   leaves-up (begins c ph) en d k m h = inl h
   leaves-up (serves j c x xs) en d k m h =
-      at-channel (λ (l : List Message). Member m l ⊎ ((ms : List Message)
-      × (serves j c x xs ≡ serves k d m ms)))
+      at-channel (λ l. Member m l ⊎ ((ms : List Message) × (serves j c x xs ≡ serves k d m ms)))
       j c k d xs (w .up d k)
       (λ ek ed. let h′ : Member m (x ∷ xs) = rw (← ek, ← ed, en .channel) at h in
       by-either h′ (λ q. inr (xs, rw (ek, ed, q) refl)) (λ q. inl q))
@@ -179,8 +180,7 @@ module _ (S : Settings) (F : Formats) (w : World) where
   unfolding apply nextUp
   up-stays e en d k m h =
       by-either (leaves-up e en d k m h)
-      (λ a. inl (member-left m (leavesUp S w e d k) (cond (S .faulty k) [] (putsUp S w e d k)) a)) (λ a. inr
-      a)
+      (λ a. inl (member-left m (leavesUp S w e d k) _ a)) (λ a. inr a)
 
   -- what a client puts on its channels is on those to honest servers
   pub up-new : (e : Event) (d k : ℕ) (m : Message) → isHonest S k ≡ true → Puts e d m
@@ -201,17 +201,17 @@ module _ (S : Settings) (F : Formats) (w : World) where
     pub channel : w .up sender k ≡ message ∷ rest
     pub reply : Reply (w .servers k) sender message d m
 
-  left-down : (e : Event) → Enabled S F w e → (d k : ℕ) (m : Message) → Member m (leavesDown S w e d k)
+  was-down : (e : Event) → Enabled S F w e → (d k : ℕ) (m : Message) → Member m (leavesDown S w e d k)
       → Member m (w .down d k)
   unfolding leavesDown
-  left-down (refuses r) en d k m h = h
-  left-down (begins c ph) en d k m h = h
-  left-down (serves j c x xs) en d k m h = h
-  left-down (takes c j x xs) en d k m h =
+  was-down (refuses r) en d k m h = h
+  was-down (begins c ph) en d k m h = h
+  was-down (serves j c x xs) en d k m h = h
+  was-down (takes c j x xs) en d k m h =
       at-channel (λ (l : List Message). Member m l → Member m (w .down d k)) j c k d xs (w .down d k)
       (λ ek ed h′. rw (← ek, ← ed, en .channel) (inr h′)) (λ h′. h′) h
-  left-down (stops c) en d k m h = by-test (eqb c d) (λ q. absurd (rw q at h)) (λ q. rw q at h)
-  left-down (lies j c x) en d k m h = h
+  was-down (stops c) en d k m h = by-test (eqb c d) (λ q. absurd (rw q at h)) (λ q. rw q at h)
+  was-down (lies j c x) en d k m h = h
 
   puts-down : (e : Event) → Enabled S F w e → (d k : ℕ) → isHonest S k ≡ true → (m : Message)
       → Member m (putsDown S w e d k) → Answers e d k m
@@ -219,7 +219,7 @@ module _ (S : Settings) (F : Formats) (w : World) where
   puts-down (refuses r) en d k g m h = absurd h
   puts-down (begins c ph) en d k g m h = absurd h
   puts-down (serves j c x xs) en d k g m h =
-      let a = member-cond (eqb j k) m _ h in
+      let a = member-if (eqb j k) m _ h in
       rw (← (eqb-true j k (a .0)))
       (record {
         sender = c;
@@ -232,7 +232,7 @@ module _ (S : Settings) (F : Formats) (w : World) where
   puts-down (takes c j x xs) en d k g m h = absurd h
   puts-down (stops c) en d k g m h = absurd h
   puts-down (lies j c x) en d k g m h =
-      let a = member-cond (eqb j k && eqb c d) m _ h in
+      let a = member-if (eqb j k && eqb c d) m _ h in
       let q : j ≡ k = eqb-true j k (both (eqb j k) (eqb c d) (a .0) .0) in
       absurd (true-or-false (S .faulty k) (rw q at (en .faulty)) (honest-not-faulty S k g))
 
@@ -240,7 +240,7 @@ module _ (S : Settings) (F : Formats) (w : World) where
       → Member m (apply S w e .down d k) → Member m (w .down d k) ⊎ Answers e d k m
   unfolding apply nextDown
   down-cases e en d k g m h =
-      by-either (member-cases m (leavesDown S w e d k) _ h) (λ a. inl (left-down e en d k m a))
+      by-either (member-cases m (leavesDown S w e d k) _ h) (λ a. inl (was-down e en d k m a))
       (λ a. by-test (w .stopped d) (λ q. absurd (rw q at a)) (λ q. inr (puts-down e en d k g m (rw q at a))))
 
   -- a message stays, or it is the one that is taken, or its client stops
@@ -252,7 +252,7 @@ module _ (S : Settings) (F : Formats) (w : World) where
   leaves-down (serves j c x xs) en d k m h = inl h
   leaves-down (takes c j x xs) en d k m h =
       at-channel
-      (λ (l : List Message). Member m l
+      (λ l. Member m l
       ⊎ (((ms : List Message) × (takes c j x xs ≡ takes d k m ms)) ⊎ (takes c j x xs ≡ stops d)))
       j c k d xs (w .down d k)
       (λ ek ed. let h′ : Member m (x ∷ xs) = rw (← ek, ← ed, en .channel) at h in
@@ -267,8 +267,7 @@ module _ (S : Settings) (F : Formats) (w : World) where
   unfolding apply nextDown
   down-stays e en d k m h =
       by-either (leaves-down e en d k m h)
-      (λ a. inl (member-left m (leavesDown S w e d k) (cond (w .stopped d) [] (putsDown S w e d k)) a)) (λ a.
-      inr a)
+      (λ a. inl (member-left m (leavesDown S w e d k) _ a)) (λ a. inr a)
 
   -- what a server sends is on the channel to a working client
   pub down-new : (k c : ℕ) (x : Message) (xs : List Message) (d : ℕ) (m : Message) → w .stopped d ≡ false
@@ -279,20 +278,8 @@ module _ (S : Settings) (F : Formats) (w : World) where
       rw (works, eq-eqb k k refl)
       (member-right m (leavesDown S w (serves k c x xs) d k) (sentTo d (serverSends (w .servers k) c x)) h)
 
--- the server that takes a message, the client that does, the client that starts
+-- the server that serves a message
 pub server-after : (S : Settings) (w : World) (e : Event) (k d : ℕ) (m : Message) (ms : List Message)
-    → e ≡ serves k d m ms
-    → apply S w e .servers k ≡ serverAfter (w .servers k) d m
+    → e ≡ serves k d m ms → apply S w e .servers k ≡ nextServer (w .servers k) d m
 unfolding apply nextServers
 server-after S w e k d m ms q = rw (q, update-same) refl
-
-pub client-after : (S : Settings) (w : World) (e : Event) (d k : ℕ) (m : Message) (ms : List Message)
-    → e ≡ takes d k m ms
-    → apply S w e .clients d ≡ takenBy S w d k m .client
-unfolding apply nextClients
-client-after S w e d k m ms q = rw (q, update-same) refl
-
-pub client-starts : (S : Settings) (w : World) (e : Event) (d : ℕ) (ph : Phase) → e ≡ begins d ph
-    → apply S w e .clients d ≡ started (w .clients d) ph
-unfolding apply nextClients
-client-starts S w e d ph q = rw (q, update-same) refl

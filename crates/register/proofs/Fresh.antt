@@ -1,4 +1,4 @@
--- Fresh: what a reading client has heard of an honest server for this read is as new as the server was when
+-- Fresh: what a reading client has of an honest server for this read is as new as the server was when
 -- the read began.
 --
 -- Why: the read has a read number of its own. An INFO with that number answers the GET_INFO of this read, so
@@ -6,21 +6,11 @@
 -- (`Grows`). A timestamp is noted only from an INFO with the current number. A message with an older number
 -- never gets the current one, since a start raises it.
 -- Assumes nothing.
-use mathlib.Core.Path.{_≡_, refl, sym, ap, _∙_, subst}
-use mathlib.Core.Bool.{Bool, true, false}
-use mathlib.Core.Logic.{inl}
-use mathlib.Core.Option.{some}
-use Prim.Native.Nat.{ℕ, zero, suc, _+_, _≤_}
-use native.Mathlib.Nat.{le-trans}
-use native.Mathlib.Omega.{arith}
-use borrow.Author.Tests.{eq-eqb}
+use Rattle.basics.proofs.Prelude.{_≡_, refl, sym, ap, _∙_, subst, Bool, true, false, inl, some, ℕ, zero, suc}
+use Rattle.basics.proofs.Prelude.{_+_, _≤_, le-trans, arith, eq-eqb}
 use Rattle.basics.specs.Members.{Member}
 use Rattle.basics.proofs.Cases.{by-test, by-either, true-or-false, clash}
-use Rattle.message.specs.declared.Message.{Message}
-use Rattle.message.specs.declared.Message.the-variants.{GetInfo, Info}
-use Rattle.message.specs.declared.Pair.{Pair}
-use Rattle.message.specs.declared.ReadNumber.{ReadNumber}
-use Rattle.message.specs.Pair.{stamp}
+use Rattle.register.proofs.Vocabulary.{Message, GetInfo, Info, Pair, ReadNumber, stamp}
 use Rattle.register.specs.Settings.{Settings, isHonest}
 use Rattle.register.specs.Client.{Client, nextRead, started}
 use Rattle.register.specs.Server.{Server}
@@ -30,11 +20,11 @@ use Rattle.register.specs.History.{worldAt}
 use Rattle.register.proofs.Enabled.{Enabled}
 use Rattle.register.proofs.Run.{Run, world, event, enabled-at}
 use Rattle.register.proofs.Sends.{Reply, info, forward, ack}
-use Rattle.register.proofs.Frames.{startsAt, ClientNext, same, starts, took, client-next, Answers}
+use Rattle.register.proofs.Frames.{startsAt, ClientNext, same, starts, responds, client-next, Answers}
 use Rattle.register.proofs.Frames.{up-cases, down-cases}
 use Rattle.register.proofs.Grows.{grows-on}
-use Rattle.register.proofs.ClientFacts.{none-some, same-reads, outcome-note}
-use Rattle.register.proofs.PutCases.{puts-get}
+use Rattle.register.proofs.ClientFacts.{none-some, came}
+use Rattle.register.proofs.PutCases.{put-case}
 use Rattle.register.proofs.Since.{since, since-le}
 
 -- the read number of a client stays, and a start raises it
@@ -51,11 +41,9 @@ module _ (S : Settings) (F : Formats) (w : World) (e : Event) (d : ℕ) where
         stays = λ q. absurd (true-or-false false (sym (rw (h, eq-eqb d d refl) at q)) refl);
         more = λ q. refl;
       }
-  reads-next y (took k m ms o h _ _ v) =
-      record {
-        stays = λ q. same-reads S d (w .clients d) k m o v;
-        more = λ q. absurd (true-or-false false (rw h at q) refl);
-      }
+  reads-next y (responds t o _ v) =
+      let h = t .event in
+      record { stays = λ q. came v .reads; more = λ q. absurd (true-or-false false (rw h at q) refl) }
 
 reads-grow : (x y : Client) (b : Bool) → ReadsNext x y b → x .reads .0 ≤ y .reads .0
 reads-grow x y b t =
@@ -114,7 +102,7 @@ module _ (S : Settings) (F : Formats) (w : World) (e : Event) where
     unfolding nextRead
     fresh-asked d k t h =
         by-either (up-cases S F w e en d k (GetInfo t) h) (λ a. le-trans (f .asked d k t a) (grown d))
-        (λ a. let g = puts-get S F w e d t a in
+        (λ a. let g = put-case S F w e en d (GetInfo t) a in
         let q = next d .more (g .0) in
         let z : t .0 ≡ w .clients d .reads .0 + 1 = ap (λ (n : ReadNumber). n .0) (g .1) in
         omega arith)
@@ -138,9 +126,11 @@ module _ (S : Settings) (F : Formats) (w : World) (e : Event) where
     unfolding started
     fresh-noted d k g u y (same s _) h = rw (as-was d k s) (f .noted d k g u h)
     fresh-noted d k g u y (starts ph _ _) h = absurd (none-some h)
-    fresh-noted d k g u y (took j m ms o q on _ v) h =
+    fresh-noted d k g u y (responds t o _ v) h =
+        let q = t .event in
+        let on = t .enabled in
         rw (as-was d k (rw q refl))
-        (by-either (outcome-note S d (w .clients d) j m o v k u h) (λ a. f .noted d k g u a)
+        (by-either (came v .note k u h) (λ a. f .noted d k g u a)
         (λ a. rw (a .is)
         (f .info d k g (w .clients d .reads) (a .pair)
         (rw (← (a .server), on .channel) (inl (sym (a .message)))) refl)))

@@ -5,20 +5,13 @@
 -- WRITE_INFO; what stands in a set came from the server; and only a write's D puts WRITE_INFO on a channel to
 -- it.
 -- Assumes nothing.
-use mathlib.Core.Path.{_≡_, refl}
-use mathlib.Core.Bool.{true}
-use mathlib.Core.Logic.{_⊎_, inl, inr}
-use Prim.Native.Nat.{ℕ, zero, suc, _<_}
-use native.Mathlib.Omega.{arith}
-use lib.Dec.{ltb}
+use Rattle.basics.proofs.Prelude.{_≡_, refl, subst, true, _⊎_, inl, inr, ℕ, zero, suc, _<_, arith}
 use Rattle.basics.specs.Members.{Member}
-use Rattle.basics.proofs.Cases.{by-test, by-either}
-use Rattle.message.specs.declared.Message.{Message}
-use Rattle.message.specs.declared.Message.the-variants.{GetInfo, Info, Done, WriteInfo, Fwd, WriteAck}
-use Rattle.message.specs.declared.Pair.{Pair}
-use Rattle.message.specs.Pair.{stamp, initial}
+use Rattle.basics.proofs.Cases.{by-either}
+use Rattle.register.proofs.Vocabulary.{Message, GetInfo, Info, Done, WriteInfo, Fwd, WriteAck, Pair}
+use Rattle.register.proofs.Vocabulary.{initial}
 use Rattle.register.specs.Settings.{Settings, isHonest}
-use Rattle.register.specs.Server.{Server, stored, serverAfter}
+use Rattle.register.specs.Server.{Server, nextServer}
 use Rattle.register.specs.Client.{Client, started}
 use Rattle.register.specs.World.{World, Event, apply}
 use Rattle.register.specs.Steps.{Formats}
@@ -26,29 +19,12 @@ use Rattle.register.specs.History.{worldAt}
 use Rattle.register.proofs.Enabled.{Enabled}
 use Rattle.register.proofs.Run.{Run, world, event, enabled-at}
 use Rattle.register.proofs.Sends.{Reply, info, forward, ack}
-use Rattle.register.proofs.Frames.{ClientNext, same, starts, took, client-next, ServerNext, kept}
-use Rattle.register.proofs.Frames.{heard, server-next}
-use Rattle.register.proofs.Frames.{Puts, up-cases, down-cases}
-use Rattle.register.proofs.ClientFacts.{outcome-pair}
-use Rattle.register.proofs.PutCases.{PutCase, asks, finishes, writes, put-case}
-use Rattle.register.proofs.WriteStatus.{PutsAt}
-
--- a message's pair has the property Q
-abbrev pub Good : (Pair → Type 0) → Message → Type 0
-Good Q (GetInfo t) = Unit {0}
-Good Q (Info t p) = Q p
-Good Q Done = Unit {0}
-Good Q (WriteInfo p) = Q p
-Good Q (Fwd p) = Q p
-Good Q (WriteAck c) = Unit {0}
-
-good-mono : (Q Q′ : Pair → Type 0) → ((p : Pair) → Q p → Q′ p) → (m : Message) → Good Q m → Good Q′ m
-good-mono Q Q′ h (GetInfo t) l = tt
-good-mono Q Q′ h (Info t p) l = h p l
-good-mono Q Q′ h Done l = tt
-good-mono Q Q′ h (WriteInfo p) l = h p l
-good-mono Q Q′ h (Fwd p) l = h p l
-good-mono Q Q′ h (WriteAck c) l = tt
+use Rattle.register.proofs.Frames.{ClientNext, same, starts, responds, client-next, ServerNext, kept}
+use Rattle.register.proofs.Frames.{served, server-next, Puts, up-cases, down-cases}
+use Rattle.register.proofs.Carried.{Good, carried, good-mono}
+use Rattle.register.proofs.Grows.{pair-after}
+use Rattle.register.proofs.ClientFacts.{came}
+use Rattle.register.proofs.PutCases.{put-case, PutsAt}
 
 pub record Genuine (S : Settings) (w : World) (Q : Pair → Type 0) : Type 0 where
   pub up : (d k : ℕ) (m : Message) → Member m (w .up d k) → Good Q m
@@ -57,18 +33,10 @@ pub record Genuine (S : Settings) (w : World) (Q : Pair → Type 0) : Type 0 whe
   pub sets : (d k : ℕ) → isHonest S k ≡ true → (p : Pair) → Member p (w .clients d .sets k) → Q p
 
 module _ (Q : Pair → Type 0) where
-  stored-good : (p q : Pair) → Q p → Q q → Q (stored p q)
-  unfolding stored
-  stored-good p q a b = by-test (ltb (stamp p) (stamp q)) (λ e. rw e b) (λ e. rw e a)
-
-  after-good : (s : Server) (d : ℕ) (m : Message) → Q (s .pair) → Good Q m → Q (serverAfter s d m .pair)
-  unfolding serverAfter
-  after-good s d (GetInfo t) a b = a
-  after-good s d (Info t p) a b = a
-  after-good s d Done a b = a
-  after-good s d (WriteInfo p) a b = stored-good (s .pair) p a b
-  after-good s d (Fwd p) a b = a
-  after-good s d (WriteAck c) a b = a
+  after-good : (s : Server) (d : ℕ) (m : Message) → Q (s .pair) → Good Q m → Q (nextServer s d m .pair)
+  after-good s d m a b =
+      by-either (pair-after s d m) (λ q. rw q a)
+      (λ q. let good : Good Q (WriteInfo (q .0)) = subst (Good Q) (q .1) b in rw (q .2) good)
 
   reply-good : (s : Server) (c : ℕ) (m : Message) (d : ℕ) (x : Message) → Q (s .pair) → Good Q m
       → Reply s c m d x → Good Q x
@@ -81,7 +49,7 @@ module _ (S : Settings) (F : Formats) (w : World) (e : Event) (en : Enabled S F 
     (new : (d : ℕ) (m : Message) → Puts S F w e d m → Good Q′ m) where
   server-good : (k : ℕ) (y : Server) → ServerNext S F w e k y → Q′ (y .pair)
   server-good k y kept = more _ (G .server k)
-  server-good k y (heard d m ms _ on) =
+  server-good k y (served d m ms _ on) =
       more _ (after-good Q (w .servers k) d m (G .server k) (G .up d k m (rw (on .channel) (inl refl))))
 
   sets-good : (d k : ℕ) → isHonest S k ≡ true → (y : Client) → ClientNext S F w e d y → (p : Pair)
@@ -90,10 +58,11 @@ module _ (S : Settings) (F : Formats) (w : World) (e : Event) (en : Enabled S F 
   unfolding started
   sets-good d k g y (same _ _) p h = more p (G .sets d k g p h)
   sets-good d k g y (starts ph _ _) p h = absurd h
-  sets-good d k g y (took j m ms o _ on _ v) p h =
-      more p (by-either (outcome-pair S d (w .clients d) j m o v k p h) (λ a. G .sets d k g p a)
-      (λ a. let good : Good Q m = G .down d k g m (rw (← (a .server), on .channel) (inl refl)) in
-      by-either (a .message) (λ q. rw q at good) (λ q. rw (q .1) at good)))
+  sets-good d k g y (responds t o _ v) p h =
+      let on = t .enabled in
+      more p (by-either (came v .pair k p h) (λ a. G .sets d k g p a)
+      (λ a. carried Q (t .message) p (a .message)
+      (G .down d k g (t .message) (rw (← (a .server), on .channel) (inl refl)))))
 
   genuine-next : Genuine S (apply S w e) Q′
   genuine-next =
@@ -131,13 +100,14 @@ module _ (r : Run) where
 
   known-new : (n d : ℕ) (m : Message) → Puts (r .S) (r .F) (world r n) (event r n) d m
       → Good (Known (suc n)) m
-  known-new n d m h = go m h (put-case (r .S) (r .F) (world r n) (event r n) d m h)
-    where
-      go : (m : Message) → Puts (r .S) (r .F) (world r n) (event r n) d m
-          → PutCase (r .S) (r .F) (world r n) (event r n) d m → Good (Known (suc n)) m
-      go m h (asks _) = tt
-      go m h finishes = tt
-      go m h (writes p _) = inr (record { at = n; before = omega arith; client = d; puts = h })
+  known-new n d (GetInfo t) h = tt
+  known-new n d (Info t p) h =
+      absurd (put-case (r .S) (r .F) (world r n) (event r n) (enabled-at r n) d (Info t p) h)
+  known-new n d Done h = tt
+  known-new n d (WriteInfo p) h = inr (record { at = n; before = omega arith; client = d; puts = h })
+  known-new n d (Fwd p) h =
+      absurd (put-case (r .S) (r .F) (world r n) (event r n) (enabled-at r n) d (Fwd p) h)
+  known-new n d (WriteAck c) h = tt
 
   pub genuine : (n : ℕ) → Genuine (r .S) (world r n) (Known n)
   unfolding worldAt
@@ -149,6 +119,5 @@ module _ (r : Run) where
         sets = λ d k g p h. absurd h;
       }
   genuine (suc n) =
-      genuine-next (r .S) (r .F) (world r n) (event r n) (enabled-at r n) (Known n) (Known (suc n)) (genuine
-      n)
-      (known-more n) (known-new n)
+      genuine-next (r .S) (r .F) (world r n) (event r n) (enabled-at r n) (Known n) (Known (suc n))
+      (genuine n) (known-more n) (known-new n)

@@ -1,10 +1,9 @@
 -- The ladders of refusals stand in the table's order.
 --
--- So the first rung that applies is the lowest number that applies (01: 'The lowest number that applies is returned'):
--- by looking at each list, whatever its tests.
+-- So the first rung that applies is the lowest number that applies (01: 'The lowest number that applies is
+-- returned'): by looking at each list, whatever its tests.
 -- Assumes nothing.
-use mathlib.Core.Path.{_≡_, refl}
-use mathlib.Core.Bool.{true}
+use Rattle.basics.proofs.Prelude.{_≡_, refl, true}
 use Rattle.refusal.specs.Ladder.{rising}
 use Rattle.register.specs.Settings.{Settings, setupLadder}
 use Rattle.register.specs.World.{World}

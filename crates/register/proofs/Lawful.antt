@@ -1,13 +1,8 @@
--- What the proofs ask of the formats: a licence entry has 40 bits, and an unpacked message has its fields in their
--- widths.
+-- What the proofs ask of the formats: a licence entry has 40 bits, and an unpacked message has its fields
+-- in their widths.
 -- Assumes nothing.
-use mathlib.Core.Path.{_≡_}
-use mathlib.Core.Bool.{true}
-use mathlib.Core.List.{List}
-use Prim.Native.Nat.{ℕ, _^_, _<_}
-use Rattle.message.specs.declared.Entry.{Entry}
-use Rattle.message.specs.declared.Message.{Message}
-use Rattle.message.specs.declared.Message.the-variants.{GetInfo, Info, Done, WriteInfo, Fwd, WriteAck}
+use Rattle.basics.proofs.Prelude.{_≡_, true, List, ℕ, _^_, _<_}
+use Rattle.register.proofs.Vocabulary.{Entry, Message, GetInfo, Info, Done, WriteInfo, Fwd, WriteAck}
 use Rattle.message.specs.declared.Unpacked.the-variants.{Good}
 use Rattle.register.specs.Steps.{Formats}
 

@@ -3,6 +3,7 @@
 --
 -- What the proof stands on: counting servers, accepted settings, what an accepted event was checked for, a
 -- run.
+pub mod Vocabulary
 pub mod Counted
 pub mod Ladders
 pub mod Bounds
@@ -13,13 +14,14 @@ pub mod Run
 pub mod PairSets
 pub mod Choice
 -- One event: what is sent, what a client makes of a message, what changes and what stays.
+pub mod Dropping
 pub mod Sends
 pub mod Outcomes
 pub mod Frames
+pub mod Carried
 pub mod ClientFacts
 pub mod Turns
 pub mod PutCases
-pub mod Dropping
 -- Every reachable world is well formed, and no D is refused for want of room.
 pub mod WellServer
 pub mod WellClient
@@ -60,7 +62,7 @@ pub mod WaitingRun
 pub mod Awaiting
 pub mod Still
 pub mod Quiet
--- The theorem, what else it gives, uses of its statement, and runs that it speaks of.
+-- The theorem, what else it gives, uses of its statement, and runs that it is about.
 pub mod Formats
 pub mod Theorem
 pub mod WellAnswered

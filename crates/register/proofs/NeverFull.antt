@@ -1,58 +1,40 @@
 -- A step D of a run is never refused 12, 'full tray'.
 --
--- Why: a start is accepted only where every channel to an honest server has room for all that the operation will put
--- there (`slotsFor`: a read's GET_INFO and DONE, a write's WRITE_INFO too); only the client itself puts messages on its
--- channels, and at each choice it puts no more than it has kept. So on every such channel the messages fit, and with
--- them the slots that are kept.
+-- Why: a start is accepted only where every channel to an honest server has room for all that the operation
+-- will put there (`slotsFor`: a read's GET_INFO and DONE, a write's WRITE_INFO too); only the client itself
+-- puts messages on its channels, and at each choice it puts no more than it has kept. So on every such
+-- channel the messages fit, and with them the slots that are kept.
 -- In order: what an outcome puts and keeps; what an event does; along a list of steps; the step D.
 -- Assumes nothing.
-use mathlib.Core.Path.{_≡_, refl, ap}
-use mathlib.Core.Bool.{true, cond, _&&_}
-use mathlib.Core.List.{List, _∷_, append-nil}
-use mathlib.Core.Option.{some}
-use Prim.Native.Nat.{ℕ, zero, suc, _+_, _≤_}
-use native.Mathlib.Nat.{le-refl}
-use native.Mathlib.Omega.{arith}
-use lib.Dec.{eqb, leb}
-use lib.ListN.{length, length-append}
-use borrow.Author.Tests.{eqb-true, le-leb}
+use Rattle.basics.proofs.Prelude.{_≡_, refl, ap, true, cond, _&&_, List, _∷_, append-nil, some, length}
+use Rattle.basics.proofs.Prelude.{length-append, ℕ, zero, suc, _+_, _≤_, arith, eqb, leb, eqb-true, le-leb}
 use Rattle.basics.specs.Update.{update}
-use Rattle.basics.proofs.Cases.{by-test, both, clash}
+use Rattle.basics.proofs.Cases.{by-test, clash}
 use Rattle.basics.proofs.Tests.{below-of}
 use Rattle.refusal.specs.Numbers.{numbered}
-use Rattle.message.specs.declared.Message.{Message}
-use Rattle.register.specs.declared.Phase.{Phase}
-use Rattle.register.specs.declared.Phase.the-variants.{Idle, Reading, ReadingForWrite, Storing}
+use Rattle.register.proofs.Vocabulary.{Message, Phase}
 use Rattle.register.specs.Settings.{Settings, servers, isServer, isClient, isHonest}
-use Rattle.register.specs.Client.{Client, started, withAck, Taken}
-use Rattle.register.specs.World.{World, Event, refuses, begins, serves, takes, stops, lies, takenBy}
+use Rattle.register.specs.Client.{Client, started, withAck, Response}
+use Rattle.register.specs.World.{World, Event, refuses, begins, serves, takes, stops, lies, responseOf}
 use Rattle.register.specs.World.{putsUp, leavesUp, nextUp, nextClients, apply}
 use Rattle.register.specs.Steps.{Step, D, Formats, slots, isEmpty, oldest, hasRoom, roomUp, ladder}
-use Rattle.register.specs.Steps.{refusalOf}
-use Rattle.register.specs.Steps.{eventOf}
+use Rattle.register.specs.Steps.{refusalOf, eventOf}
 use Rattle.register.specs.History.{stepAt, worldAt}
 use Rattle.register.proofs.Bounds.{honest-server, honest-not-faulty}
-use Rattle.register.proofs.Enabled.{Enabled, slotsFor, enabled}
+use Rattle.register.proofs.Enabled.{Enabled, slotsFor, some-slot, enabled}
 use Rattle.register.proofs.Outcomes.{Outcome, dropped, waits, shows, spends, sends, acks, ends}
-use Rattle.register.proofs.Outcomes.{outcome}
-use Rattle.register.proofs.Outcomes.{grown-phase}
+use Rattle.register.proofs.Outcomes.{outcome, grown-phase}
 use Rattle.register.proofs.Rooms.{room-up}
-use Rattle.register.proofs.Dropping.{nothing-put}
+use Rattle.register.proofs.Dropping.{nothing-put, at-channel}
 
 -- ---- an outcome puts no more than was kept
 
-some-slot : (ph : Phase) → 1 ≤ slotsFor ph
-some-slot Idle = le-refl _
-some-slot Reading = omega arith
-some-slot (ReadingForWrite e) = omega arith
-some-slot (Storing e c) = le-refl _
-
-outcome-slots : (S : Settings) (d : ℕ) (x : Client) (k : ℕ) (m : Message) (o : Taken) → Outcome S d x k m o
+outcome-slots : (S : Settings) (d : ℕ) (x : Client) (k : ℕ) (m : Message) (o : Response) → Outcome S d x k m o
     → length (o .sends) + slotsFor (o .client .phase) ≤ slotsFor (x .phase)
 unfolding withAck
 outcome-slots S d x k m o (dropped _) = omega arith
 outcome-slots S d x k m o (waits y g _ _) =
-    let same : slotsFor (y .phase) ≡ slotsFor (x .phase) = ap slotsFor (grown-phase S d x k m y g) in omega arith
+    let same : slotsFor (y .phase) ≡ slotsFor (x .phase) = ap slotsFor (grown-phase g) in omega arith
 outcome-slots S d x k m o (shows y p g ph _) = rw ph (omega arith)
 outcome-slots S d x k m o (spends y p e g ph _ _) = rw ph (omega arith)
 outcome-slots S d x k m o (sends y p e g ph _ _) = rw ph (omega arith)
@@ -75,19 +57,18 @@ module _ (S : Settings) (F : Formats) (w : World)
       rw (honest-not-faulty S k honest, honest-server S k honest)
       (by-test (eqb c d)
       (λ e. let same = eqb-true c d e in
-      let room : length (w .up d k) + slotsFor ph ≤ slots = rw same at (room-up S F w c (slotsFor ph) (en .room)
-      k honest) in
+      let room : length (w .up d k) + slotsFor ph ≤ slots =
+      rw same at (room-up S F w c (slotsFor ph) (en .room) k honest) in
       rw (e, length-append) (omega arith))
       (λ e. rw (e, append-nil (w .up d k)) (kept d k honest)))
   kept-next (serves j c m ms) en d k honest =
       rw (nothing-put (S .faulty k) (cond (eqb j k && eqb c d) ms (w .up d k)))
-      (by-test (eqb j k && eqb c d)
-      (λ e. let at = both (eqb j k) (eqb c d) e in
-      let channel : w .up d k ≡ m ∷ ms = rw (eqb-true j k (at .0), eqb-true c d (at .1)) at (en .channel) in
+      (at-channel (λ l. Kept slots l (w .clients d .phase)) j c k d ms (w .up d k)
+      (λ server client. let channel : w .up d k ≡ m ∷ ms = rw (server, client) at (en .channel) in
       let long : length (w .up d k) ≡ length (m ∷ ms) = ap length channel in
       let old = kept d k honest in
-      rw e (omega arith))
-      (λ e. rw e (kept d k honest)))
+      omega arith)
+      (kept d k honest))
   kept-next (takes c j m ms) en d k honest =
       rw (honest-not-faulty S k honest, honest-server S k honest)
       (by-test (eqb c d)
@@ -99,18 +80,19 @@ module _ (S : Settings) (F : Formats) (w : World)
   kept-next (lies j c m) en d k honest = rw (nothing-put (S .faulty k) (w .up d k)) (kept d k honest)
 
   -- so there is room for what a client puts on its channels
-  room-kept : (d k : ℕ) (m : Message) → roomUp S F w d (length (takenBy S w d k m .sends)) ≡ true
+  room-kept : (d k : ℕ) (m : Message) → roomUp S F w d (length (responseOf S w d k m .sends)) ≡ true
   unfolding roomUp hasRoom
-  room-kept d k m = below-of _ (servers S) (λ i less. by-test (isHonest S (suc i)) (λ e. rw e (fits i e))
-      (λ e. rw e refl))
+  room-kept d k m =
+      below-of _ (servers S)
+      (λ i less. by-test (isHonest S (suc i)) (λ e. rw e (fits i e)) (λ e. rw e refl))
     where
       fits : (i : ℕ) → isHonest S (suc i) ≡ true
-          → leb (length (w .up d (suc i)) + length (takenBy S w d k m .sends)) slots ≡ true
+          → leb (length (w .up d (suc i)) + length (responseOf S w d k m .sends)) slots ≡ true
       fits i honest =
           let fewer = outcome-slots S d (w .clients d) k m _ (outcome S d (w .clients d) k m) in
           let old = kept d (suc i) honest in
-          let one = some-slot (takenBy S w d k m .client .phase) in
-          let room : length (w .up d (suc i)) + length (takenBy S w d k m .sends) ≤ slots = omega arith in
+          let one = some-slot (responseOf S w d k m .client .phase) in
+          let room : length (w .up d (suc i)) + length (responseOf S w d k m .sends) ≤ slots = omega arith in
           le-leb _ _ room
 
   not-full : (d k : ℕ) → refusalOf S F w (D d k) ≡ some (numbered 12) → ⊥
@@ -125,8 +107,8 @@ module _ (S : Settings) (F : Formats) (w : World)
 -- ---- along a list of steps
 
 module _ (S : Settings) (F : Formats) (steps : List Step) where
-  kept-at : (i d k : ℕ) → isHonest S k ≡ true → Kept slots (worldAt S F steps i .up d k) (worldAt S F steps i
-      .clients d .phase)
+  kept-at : (i d k : ℕ) → isHonest S k ≡ true
+      → Kept slots (worldAt S F steps i .up d k) (worldAt S F steps i .clients d .phase)
   unfolding worldAt apply
   kept-at zero d k honest = omega arith
   kept-at (suc i) d k honest =

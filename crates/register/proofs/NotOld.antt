@@ -8,21 +8,11 @@
 -- noted of it is at least what it held when the client began (`Fresh`). A choice is genuine: it is in f + 1
 -- sets, so in that of an honest server (`chosen-known`).
 -- Assumes nothing.
-use mathlib.Core.Path.{_≡_, refl, sym}
-use mathlib.Core.Bool.{Bool, true, false, _&&_}
-use mathlib.Core.Logic.{inl}
-use mathlib.Core.Option.{Option, none, some}
-use Prim.Native.Nat.{ℕ, _+_, _-_, _*_, _≤_}
-use native.Mathlib.Nat.{le-trans}
-use native.Mathlib.Omega.{arith}
-use lib.Dec.{leb}
-use borrow.Author.Tests.{leb-true, le-leb}
+use Rattle.basics.proofs.Prelude.{_≡_, refl, sym, Bool, true, false, _&&_, inl, Option, none, some, ℕ, _+_}
+use Rattle.basics.proofs.Prelude.{_-_, _*_, _≤_, le-trans, arith, leb, leb-true, le-leb}
 use Rattle.basics.proofs.Cases.{by-either, both, both-of, true-or-false}
 use Rattle.basics.proofs.Update.{update-at}
-use Rattle.message.specs.declared.Entry.{Entry}
-use Rattle.message.specs.declared.Pair.{Pair}
-use Rattle.message.specs.declared.WriteCounter.{WriteCounter}
-use Rattle.message.specs.Pair.{stamp}
+use Rattle.register.proofs.Vocabulary.{Entry, Pair, WriteCounter, stamp}
 use Rattle.register.specs.Thresholds.{counted}
 use Rattle.register.specs.Settings.{Settings, servers, isHonest}
 use Rattle.register.specs.PairSet.{has}
@@ -34,11 +24,12 @@ use Rattle.register.proofs.Run.{Run, world, bounded}
 use Rattle.register.proofs.PairSets.{has-member}
 use Rattle.register.proofs.Choice.{chosen-some}
 use Rattle.register.proofs.Grows.{grows-on}
-use Rattle.register.proofs.ClientFacts.{grown-note, grown-pair}
+use Rattle.register.proofs.Carried.{carried}
+use Rattle.register.proofs.ClientFacts.{grown-came}
 use Rattle.register.proofs.Since.{since}
 use Rattle.register.proofs.ReadStatus.{DecidesAt}
 use Rattle.register.proofs.WriteStatus.{Stores}
-use Rattle.register.proofs.Genuine.{Good, Known, genuine}
+use Rattle.register.proofs.Genuine.{Known, genuine}
 use Rattle.register.proofs.Fresh.{base, fresh}
 use Rattle.register.proofs.Acknowledged.{acknowledged}
 
@@ -64,6 +55,15 @@ module _ (r : Run) where
       both-of (isHonest (r .S) k) _ (c .0)
       (le-leb v _ (le-trans (leb-true v (stamp (world r i .servers k .pair)) (c .1)) (grows-on r i j h k)))))
 
+  -- what is noted where a client decides is at least what the server held when the client began
+  noted-fresh : (n d : ℕ) (p : Pair) (dec : DecidesAt r n d p) (k u : ℕ) → isHonest (r .S) k ≡ true
+      → dec .grown .noted k ≡ some u → base r n d k ≤ u
+  noted-fresh n d p dec k u honest e =
+      by-either (grown-came (dec .grows) .note k u e) (λ a. fresh r n .noted d k honest u a)
+      (λ a. rw (a .is)
+      (fresh r n .info d k honest (world r n .clients d .reads) (a .pair)
+      (rw (← (a .server), dec .by .enabled .channel) (inl (sym (a .message)))) refl))
+
   pub not-old : (n d : ℕ) (p : Pair) (v : ℕ) → DecidesAt r n d p → Stored (r .S) (world r (since r n d)) v
       → v ≤ stamp p
   not-old n d p v dec st =
@@ -74,17 +74,8 @@ module _ (r : Run) where
       (servers (r .S)) (omega (arith, leb-true)) in
       let h = both (isHonest (r .S) (k .server)) _ (k .left) in
       let u = at-most (stamp p) (dec .grown .noted (k .server)) (k .right) in
-      let f = fresh r n in
-      let heard : base r n d (k .server) ≤ u .0 =
-      by-either
-      (grown-note (r .S) d (world r n .clients d) (dec .by .server) (dec .by .message) (dec .grown) (dec
-      .grows)
-      (k .server) (u .0) (u .1))
-      (λ a. f .noted d (k .server) (h .0) (u .0) a)
-      (λ a. rw (a .is)
-      (f .info d (k .server) (h .0) (world r n .clients d .reads) (a .pair)
-      (rw (← (a .server), dec .by .enabled .channel) (inl (sym (a .message)))) refl)) in
-      le-trans (leb-true v _ (h .1)) (le-trans heard (u .2))
+      le-trans (leb-true v _ (h .1))
+      (le-trans (noted-fresh n d p dec (k .server) (u .0) (h .0) (u .1)) (u .2))
 
   -- a write that ends is stored
   pub stored-end : (d : ℕ) (entry : Entry) (c : WriteCounter) (n : ℕ) → Stores r d entry c n
@@ -120,12 +111,8 @@ module _ (r : Run) where
       (omega (arith, leb-true)) in
       let b = both (has p (dec .grown .sets (k .server))) (isHonest (r .S) (k .server)) (k .left) in
       let G = genuine r n in
-      by-either
-      (grown-pair (r .S) d (world r n .clients d) (dec .by .server) (dec .by .message) (dec .grown) (dec
-      .grows)
-      (k .server) p (has-member p _ (b .0)))
+      by-either (grown-came (dec .grows) .pair (k .server) p (has-member p _ (b .0)))
       (λ a. G .sets d (k .server) (b .1) p a)
-      (λ a. let good : Good (Known r n) (dec .by .message) =
-      G .down d (k .server) (b .1) (dec .by .message) (rw (← (a .server), dec .by .enabled .channel) (inl
-      refl)) in
-      by-either (a .message) (λ q. rw q at good) (λ q. rw (q .1) at good))
+      (λ a. carried (Known r n) (dec .by .message) p (a .message)
+      (G .down d (k .server) (b .1) (dec .by .message)
+      (rw (← (a .server), dec .by .enabled .channel) (inl refl))))

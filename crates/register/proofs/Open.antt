@@ -4,28 +4,21 @@
 -- again as soon as it answers READ, WROTE or SPENT. So from the start on it has answered none of them
 -- (`is-open`).
 -- Assumes nothing.
-use mathlib.Core.Path.{_≡_, refl, sym, ap, _∙_, subst}
-use mathlib.Core.Logic.{_⊎_, inl, inr}
-use mathlib.Core.Bool.{true, false}
-use mathlib.Core.List.{List}
-use Prim.Native.Nat.{ℕ, zero, suc, _<_}
-use native.Mathlib.Omega.{arith}
+use Rattle.basics.proofs.Prelude.{_≡_, refl, sym, ap, _∙_, subst, true, false, _⊎_, inl, inr, ℕ, zero, suc}
+use Rattle.basics.proofs.Prelude.{_<_, arith}
 use Rattle.basics.proofs.Cases.{by-either, true-or-false, clash}
-use Rattle.message.specs.declared.Entry.{Entry}
-use Rattle.message.specs.declared.Message.{Message}
-use Rattle.message.specs.declared.Pair.{Pair}
-use Rattle.message.specs.declared.WriteCounter.{WriteCounter}
-use Rattle.register.specs.declared.Answer.the-variants.{Went, Read, Wrote, Spent}
-use Rattle.register.specs.declared.Phase.{Phase}
-use Rattle.register.specs.declared.Phase.the-variants.{Idle, Reading, ReadingForWrite, Storing}
+use Rattle.basics.proofs.Ranges.{one-more}
+use Rattle.register.proofs.Vocabulary.{Entry, Pair, WriteCounter, pairOf, Answer, Went, Read, Wrote}
+use Rattle.register.proofs.Vocabulary.{Spent, Phase, Idle, Reading, ReadingForWrite, Storing}
+use Rattle.register.specs.declared.Answer.the-variants.{Refused}
 use Rattle.register.specs.Client.{isIdle}
-use Rattle.register.specs.World.{begins, takes}
+use Rattle.register.specs.World.{begins}
 use Rattle.register.specs.History.{worldAt}
 use Rattle.register.proofs.Run.{Run, world, event, answer}
-use Rattle.register.proofs.Turns.{Turn, rested, opened, showed, spent, sent, ended}
-use Rattle.register.proofs.Since.{turn-at}
+use Rattle.register.proofs.Turns.{rested, opened, showed, spent, sent, ended}
+use Rattle.register.proofs.Since.{TurnAt, turn-at}
 use Rattle.register.proofs.ReadStatus.{TakesAt, ReadsAt, WritesAt}
-use Rattle.register.proofs.WriteStatus.{one-more, quiet-step}
+use Rattle.register.proofs.WriteStatus.{quiet-step}
 use Rattle.register.proofs.Enabled.{Starts}
 use Rattle.register.specs.Steps.{Formats}
 
@@ -55,7 +48,7 @@ module _ (r : Run) where
     pub silent : (i : ℕ) → at < i → i < n → EndsAt i d → ⊥
 
   -- a step that answers WENT where client d takes a message ends nothing of d
-  ends-nothing : (n d : ℕ) → ((h : TakesAt r n d) → answer r n ≡ Went) → EndsAt n d → ⊥
+  ends-nothing : (n d : ℕ) → (TakesAt r n d → answer r n ≡ Went) → EndsAt n d → ⊥
   ends-nothing n d went (inl h) = let s = went (h .1 .takes) in let s′ = h .1 .answer in clash (cc)
   ends-nothing n d went (inr h) = quiet-step r n d went h
 
@@ -65,17 +58,17 @@ module _ (r : Run) where
         at = o .at;
         before = let x = o .before in omega arith;
         begins = o .begins;
-        silent = one-more r (λ (j : ℕ). EndsAt j d → ⊥) (o .at) n quiet (o .silent);
+        silent = one-more (λ (j : ℕ). EndsAt j d → ⊥) (o .at) n quiet (o .silent);
       }
 
   open-next : (n d : ℕ) (ph : Phase)
       → (isIdle (world r n .clients d .phase) ≡ false → Open n d (origin (world r n .clients d .phase)))
       → world r (suc n) .clients d .phase ≡ ph → isIdle ph ≡ false
-      → Turn (r .S) (r .F) (world r n) (event r n) d (world r (suc n) .clients d) → Open (suc n) d (origin ph)
+      → TurnAt r n d → Open (suc n) d (origin ph)
   unfolding isIdle
   open-next n d ph ih now busy (rested same _ went _) =
       let q : world r n .clients d .phase ≡ ph = sym same ∙ now in
-      still-open n d (origin ph) (ends-nothing n d (λ t. went _ _ _ (t .event)))
+      still-open n d (origin ph) (ends-nothing n d went)
       (subst (λ (x : Phase). Open n d (origin x)) q (ih (ap isIdle q ∙ busy)))
   open-next n d ph ih now busy (opened ph′ q en is) =
       let same : ph′ ≡ ph = sym is ∙ now in
@@ -118,30 +111,35 @@ module _ (r : Run) where
 
   -- ---- what a client answers it has open
 
-  pub shows-open : (j d : ℕ) (p : Pair) → ReadsAt r j d p → world r j .clients d .phase ≡ Reading
-  shows-open j d p h = go (h .takes .event) (h .answer) (turn-at r j d)
+  -- the phase in which client d gives an answer at step j; SPENT leaves it idle, and WROTE shows what it
+  -- stores
+  abbrev pub Answering : ℕ → ℕ → Answer → Type 0
+  Answering j d Went = Unit {0}
+  Answering j d (Read p) = world r j .clients d .phase ≡ Reading
+  Answering j d (Wrote p) =
+      (e : Entry) × (c : WriteCounter) × (world r j .clients d .phase ≡ Storing e c) × (p ≡ pairOf c d e)
+  Answering j d Spent =
+      (e : Entry) × (world r j .clients d .phase ≡ ReadingForWrite e)
+      × (world r (suc j) .clients d .phase ≡ Idle)
+  Answering j d (Refused x) = Unit {0}
+
+  pub answering : (j d : ℕ) (a : Answer) → TakesAt r j d → answer r j ≡ a → Answering j d a
+  answering j d a t is = subst (Answering j d) is (go (turn-at r j d))
     where
-      go : {k : ℕ} {m : Message} {ms : List Message} → event r j ≡ takes d k m ms → answer r j ≡ Read p
-          → Turn (r .S) (r .F) (world r j) (event r j) d (world r (suc j) .clients d)
-          → world r j .clients d .phase ≡ Reading
-      go e a (rested _ _ went _) = let s = went _ _ _ e in clash (cc)
-      go e a (opened ph q _ _) = clash (cc)
-      go e a (showed q _ was _ _) = was
-      go e a (spent q _ _ _ _ an) = clash (cc)
-      go e a (sent q _ _ _ _ an _) = clash (cc)
-      go e a (ended _ _ _ _ _ _ _ an) = clash (cc)
+      go : TurnAt r j d → Answering j d (answer r j)
+      go (rested _ _ went _) = rw (went t) tt
+      go (opened ph q _ _) = let e = t .event in clash (cc)
+      go (showed p _ was _ an) = rw an was
+      go (spent p e _ was now an) = rw an (e, was, now)
+      go (sent p e _ was _ an _) = rw an tt
+      go (ended e c _ _ was _ _ an) = rw an (e, c, was, refl)
+
+  pub shows-open : (j d : ℕ) (p : Pair) → ReadsAt r j d p → world r j .clients d .phase ≡ Reading
+  shows-open j d p h = answering j d (Read p) (h .takes) (h .answer)
 
   pub ends-open : (j d : ℕ) → WritesAt r j d → (e : Entry) × Open j d (ReadingForWrite e)
-  ends-open j d h = go (h .takes .event) (h .answer) (turn-at r j d)
-    where
-      go : {k : ℕ} {m : Message} {ms : List Message} → event r j ≡ takes d k m ms
-          → ((p : Pair) × (answer r j ≡ Wrote p)) ⊎ (answer r j ≡ Spent)
-          → Turn (r .S) (r .F) (world r j) (event r j) d (world r (suc j) .clients d)
-          → (e : Entry) × Open j d (ReadingForWrite e)
-      go e a (rested _ _ went _) =
-          let s = went _ _ _ e in by-either a (λ x. let x′ = x .1 in clash (cc)) (λ x. clash (cc))
-      go e a (opened ph q _ _) = clash (cc)
-      go e a (showed q _ was _ an) = by-either a (λ x. let x′ = x .1 in clash (cc)) (λ x. clash (cc))
-      go e a (spent q entry _ was _ an) = (entry, open-write j d entry was)
-      go e a (sent q _ _ _ _ an _) = by-either a (λ x. let x′ = x .1 in clash (cc)) (λ x. clash (cc))
-      go e a (ended entry c _ _ was _ _ an) = (entry, open-storing j d entry c was)
+  ends-open j d h =
+      by-either (h .answer)
+      (λ a. let q = answering j d (Wrote (a .0)) (h .takes) (a .1) in
+      (q .0, open-storing j d (q .0) (q .1) (q .2)))
+      (λ a. let q = answering j d Spent (h .takes) a in (q .0, open-write j d (q .0) (q .1)))

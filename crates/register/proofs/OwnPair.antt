@@ -6,44 +6,27 @@
 -- sends, and WROTE answers what it then stores. A message on a channel was put there, by the write that was
 -- open (`Unique`).
 -- Assumes nothing.
-use mathlib.Core.Path.{_≡_, ap, _∙_, subst}
-use mathlib.Core.List.{List}
-use Prim.Native.Nat.{ℕ, zero, suc, _^_, _<_}
-use native.Mathlib.Omega.{arith}
-use lib.Dec.{ltb}
-use lib.ListN.{length}
-use borrow.Author.Tests.{ltb-true, ltb-false}
+use Rattle.basics.proofs.Prelude.{_≡_, ap, _∙_, subst, length, ℕ, zero, suc, _^_, _<_, arith, ltb, ltb-true}
+use Rattle.basics.proofs.Prelude.{ltb-false}
 use Rattle.basics.specs.Members.{Member}
 use Rattle.basics.proofs.Cases.{by-test, by-either, clash}
-use Rattle.message.specs.declared.Entry.{Entry}
-use Rattle.message.specs.declared.Message.{Message}
-use Rattle.message.specs.declared.Message.the-variants.{WriteInfo}
-use Rattle.message.specs.declared.Pair.{Pair}
-use Rattle.message.specs.declared.WriteCounter.{WriteCounter}
-use Rattle.message.specs.Pair.{client, entry, pairOf}
+use Rattle.register.proofs.Vocabulary.{WriteInfo, Pair, client, entry, pairOf, Wrote, Spent}
 use Rattle.message.proofs.Pairs.{entry-of}
-use Rattle.register.specs.declared.Answer.the-variants.{Wrote, Spent}
-use Rattle.register.specs.declared.Phase.the-variants.{ReadingForWrite, Storing}
 use Rattle.register.specs.Client.{entryOf}
-use Rattle.register.specs.World.{takes}
-use Rattle.register.specs.History.{worldAt, lastWorld, WriteEnds, Sends, HasSent}
+use Rattle.register.specs.History.{worldAt, lastWorld, HasSent}
 use Rattle.register.proofs.Run.{Run, world, event, answer, enabled-at}
 use Rattle.register.proofs.Outcomes.{nextCounter}
 use Rattle.register.proofs.Frames.{up-cases}
-use Rattle.register.proofs.Turns.{Turn, rested, opened, showed, spent, sent, ended}
-use Rattle.register.proofs.Since.{turn-at}
-use Rattle.register.proofs.ReadStatus.{TakesAt}
-use Rattle.register.proofs.WriteStatus.{PutsAt, in-phase, write-status}
-use Rattle.register.proofs.PutCases.{sent-pair}
+use Rattle.register.proofs.WriteStatus.{in-phase, write-status}
+use Rattle.register.proofs.Open.{answering}
+use Rattle.register.proofs.PutCases.{PutsAt, sent-pair}
 use Rattle.register.proofs.Entries.{entries, sent-stamp}
 use Rattle.register.proofs.Ordered.{Sending}
 use Rattle.register.proofs.Unique.{sender}
-use Rattle.register.proofs.Translation.{write-begins, writes-in, writes-out, sends-in, sends-out}
+use Rattle.register.proofs.Translation.{WriteEndsIn, SendsIn, write-begins, writes-in, writes-out}
+use Rattle.register.proofs.Translation.{sends-in, sends-out}
 
 module _ (r : Run) where
-  abbrev SendsAt : ℕ → ℕ → ℕ → Pair → Type 0
-  SendsAt b d j p = Sends (r .S) (r .F) (r .steps) b d j p
-
   -- ---- client and entry
 
   own-entry : (b d j : ℕ) (p : Pair) (s : Sending r b d j p) → entry p ≡ s .entry
@@ -52,65 +35,33 @@ module _ (r : Run) where
       let q = sent-stamp r j d p (s .puts) in
       let was = q .send .put .phase in
       let fits : q .send .put .entry .0 < 2 ^ 40 = rw was at (entries r j d) in
-      let is = sent-pair (r .S) (r .F) (world r j) (event r j) d p (q .send) in
+      let is = sent-pair r j d p (q .send) in
       let same : q .send .put .entry ≡ s .entry =
       by-either (write-status r b d (s .entry) (s .begins) j (s .after))
       (λ o. in-phase r b d (s .entry) j o (λ h. cc) (λ c h. clash (cc)))
-      (λ o. absurd (s .unended (o .at) (o .after) (let x = o .before in omega arith) (o .writes))) in
+      (λ o. let before = o .before in
+      absurd (s .unended (o .at) (o .after) (omega arith) (o .how .ends .writes))) in
       ap entry is ∙ entry-of (nextCounter (q .send .put .pair)) d (q .send .put .entry) (q .small) fits ∙ same
 
-  pub own-pair : (b d j : ℕ) (p : Pair) (s : SendsAt b d j p) → (client p ≡ d) × (entry p ≡ s .begins .entry)
+  pub own-pair : (b d j : ℕ) (p : Pair) (s : SendsIn r b d j p)
+      → (client p ≡ d) × (entry p ≡ s .begins .entry)
   own-pair b d j p s =
-      let x = sends-in r b d j p s in
+      let x = sends-in r s in
       let begun = x .begins in
-      let begun′ = write-begins r b d (s .begins) in
+      let begun′ = write-begins r (s .begins) in
       let same : x .entry ≡ s .begins .entry = cc in
       (sent-stamp r j d p (x .puts) .client, own-entry b d j p x ∙ same)
 
   -- ---- WROTE and SPENT
 
-  -- what a client that is answered WROTE p stores
-  record Stores (j d : ℕ) (p : Pair) : Type 0 where
-    entry : Entry
-    counter : WriteCounter
-    phase : world r j .clients d .phase ≡ Storing entry counter
-    is : p ≡ pairOf counter d entry
-
-  stores : (j d : ℕ) (p : Pair) → TakesAt r j d → answer r j ≡ Wrote p → Stores j d p
-  stores j d p t a = go (t .event) (turn-at r j d)
-    where
-      go : {k : ℕ} {m : Message} {ms : List Message} → event r j ≡ takes d k m ms
-          → Turn (r .S) (r .F) (world r j) (event r j) d (world r (suc j) .clients d) → Stores j d p
-      go e (rested _ _ went _) = let s = went _ _ _ e in clash (cc)
-      go e (opened ph q _ _) = clash (cc)
-      go e (showed _ _ _ _ an) = clash (cc)
-      go e (spent _ _ _ _ _ an) = clash (cc)
-      go e (sent _ _ _ _ _ an _) = clash (cc)
-      go e (ended entry c _ _ was _ _ an) = record { entry = entry; counter = c; phase = was; is = cc }
-
-  -- the entry with which a client that is answered SPENT was reading
-  spends : (j d : ℕ) → TakesAt r j d → answer r j ≡ Spent
-      → (e : Entry) × (world r j .clients d .phase ≡ ReadingForWrite e)
-  spends j d t a = go (t .event) (turn-at r j d)
-    where
-      go : {k : ℕ} {m : Message} {ms : List Message} → event r j ≡ takes d k m ms
-          → Turn (r .S) (r .F) (world r j) (event r j) d (world r (suc j) .clients d)
-          → (e : Entry) × (world r j .clients d .phase ≡ ReadingForWrite e)
-      go e (rested _ _ went _) = let s = went _ _ _ e in clash (cc)
-      go e (opened ph q _ _) = clash (cc)
-      go e (showed _ _ _ _ an) = clash (cc)
-      go e (spent _ entry _ was _ an) = (entry, was)
-      go e (sent _ _ _ _ _ an _) = clash (cc)
-      go e (ended _ _ _ _ _ _ _ an) = clash (cc)
-
-  module _ (b d j : ℕ) (x : WriteEnds (r .S) (r .F) (r .steps) b d j) where
-    pub wrote-sent : (p : Pair) → answer r j ≡ Wrote p → (i : ℕ) × (i < j) × SendsAt b d i p
+  module _ (b d j : ℕ) (x : WriteEndsIn r b d j) where
+    pub wrote-sent : (p : Pair) → answer r j ≡ Wrote p → (i : ℕ) × (i < j) × SendsIn r b d i p
     wrote-sent p a =
-        let h = stores j d p (writes-in r j d (x .ends) .takes) a in
-        let was = h .phase in
-        let is = h .is in
+        let h = answering r j d (Wrote p) (writes-in r (x .ends) .takes) a in
+        let was = h .2 in
+        let is = h .3 in
         let inside = x .ends .inList in
-        let begun = write-begins r b d (x .begins) in
+        let begun = write-begins r (x .begins) in
         by-either (write-status r b d (x .begins .entry) begun j (x .later))
         (λ o. by-either (o .state) (λ u. let now = u .phase in clash (cc))
         (λ u. let now = u .phase in
@@ -118,7 +69,7 @@ module _ (r : Run) where
         let same : pairOf (nextCounter (u .pair)) d (x .begins .entry) ≡ p = cc in (
           u .at,
           u .before,
-          sends-out r b d (u .at) p (omega arith) (record {
+          sends-out r (omega arith) (record {
             entry = x .begins .entry;
             begins = begun;
             after = u .after;
@@ -127,25 +78,25 @@ module _ (r : Run) where
           }),
         )))
         (λ o. let before = o .before in
-        absurd (x .next (o .at) (o .after) before (writes-out r (o .at) d (omega arith) (o .writes))))
+        absurd (x .next (o .at) (o .after) before (writes-out r (omega arith) (o .how .ends .writes))))
 
     pub spent-unsent : answer r j ≡ Spent → HasSent (r .S) (r .F) (r .steps) b → ⊥
     spent-unsent a s =
-        let was = spends j d (writes-in r j d (x .ends) .takes) a .1 in
+        let was = answering r j d Spent (writes-in r (x .ends) .takes) a .1 in
         let inside = x .ends .inList in
         let one = s .sends .begins .step in
         let two = x .begins .step in
         let same : s .client ≡ d = cc in
-        let mine : SendsAt b d (s .at) (s .pair) =
-        subst (λ (c : ℕ). SendsAt b c (s .at) (s .pair)) same (s .sends) in
-        let y = sends-in r b d (s .at) (s .pair) mine in
+        let mine : SendsIn r b d (s .at) (s .pair) =
+        subst (λ (c : ℕ). SendsIn r b c (s .at) (s .pair)) same (s .sends) in
+        let y = sends-in r mine in
         by-test (ltb (s .at) j)
-        (λ t. by-either (write-status r b d (x .begins .entry) (write-begins r b d (x .begins)) j (x .later))
+        (λ t. by-either (write-status r b d (x .begins .entry) (write-begins r (x .begins)) j (x .later))
         (λ o. by-either (o .state)
         (λ u. u .none (s .at) (y .after) (ltb-true (s .at) j t) (s .pair) (y .puts))
         (λ u. let now = u .phase in clash (cc)))
         (λ o. let before = o .before in
-        x .next (o .at) (o .after) before (writes-out r (o .at) d (omega arith) (o .writes))))
+        x .next (o .at) (o .after) before (writes-out r (omega arith) (o .how .ends .writes))))
         (λ t. mine .unended j (x .later) (ltb-false (s .at) j t) (x .ends))
 
   -- ---- what is on a channel
@@ -161,8 +112,8 @@ module _ (r : Run) where
 
   pub on-the-way : (d k : ℕ) (p : Pair)
       → Member (WriteInfo p) (lastWorld (r .S) (r .F) (r .steps) .up d k)
-      → (b j : ℕ) × SendsAt b d j p
+      → (b j : ℕ) × SendsIn r b d j p
   on-the-way d k p h =
       let q = put-before (length (r .steps)) d k p h in
       let s = sender r (q .0) d p (q .2) in
-      (s .begin, q .0, sends-out r (s .begin) d (q .0) p (q .1) (s .sending))
+      (s .begin, q .0, sends-out r (q .1) (s .sending))

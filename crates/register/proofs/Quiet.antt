@@ -1,32 +1,21 @@
 -- Quiet: a working client with nothing on its way is idle.
 --
--- Why, for a client that reads: no WRITE_INFO is on its way to an honest server, so every honest server is at or
--- above every pair that was sent (`Delivered`), and so all hold the same pair, the highest (`OnePair`). Nothing is on
--- the client's channels, so each of them has answered, and its pair is in the client's set for it (`WaitingRun`); at
--- least n − f servers are honest. That pair counts: it is in n − f sets and at or above n − f noted timestamps, and n
--- − f is 2f + 1. So the client would have chosen (`Still`). For one that stores: the n − f honest servers have all
--- acknowledged (`Awaiting`), so the write would have ended.
+-- Why, for a client that reads: no WRITE_INFO is on its way to an honest server, so every honest server is
+-- at or above every pair that was sent (`Delivered`), and so all hold the same pair, the highest
+-- (`OnePair`). Nothing is on the client's channels, so each of them has answered, and its pair is in the
+-- client's set for it (`WaitingRun`); at least n − f servers are honest. That pair counts: it is in n − f
+-- sets and at or above n − f noted timestamps, and n − f is 2f + 1. So the client would have chosen
+-- (`Still`). For one that stores: the n − f honest servers have all acknowledged (`Awaiting`), so the write
+-- would have ended.
 -- In order: all honest servers hold one pair; reading; storing; idle.
 -- Assumes nothing.
-use mathlib.Core.Path.{_≡_, refl, sym, _∙_, subst}
-use mathlib.Core.Bool.{Bool, true, false}
-use mathlib.Core.List.{List, [], _∷_, _++_}
-use mathlib.Core.Option.{Option, some}
-use Prim.Native.Nat.{ℕ, _-_, _≤_}
-use native.Mathlib.Nat.{le-trans}
-use native.Mathlib.Omega.{arith}
-use borrow.Author.Tests.{le-leb, leb-false}
+use Rattle.basics.proofs.Prelude.{_≡_, refl, sym, _∙_, subst, Bool, true, false, List, [], _∷_, _++_, Option}
+use Rattle.basics.proofs.Prelude.{some, ℕ, _-_, _≤_, le-trans, arith, leb-false, le-leb}
 use Rattle.basics.specs.Members.{Member}
-use Rattle.basics.proofs.Cases.{by-either, clash}
-use Rattle.message.specs.declared.Entry.{Entry}
-use Rattle.message.specs.declared.Message.{Message}
-use Rattle.message.specs.declared.Message.the-variants.{WriteInfo}
-use Rattle.message.specs.declared.Pair.{Pair}
-use Rattle.message.specs.declared.WriteCounter.{WriteCounter}
-use Rattle.message.specs.Pair.{stamp}
+use Rattle.basics.proofs.Cases.{by-either, true-unless, clash}
+use Rattle.register.proofs.Vocabulary.{Entry, Message, WriteInfo, Pair, WriteCounter, stamp, Phase}
+use Rattle.register.proofs.Vocabulary.{Idle, Reading, ReadingForWrite, Storing}
 use Rattle.message.proofs.Pairs.{initial-stamp}
-use Rattle.register.specs.declared.Phase.{Phase}
-use Rattle.register.specs.declared.Phase.the-variants.{Idle, Reading, ReadingForWrite, Storing}
 use Rattle.register.specs.Thresholds.{counted}
 use Rattle.register.specs.Settings.{servers, isClient, isHonest}
 use Rattle.register.specs.PairSet.{has}
@@ -36,7 +25,7 @@ use Rattle.register.proofs.Bounds.{many-honest}
 use Rattle.register.proofs.Run.{Run, world, bounded}
 use Rattle.register.proofs.PairSets.{member-has}
 use Rattle.register.proofs.Choice.{chosen-none}
-use Rattle.register.proofs.Infos.{infos-nil, number-one}
+use Rattle.register.proofs.Infos.{infos, number-one}
 use Rattle.register.proofs.Low.{low}
 use Rattle.register.proofs.Genuine.{genuine}
 use Rattle.register.proofs.Delivered.{delivered}
@@ -56,10 +45,6 @@ noted-some o u e = rw e refl
 at-most-some : (t : ℕ) (o : Option ℕ) (u : ℕ) → o ≡ some u → u ≤ t → isAtMost t o ≡ true
 unfolding isAtMost
 at-most-some t o u e h = rw e (le-leb u t h)
-
-not-failing : (b : Bool) → (b ≡ false → ⊥) → b ≡ true
-not-failing true h = refl
-not-failing false h = absurd (h refl)
 
 -- client d works before step n, and nothing is on its way
 module _ (r : Run) (n d : ℕ) (client : isClient (r .S) d ≡ true) (works : world r n .stopped d ≡ false)
@@ -88,16 +73,17 @@ module _ (r : Run) (n d : ℕ) (client : isClient (r .S) d ≡ true) (works : wo
   -- ---- reading
 
   -- server k has answered, and its pair is in the set
-  record Heard (k : ℕ) : Type 0 where
+  record Answered (k : ℕ) : Type 0 where
     time : ℕ
     noted : self .noted k ≡ some time
     held : Member (present k) (self .sets k)
 
-  heard : isReading (self .phase) ≡ true → (k : ℕ) → isHonest (r .S) k ≡ true → Heard k
-  heard reading k honest =
+  answered : isReading (self .phase) ≡ true → (k : ℕ) → isHonest (r .S) k ≡ true → Answered k
+  unfolding infos
+  answered reading k honest =
       by-either (waiting r n d k client honest works reading)
-      (λ a. absurd (nil-snoc (a .before) _ (sym (up k honest) ∙ a .channel)))
-      (λ a. let once = rw (down k honest, infos-nil (self .reads)) at (a .once) in
+      (λ a. absurd (nil-snoc (a .get .before) _ (sym (up k honest) ∙ a .get .channel)))
+      (λ a. let once = rw (down k honest) at (a .once) in
       let u = number-one (self .noted k) (omega arith) in
       record {
         time = u .0;
@@ -111,8 +97,8 @@ module _ (r : Run) (n d : ℕ) (client : isClient (r .S) d ≡ true) (works : wo
   many : (test : ℕ → Bool) → ((k : ℕ) → isHonest (r .S) k ≡ true → test k ≡ true)
       → servers (r .S) - r .S .f ≤ counted test (servers (r .S))
   many test h =
-      le-trans (many-honest (r .S) (bounded r)) (counted-mono (isHonest (r .S)) test (servers (r .S))
-      (λ k _ _ e. h k e))
+      le-trans (many-honest (r .S) (bounded r))
+      (counted-mono (isHonest (r .S)) test (servers (r .S)) (λ k _ _ e. h k e))
 
   not-reading-now : isReading (self .phase) ≡ true → ⊥
   not-reading-now reading =
@@ -120,23 +106,24 @@ module _ (r : Run) (n d : ℕ) (client : isClient (r .S) d ≡ true) (works : wo
       let one = counted-found (isHonest (r .S)) (servers (r .S)) (omega arith) in
       let k = one .server in
       let p = present k in
-      let spoken = many (λ j. isNoted (self .noted j)) (λ j h. noted-some _ _ (heard reading j h .noted)) in
+      let spoken =
+      many (λ j. isNoted (self .noted j)) (λ j h. noted-some _ _ (answered reading j h .noted)) in
       let below =
       many (λ j. isAtMost (stamp p) (self .noted j))
-      (λ j h. let a = heard reading j h in
+      (λ j h. let a = answered reading j h in
       at-most-some (stamp p) (self .noted j) (a .time) (a .noted)
       (le-trans (low r n .clients d j h .noted (a .time) (a .noted)) (not-higher j k (one .left)))) in
       let held =
       many (λ j. has p (self .sets j))
       (λ j h. member-has p (self .sets j)
-      (subst (λ (q : Pair). Member q (self .sets j)) (one-pair j k h (one .left)) (heard reading j h .held)))
-      in
+      (subst (λ (q : Pair). Member q (self .sets j)) (one-pair j k h (one .left))
+      (answered reading j h .held))) in
       chosen-none (servers (r .S)) (r .S .f) self d (still r n d .undecided reading)
-      (not-failing _ (λ e. omega (arith, leb-false))) p
-      (record { server = k; low = one .low; high = one .high; member = heard reading k (one .left) .held })
+      (true-unless _ (λ e. omega (arith, leb-false))) p
+      (record { server = k; low = one .low; high = one .high; member = answered reading k (one .left) .held })
       (record {
-        notOld = not-failing _ (λ e. omega (arith, leb-false));
-        valid = not-failing _ (λ e. omega (arith, leb-false));
+        notOld = true-unless _ (λ e. omega (arith, leb-false));
+        valid = true-unless _ (λ e. omega (arith, leb-false));
       })
 
   -- ---- storing
@@ -150,8 +137,8 @@ module _ (r : Run) (n d : ℕ) (client : isClient (r .S) d ≡ true) (works : wo
 
   -- ---- idle
 
-  only-idle : (ph : Phase) → (isReading ph ≡ true → ⊥) → ((v : Entry) (c : WriteCounter) → ph ≡ Storing v c
-      → ⊥) → ph ≡ Idle
+  only-idle : (ph : Phase) → (isReading ph ≡ true → ⊥)
+      → ((v : Entry) (c : WriteCounter) → ph ≡ Storing v c → ⊥) → ph ≡ Idle
   unfolding isReading
   only-idle Idle a b = refl
   only-idle Reading a b = absurd (a refl)

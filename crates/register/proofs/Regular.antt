@@ -5,35 +5,27 @@
 -- is initial or was sent, by exactly one write (`Genuine`, `Unique`). Two rows agree on writes that began
 -- before both reads ended, since both have these by timestamp.
 -- Assumes nothing.
-use mathlib.Core.Path.{_≡_, refl, sym, subst}
-use mathlib.Core.Logic.{_⊎_, inl, inr}
-use mathlib.Core.List.{List, []}
-use Prim.Native.Nat.{ℕ, suc, _<_}
-use native.Mathlib.Omega.{arith}
-use lib.Dec.{ltb}
-use lib.ListN.{length}
-use borrow.Author.Tests.{ltb-true, ltb-false}
-use Rattle.basics.proofs.Cases.{by-test, by-either, clash}
+use Rattle.basics.proofs.Prelude.{_≡_, refl, subst, _⊎_, inl, inr, List, [], length, ℕ, suc, _<_, arith}
+use Rattle.basics.proofs.Cases.{by-either, clash}
+use Rattle.basics.proofs.Ranges.{at-last}
 use Rattle.basics.proofs.Sorting.{once}
-use Rattle.message.specs.declared.Pair.{Pair}
-use Rattle.message.specs.Pair.{stamp}
-use Rattle.register.specs.declared.Answer.the-variants.{Read}
-use Rattle.register.specs.History.{ReadEnds, Ends, HasSent}
+use Rattle.register.proofs.Vocabulary.{Pair, stamp, Read}
+use Rattle.register.specs.History.{Ends, HasSent, PairOf}
 use Rattle.register.specs.DemandThree.{Earlier, Legal, first, behind, Row, Agree}
 use Rattle.register.proofs.Run.{Run, answer}
 use Rattle.register.proofs.Since.{since}
-use Rattle.register.proofs.ReadStatus.{WritesAt, DecidesAt, read-status}
-use Rattle.register.proofs.Genuine.{Known}
+use Rattle.register.proofs.ReadStatus.{DecidesAt, read-status}
+use Rattle.register.proofs.Genuine.{Written, Known}
 use Rattle.register.proofs.NotOld.{chosen-known}
 use Rattle.register.proofs.Ordered.{not-initial}
+use Rattle.register.proofs.WriteStatus.{Ending}
 use Rattle.register.proofs.Unique.{unique, sender}
 use Rattle.register.proofs.SentWrites.{SentBefore}
 use Rattle.register.proofs.Rows.{Showing, key, rowOf, row-rises, from-row, in-row, lower-earlier}
-use Rattle.register.proofs.Rows.{earlier-lower}
-use Rattle.register.proofs.Rows.{write-write, write-read, read-write, stands-first, right-after}
-use Rattle.register.proofs.Rows.{stamp-of-key, key-of-stamp}
-use Rattle.register.proofs.Translation.{read-begins, write-begins, reads-in, reads-out, writes-in}
-use Rattle.register.proofs.Translation.{writes-out, sends-in, sends-out}
+use Rattle.register.proofs.Rows.{earlier-lower, write-write, write-read, read-write, stands-first}
+use Rattle.register.proofs.Rows.{right-after, stamp-of-key, key-of-stamp}
+use Rattle.register.proofs.Translation.{ReadEndsIn, read-begins, write-begins, reads-in, reads-out}
+use Rattle.register.proofs.Translation.{sends-in, sends-out, ends-in}
 use Rattle.register.proofs.OneEnd.{read-ends-once}
 use Rattle.register.proofs.Finished.{Finished, Unfinished, finished}
 
@@ -49,7 +41,7 @@ module _ (r : Run) where
         at = s .at;
         before = s .sends .inList;
         pair = s .pair;
-        sending = sends-in r b (s .client) (s .at) (s .pair) (s .sends);
+        sending = sends-in r (s .sends);
       }
 
   sent-out : (b : ℕ) → SentBefore r N b → HasSent (r .S) (r .F) (r .steps) b
@@ -58,35 +50,49 @@ module _ (r : Run) where
         client = s .client;
         at = s .at;
         pair = s .pair;
-        sends = sends-out r b (s .client) (s .at) (s .pair) (s .before) (s .sending);
+        sends = sends-out r (s .before) (s .sending);
       }
 
   -- a finished read decides, at its end, for what it shows
-  pub showing : (b d j : ℕ) (p : Pair) → ReadEnds (r .S) (r .F) (r .steps) b d j p → Showing r b d j p
+  pub showing : (b d j : ℕ) (p : Pair) → ReadEndsIn r b d j p → Showing r N b d j p
   showing b d j p x =
-      let begins = read-begins r b d (x .begins) in
+      let begins = read-begins r (x .begins) in
       let inList = x .ends .inList in
       let later = x .later in
       by-either (read-status r b d begins (suc j) (omega arith))
-      (λ o. absurd (o .silent j (x .later) (omega arith) p (reads-in r j d p (x .ends))))
-      (λ o. by-test (ltb (o .at) j)
-      (λ q. let lt = ltb-true (o .at) j q in
-      absurd (x .next (o .at) (o .after) lt (o .pair) (reads-out r (o .at) d (o .pair) (omega arith) (o
-      .reads))))
-      (λ q. let y = ltb-false (o .at) j q in
-      let z = o .before in
-      let e : o .at ≡ j = omega arith in
-      let a : answer r j ≡ Read (o .pair) = subst (λ (k : ℕ). answer r k ≡ Read (o .pair)) e (o .reads
-      .answer) in
+      (λ o. absurd (o .silent j (x .later) (omega arith) p (reads-in r (x .ends))))
+      (λ o. at-last (o .at) j (o .before)
+      (λ e. let a : answer r j ≡ Read (o .how .pair) =
+      subst (λ (k : ℕ). answer r k ≡ Read (o .how .pair)) e (o .how .reads .answer) in
       let a′ = x .ends .answer in
-      let same : o .pair ≡ p = cc in
+      let same : o .how .pair ≡ p = cc in
       record {
         begins = begins;
         after = x .later;
-        begun = subst (λ (k : ℕ). since r k d ≡ b) e (o .begun);
+        inList = x .ends .inList;
+        begun = subst (λ (k : ℕ). since r k d ≡ b) e (o .how .begun);
         decides = subst (λ (q : Pair). DecidesAt r j d q) same
-            (subst (λ (k : ℕ). DecidesAt r k d (o .pair)) e (o .decides));
-      }))
+            (subst (λ (k : ℕ). DecidesAt r k d (o .how .pair)) e (o .how .decides));
+      })
+      (λ less. absurd
+      (x .next (o .at) (o .after) less (o .how .pair) (reads-out r (omega arith) (o .how .reads)))))
+
+  -- a pair that was sent before step j is that of exactly one write, which began before j
+  pub pair-of : (j : ℕ) (p : Pair) → j < N → Written r j p
+      → (w : ℕ) × PairOf (r .S) (r .F) (r .steps) p w × (w < j)
+  pair-of j p inside k =
+      let w = sender r (k .at) (k .client) p (k .puts) in
+      let before = k .before in
+      let after = w .sending .after in (
+        w .begin,
+        record {
+          client = k .client;
+          at = k .at;
+          sends = sends-out r (omega arith) (w .sending);
+          only = λ b′ d′ j′ z. unique (sends-in r z) (w .sending) refl;
+        },
+        omega arith,
+      )
 
   -- the row of the read b; of what is no finished read, an empty one
   rowBy : (b : ℕ) → Finished r b ⊎ Unfinished r b → List ℕ
@@ -100,7 +106,7 @@ module _ (r : Run) where
   abbrev sorted : ℕ → ℕ → Pair → List ℕ
   sorted b j p = rowOf r N b j (stamp p)
 
-  by-end : (b d j : ℕ) (p : Pair) → ReadEnds (r .S) (r .F) (r .steps) b d j p
+  by-end : (b d j : ℕ) (p : Pair) → ReadEndsIn r b d j p
       → (u : Finished r b ⊎ Unfinished r b)
       → sorted b j p ≡ rowBy b u
   unfolding rowBy
@@ -110,38 +116,26 @@ module _ (r : Run) where
       rw (once .1, once .2) refl
   by-end b d j p x (inr h) = absurd (h d j p x)
 
-  row-is : (b d j : ℕ) (p : Pair) → ReadEnds (r .S) (r .F) (r .steps) b d j p → sorted b j p ≡ row b
+  row-is : (b d j : ℕ) (p : Pair) → ReadEndsIn r b d j p → sorted b j p ≡ row b
   unfolding row
   row-is b d j p x = by-end b d j p x (finished r b)
 
-  module _ (b d j : ℕ) (p : Pair) (x : ReadEnds (r .S) (r .F) (r .steps) b d j p) where
-    s : Showing r b d j p
+  module _ (b d j : ℕ) (p : Pair) (x : ReadEndsIn r b d j p) where
+    s : Showing r N b d j p
     s = showing b d j p x
-
-    inList : j < N
-    inList = x .ends .inList
 
     -- ---- the end of a member
 
     write-ended : (a i : ℕ) (w : SentBefore r N a) → Ends (r .S) (r .F) (r .steps) a i
-        → (a < i) × WritesAt r i (w .client) × ((i′ : ℕ) → a < i′ → i′ < i → WritesAt r i′ (w .client) → ⊥)
+        → Ending r a (w .client) i
     write-ended a i w (inl e) =
-        let q = read-begins r a (e .0) (e .2 .begins) in let q′ = w .sending .begins in clash (cc)
-    write-ended a i w (inr e) =
-        let q = write-begins r a (e .0) (e .1 .begins) in
-        let q′ = w .sending .begins in
-        let z : e .0 ≡ w .client = cc in
-        let inside = e .1 .ends .inList in (
-          e .1 .later,
-          subst (λ (k : ℕ). WritesAt r i k) z (writes-in r i (e .0) (e .1 .ends)),
-          λ i′ lo hi wr. e .1 .next i′ lo hi
-              (writes-out r i′ (e .0) (omega arith) (subst (λ (k : ℕ). WritesAt r i′ k) (sym z) wr)),
-        )
+        let q = read-begins r (e .2 .begins) in let q′ = w .sending .begins in clash (cc)
+    write-ended a i w (inr e) = ends-in r (w .sending) (e .1)
 
     read-ended : (i : ℕ) → Ends (r .S) (r .F) (r .steps) b i → i ≡ j
     read-ended i (inl e) =
         read-ends-once (r .S) (r .F) (r .steps) b (e .0) i (e .1) d j p (e .2) x .1
-    read-ended i (inr e) = let q = write-begins r b (e .0) (e .1 .begins) in let q′ = s .begins in clash (cc)
+    read-ended i (inr e) = let q = write-begins r (e .1 .begins) in let q′ = s .begins in clash (cc)
 
     -- ---- the order of the row
 
@@ -151,37 +145,27 @@ module _ (r : Run) where
     key-order a c i (inl ea) (inl ec) en lt =
         absurd (let q = read-ended i (rw ea at en) in let l = x .later in omega arith)
     key-order a c i (inl ea) (inr wc) en lt =
-        let q = read-ended i (rw ea at en) in rw ea (read-write r N b d j p s inList c wc (omega arith))
+        let q = read-ended i (rw ea at en) in rw ea (read-write s c wc (omega arith))
     key-order a c i (inr wa) (inl ec) en lt =
-        let e = write-ended a i wa en in
-        rw ec (write-read r N b d j p s inList a i wa (e .0) (e .1) (e .2) (rw ec at lt))
+        rw ec (write-read s a i wa (write-ended a i wa en) (rw ec at lt))
     key-order a c i (inr wa) (inr wc) en lt =
-        let e = write-ended a i wa en in
-        write-write r N b d j p s inList a c i wa wc (e .0) (e .1) (e .2) lt
+        write-write s a c i wa wc (write-ended a i wa en) lt
 
     -- ---- what the read shows
 
     legal : Known r j p → Legal (r .S) (r .F) (r .steps) b j p (rowOf r N b j (stamp p))
-    legal (inl e) = first (record { shown = e; stands = stands-first r N b d j p s inList e })
+    unfolding sent-in
+    legal (inl e) = first (record { shown = e; stands = stands-first s e })
     legal (inr k) =
-        let w = sender r (k .at) (k .client) p (k .puts) in
-        let lt = k .before in
-        let after = w .sending .after in
-        let sent : SentBefore r N (w .begin) =
-        record { client = k .client; at = k .at; before = omega arith; pair = p; sending = w .sending } in
-        let f = right-after r N b d j p s inList (w .begin) sent (omega arith) refl in
+        let w = pair-of j p (s .inList) k in
+        let q = w .1 in
+        let sent = sent-in (w .0) (record { client = q .client; at = q .at; pair = p; sends = q .sends }) in
+        let f = right-after s (w .0) sent (w .2) refl in
         behind (record {
-          shown = not-initial r (w .begin) (k .client) (k .at) p (w .sending);
-          write = w .begin;
-          only = record {
-            client = k .client;
-            at = k .at;
-            sends = sends-out r (w .begin) (k .client) (k .at) p (omega arith) (w .sending);
-            only = λ b′ d′ j′ z. unique r b′ d′ j′ (w .begin) (k .client) (k .at) p p (sends-in r b′ d′ j′ p
-                z)
-                (w .sending) refl;
-          };
-          sooner = omega arith;
+          shown = not-initial (sent .sending);
+          write = w .0;
+          only = q;
+          sooner = w .2;
           place = f .place;
           stands = f .here;
           next = f .next;
@@ -191,14 +175,12 @@ module _ (r : Run) where
     sorted-row =
         record {
           members = λ a. (
-            (λ m. by-either (from-row r N b d j p s inList a m) (λ e. inl e) (λ w. inr (sent-out a w))),
-            (λ h. in-row r N b d j p s inList a (by-either h (λ e. inl e) (λ w. inr (sent-in a w)))),
+            (λ m. by-either (from-row s a m) (λ e. inl e) (λ w. inr (sent-out a w))),
+            (λ h. in-row s a (by-either h (λ e. inl e) (λ w. inr (sent-in a w)))),
           );
-          once = λ a i i′ u v. once (key r N b j (stamp p)) _
-              (row-rises r N b d j p s inList) u v;
-          order = λ a c i ma mc en lt. lower-earlier r N b d j p s inList a c ma mc
-              (key-order a c i (from-row r N b d j p s inList a ma)
-              (from-row r N b d j p s inList c mc) en lt);
+          once = λ a i i′ u v. once (key r N b j (stamp p)) _ (row-rises s) u v;
+          order = λ a c i ma mc en lt. lower-earlier s a c ma mc
+              (key-order a c i (from-row s a ma) (from-row s c mc) en lt);
           legal = legal (chosen-known r j d p (s .decides));
         }
 
@@ -208,28 +190,20 @@ module _ (r : Run) where
   -- ---- agreement
 
   one-way : (b₁ d₁ j₁ : ℕ) (p₁ : Pair) (b₂ d₂ j₂ : ℕ) (p₂ : Pair)
-      → ReadEnds (r .S) (r .F) (r .steps) b₁ d₁ j₁ p₁
-      → ReadEnds (r .S) (r .F) (r .steps) b₂ d₂ j₂ p₂ → (a c : ℕ) → HasSent (r .S) (r .F) (r .steps) a
+      → ReadEndsIn r b₁ d₁ j₁ p₁ → ReadEndsIn r b₂ d₂ j₂ p₂ → (a c : ℕ) → HasSent (r .S) (r .F) (r .steps) a
       → HasSent (r .S) (r .F) (r .steps) c → a < j₁ → a < j₂ → c < j₁ → c < j₂ → Earlier (sorted b₁ j₁ p₁) a c
       → Earlier (sorted b₂ j₂ p₂) a c
   one-way b₁ d₁ j₁ p₁ b₂ d₂ j₂ p₂ x₁ x₂ a c sa sc a₁ a₂ c₁ c₂ e =
       let s₁ = showing b₁ d₁ j₁ p₁ x₁ in
       let s₂ = showing b₂ d₂ j₂ p₂ x₂ in
-      let in₁ = x₁ .ends .inList in
-      let in₂ = x₂ .ends .inList in
       let wa = sent-in a sa in
       let wc = sent-in c sc in
-      let less =
-      stamp-of-key r N b₁ d₁ j₁ p₁ s₁ in₁ a c wa wc a₁ c₁
-      (earlier-lower r N b₁ d₁ j₁ p₁ s₁ in₁ a c e) in
-      lower-earlier r N b₂ d₂ j₂ p₂ s₂ in₂ a c
-      (in-row r N b₂ d₂ j₂ p₂ s₂ in₂ a (inr wa))
-      (in-row r N b₂ d₂ j₂ p₂ s₂ in₂ c (inr wc))
-      (key-of-stamp r N b₂ d₂ j₂ p₂ s₂ in₂ a c wa wc a₂ c₂ less)
+      let less = stamp-of-key s₁ a c wa wc a₁ c₁ (earlier-lower s₁ a c e) in
+      lower-earlier s₂ a c (in-row s₂ a (inr wa)) (in-row s₂ c (inr wc))
+      (key-of-stamp s₂ a c wa wc a₂ c₂ less)
 
   pub agree : (b₁ d₁ j₁ : ℕ) (p₁ : Pair) (b₂ d₂ j₂ : ℕ) (p₂ : Pair)
-      → ReadEnds (r .S) (r .F) (r .steps) b₁ d₁ j₁ p₁
-      → ReadEnds (r .S) (r .F) (r .steps) b₂ d₂ j₂ p₂
+      → ReadEndsIn r b₁ d₁ j₁ p₁ → ReadEndsIn r b₂ d₂ j₂ p₂
       → Agree (r .S) (r .F) (r .steps) j₁ j₂ (row b₁) (row b₂)
   agree b₁ d₁ j₁ p₁ b₂ d₂ j₂ p₂ x₁ x₂ =
       rw (← (row-is b₁ d₁ j₁ p₁ x₁), ← (row-is b₂ d₂ j₂ p₂ x₂))

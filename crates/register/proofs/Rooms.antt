@@ -1,11 +1,7 @@
 -- What the tests for free slots say of one channel.
 -- Assumes nothing.
-use mathlib.Core.Path.{_≡_, ap}
-use mathlib.Core.Bool.{Bool, true, false, not, _||_}
-use Prim.Native.Nat.{ℕ, zero, suc, _+_, _≤_}
-use native.Mathlib.Omega.{arith}
-use lib.ListN.{length}
-use borrow.Author.Tests.{leb-true}
+use Rattle.basics.proofs.Prelude.{_≡_, ap, Bool, true, false, not, _||_, length, ℕ, zero, suc, _+_, _≤_}
+use Rattle.basics.proofs.Prelude.{arith, leb-true}
 use Rattle.basics.proofs.Tests.{below}
 use Rattle.message.specs.declared.Message.{Message}
 use Rattle.register.specs.Settings.{Settings, servers, isClient, isHonest}

@@ -3,8 +3,7 @@
 -- All invariants are proved of the world before step i, for every i, by induction over i; past the end of the
 -- list every step is refused, so nothing changes there.
 -- Assumes nothing.
-use mathlib.Core.List.{List}
-use Prim.Native.Nat.{ℕ}
+use Rattle.basics.proofs.Prelude.{List, ℕ}
 use Rattle.register.specs.declared.Answer.{Answer}
 use Rattle.register.specs.Settings.{Settings, Accepted}
 use Rattle.register.specs.World.{World, Event}

@@ -1,35 +1,28 @@
--- Runs computed from the definitions, so that the theorems are about something: what each answers is what 01's rules
--- give.
+-- Runs computed from the definitions, so that the theorems are about something: what each answers is what
+-- 01's rules give.
 --
 -- In order: the answers of a list of steps, one by one; the entry that they write. The runs are in the files
 -- of Runs/.
 -- Assumes nothing.
-use mathlib.Core.List.{List, [], _∷_}
-use Prim.Native.Nat.{ℕ, zero, suc, _*_, _+_, _^_}
-use lib.ListN.{length}
+use Rattle.basics.proofs.Prelude.{List, [], _∷_, length, ℕ, zero, suc, _+_, _*_, _^_}
 use Rattle.basics.specs.Bytes.{spelt}
 use Rattle.calendar.specs.Calendar.{isDate, monthLength, leap}
 use Rattle.licence.specs.Entry.{isLicence, isLicensed}
 use Rattle.basics.specs.Counting.{countBelow}
 use Rattle.basics.specs.Tests.{allBelow}
 use Rattle.basics.specs.Update.{update}
-use Rattle.message.specs.declared.Entry.{Entry}
-use Rattle.message.specs.declared.Pair.{Pair}
 use Rattle.message.specs.Pair.{counter, stamp, pairOf}
+use Rattle.register.proofs.Vocabulary.{Entry, Pair, Answer, Went}
 use Rattle.message.specs.Layout.{messageOf, unpackOf}
-use Rattle.register.specs.declared.Answer.{Answer}
-use Rattle.register.specs.declared.Answer.the-variants.{Went}
 use Rattle.register.specs.Settings.{Settings, isServer, isClient, isHonest}
-use Rattle.register.specs.Server.{stored, serverAfter, serverSends, forwards, sentTo}
+use Rattle.register.specs.Server.{stored, nextServer, serverSends, forwards, sentTo}
 use Rattle.register.specs.PairSet.{insert, add, has}
 use Rattle.register.specs.Client.{isIdle, isReading, isStoring, nextRead, started, withPair, withInfo}
-use Rattle.register.specs.Client.{withAck}
-use Rattle.register.specs.Client.{entryOf}
-use Rattle.register.specs.Client.{isNoted, isAtMost, higher, highestOf, allPairs, notOld, valid, counts}
-use Rattle.register.specs.Client.{chosen}
-use Rattle.register.specs.Client.{concluded, looked, acknowledged, takesInfo, clientTakes}
-use Rattle.register.specs.World.{putsUp, putsDown, leavesUp, leavesDown, nextUp, nextDown}
-use Rattle.register.specs.World.{nextServers, nextClients, nextStopped, apply, answerOf}
+use Rattle.register.specs.Client.{withAck, entryOf, isNoted, isAtMost, higher, highestOf, allPairs}
+use Rattle.register.specs.Client.{notOld, valid, counts, chosen, concluded, afterChoice, acknowledged}
+use Rattle.register.specs.Client.{usesInfo, clientTakes}
+use Rattle.register.specs.World.{putsUp, putsDown, leavesUp, leavesDown, nextUp, nextDown, nextServers}
+use Rattle.register.specs.World.{nextClients, nextStopped, apply, answerOf}
 use Rattle.register.specs.Steps.{Step, Formats, isEmpty, oldest, hasRoom, roomUp, roomDown, isReply}
 use Rattle.register.specs.Steps.{ladder, refusalOf, accepted, eventOf}
 use Rattle.register.specs.History.{worldAt, answerAt}
@@ -46,15 +39,12 @@ answersFrom S F steps i (suc n) = answerAt S F steps i ∷ answersFrom S F steps
 -- all answers of a list of steps; to unfold it is to unfold all that it computes with
 unfoldable pub answers : Settings → Formats → List Step → List Answer
 unfolding worldAt answerOf eventOf refusalOf ladder accepted apply nextServers nextClients nextStopped nextUp
-    nextDown leavesUp leavesDown putsUp putsDown isEmpty oldest hasRoom roomUp roomDown isReply allBelow
-    countBelow update
-    isServer isClient isHonest stored serverAfter serverSends forwards sentTo insert add has isIdle isReading
-    isStoring
-    nextRead started withPair withInfo withAck entryOf isNoted isAtMost higher highestOf allPairs notOld
-    valid counts
-    chosen concluded looked acknowledged takesInfo clientTakes counter stamp pairOf spelt messageOf unpackOf
-    isLicence
-    isLicensed isDate monthLength leap
+    nextDown leavesUp leavesDown putsUp putsDown isEmpty oldest hasRoom roomUp roomDown isReply
+    allBelow countBelow update isServer isClient isHonest
+    stored nextServer serverSends forwards sentTo insert add has isIdle isReading isStoring
+    nextRead started withPair withInfo withAck entryOf isNoted isAtMost higher highestOf allPairs
+    notOld valid counts chosen concluded afterChoice acknowledged usesInfo clientTakes
+    counter stamp pairOf spelt messageOf unpackOf isLicence isLicensed isDate monthLength leap
 answers S F steps = answersFrom S F steps 0 (length steps)
 
 abbrev pub went : ℕ → List Answer

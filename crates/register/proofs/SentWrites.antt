@@ -4,29 +4,21 @@
 -- gives the list of the writes that sent, each once since a write sends once (`apart`); the timestamp of each
 -- (`stamp-at`); and a number above all these timestamps (`below-top`), which the keys of a row use.
 -- Assumes nothing.
-use mathlib.Core.Path.{_≡_, refl, sym, ap, subst}
-use mathlib.Core.Bool.{cond}
-use mathlib.Core.Logic.{_⊎_, inl, inr, _≢_}
-use mathlib.Core.List.{List, [], _∷_}
-use Prim.Native.Nat.{ℕ, zero, suc, _+_, _≤_, _<_}
-use native.Mathlib.Nat.{le-refl, not-suc-le-zero}
-use native.Mathlib.Omega.{arith}
-use lib.Dec.{eqb}
-use borrow.Author.Tests.{eqb-true, eqb-false}
+use Rattle.basics.proofs.Prelude.{_≡_, refl, sym, ap, subst, cond, _⊎_, inl, inr, List, [], _∷_, ℕ, zero, suc}
+use Rattle.basics.proofs.Prelude.{_+_, _≤_, _<_, le-refl, not-suc-le-zero, arith, eqb, eqb-true, eqb-false}
 use Rattle.basics.specs.Members.{Member}
 use Rattle.basics.proofs.Cases.{by-test, by-either, clash}
-use Rattle.message.specs.declared.Message.{Message}
-use Rattle.message.specs.declared.Message.the-variants.{GetInfo, Info, Done, WriteInfo, Fwd, WriteAck}
-use Rattle.message.specs.declared.Pair.{Pair}
-use Rattle.message.specs.Pair.{stamp}
+use Rattle.basics.proofs.Ranges.{at-last}
+use Rattle.basics.proofs.Sorting.{Distinct}
+use Rattle.register.proofs.Vocabulary.{Message, GetInfo, Info, Done, WriteInfo, Fwd, WriteAck, Pair}
+use Rattle.register.proofs.Vocabulary.{stamp}
 use Rattle.register.specs.Settings.{Settings}
-use Rattle.register.specs.World.{World, Event, refuses, begins, serves, takes, stops, lies, takenBy}
+use Rattle.register.specs.World.{World, Event, refuses, begins, serves, takes, stops, lies, responseOf}
 use Rattle.register.specs.Steps.{Formats}
 use Rattle.register.proofs.Run.{Run, world, event}
 use Rattle.register.proofs.Frames.{Puts}
-use Rattle.register.proofs.PutCases.{puts-write}
+use Rattle.register.proofs.PutCases.{PutsAt, sends-at}
 use Rattle.register.proofs.Since.{since}
-use Rattle.register.proofs.WriteStatus.{PutsAt}
 use Rattle.register.proofs.Ordered.{Sending, sent-facts}
 use Rattle.register.proofs.Unique.{sends-once, sender}
 
@@ -55,17 +47,12 @@ put S F w (refuses r) = nothing (λ d p h. h)
 put S F w (begins c ph) = nothing (λ d p h. clash (cc))
 put S F w (serves k c m ms) = nothing (λ d p h. h)
 put S F w (takes c k m ms) =
-    by-either (find (takenBy S w c k m .sends)) (λ f. puts c (f .0) (refl, f .1))
+    by-either (find (responseOf S w c k m .sends)) (λ f. puts c (f .0) (refl, f .1))
     (λ never. nothing (λ d p h. never p (h .1)))
 put S F w (stops c) = nothing (λ d p h. h)
 put S F w (lies k c m) = nothing (λ d p h. h)
 
 -- ---- the writes that sent
-
--- no number stands twice
-abbrev pub Distinct : List ℕ → Type 0
-Distinct [] = Unit {0}
-Distinct (x ∷ xs) = (Member x xs → ⊥) × Distinct xs
 
 module _ (r : Run) where
   abbrev PutAt : ℕ → Type 0
@@ -120,30 +107,19 @@ module _ (r : Run) where
   -- a WRITE_INFO belongs to the write that its client last began
   sends-now : (n d : ℕ) (p : Pair) → PutsAt r n d p → Sending r (since r n d) d n p
   sends-now n d p h =
-      let s = sender r n d p h in
-      subst (λ (b : ℕ). Sending r b d n p) (sym (sent-facts r (s .begin) d n p (s .sending) .begun)) (s
-      .sending)
+      let s = sender r n d p h .sending in subst (λ (b : ℕ). Sending r b d n p) (sym (sent-facts s .begun)) s
 
   -- and to no other
-  one-sender : (n b d : ℕ) (p : Pair) (d′ : ℕ) (p′ : Pair) → PutsAt r n d′ p′ → Sending r b d n p
+  one-sender : {n b d : ℕ} {p : Pair} → Sending r b d n p → (d′ : ℕ) (p′ : Pair) → PutsAt r n d′ p′
       → since r n d′ ≡ b
-  one-sender n b d p d′ p′ h s =
-      let q = puts-write (r .S) (r .F) (world r n) (event r n) d p (s .puts) .event in
-      let q′ = puts-write (r .S) (r .F) (world r n) (event r n) d′ p′ h .event in
+  one-sender {n} {b} {d} {p} s d′ p′ h =
+      let q = sends-at r n d p (s .puts) .by .event in
+      let q′ = sends-at r n d′ p′ h .by .event in
       let e : d ≡ d′ = cc in
-      rw (← e) (sent-facts r b d n p s .begun)
+      rw (← e) (sent-facts s .begun)
 
-  -- at a step before n + 1: at n, or before it
-  at-step {ℓ} : {C : Type ℓ} (j n : ℕ) → j < suc n → (j ≡ n → C) → (j < n → C) → C
-  at-step j n lt now before =
-      by-test (eqb j n) (λ e. now (eqb-true j n e)) (λ e. before (let ne : j ≢ n = eqb-false j n e in omega
-      arith))
-
-  put-now : (n b d j : ℕ) (p : Pair) → Sending r b d j p → j ≡ n → PutsAt r n d p
-  put-now n b d j p s e = subst (λ (z : ℕ). PutsAt r z d p) e (s .puts)
-
-  send-now : (n b d j : ℕ) (p : Pair) → Sending r b d j p → j ≡ n → Sending r b d n p
-  send-now n b d j p s e = subst (λ (z : ℕ). Sending r b d z p) e s
+  send-now : {n b d j : ℕ} {p : Pair} → Sending r b d j p → j ≡ n → Sending r b d n p
+  send-now {b = b} {d = d} {p = p} s e = subst (λ (z : ℕ). Sending r b d z p) e s
 
   pub member-sent : (n b : ℕ) → Member b (sentWrites n) → SentBefore n b
   unfolding sentWrites pushed
@@ -151,8 +127,7 @@ module _ (r : Run) where
   member-sent (suc n) b h = go (λ q. later n b (member-sent n b q)) (put-at n) h
     where
       go : (Member b (sentWrites n) → SentBefore (suc n) b) → (t : PutAt n)
-          → Member b (pushed n t (sentWrites n))
-          → SentBefore (suc n) b
+          → Member b (pushed n t (sentWrites n)) → SentBefore (suc n) b
       go ih (nothing _) h = ih h
       go ih (puts d p q) h =
           by-either h
@@ -165,32 +140,29 @@ module _ (r : Run) where
           })
           ih
 
-  pub sent-member : (n b d j : ℕ) (p : Pair) → Sending r b d j p → j < n → Member b (sentWrites n)
+  pub sent-member : (n : ℕ) {b d j : ℕ} {p : Pair} → Sending r b d j p → j < n → Member b (sentWrites n)
   unfolding sentWrites pushed
-  sent-member zero b d j p s lt = absurd (not-suc-le-zero lt)
-  sent-member (suc n) b d j p s lt = go (λ q. sent-member n b d j p s q) (put-at n)
+  sent-member zero s lt = absurd (not-suc-le-zero lt)
+  sent-member (suc n) {b} {d} {j} {p} s lt = go (λ q. sent-member n s q) (put-at n)
     where
       go : (j < n → Member b (sentWrites n)) → (t : PutAt n) → Member b (pushed n t (sentWrites n))
-      go ih (nothing never) = at-step j n lt (λ e. absurd (never d p (put-now n b d j p s e))) ih
+      go ih (nothing never) = at-last j n lt (λ e. absurd (never d p (send-now s e .puts))) ih
       go ih (puts d′ p′ h) =
-          at-step j n lt (λ e. inl (sym (one-sender n b d p d′ p′ h (send-now n b d j p s e))))
-          (λ less. inr (ih less))
+          at-last j n lt (λ e. inl (sym (one-sender (send-now s e) d′ p′ h))) (λ less. inr (ih less))
 
-  pub stamp-at : (n b d j : ℕ) (p : Pair) → Sending r b d j p → j < n → stampOf n b ≡ stamp p
+  pub stamp-at : (n : ℕ) {b d j : ℕ} {p : Pair} → Sending r b d j p → j < n → stampOf n b ≡ stamp p
   unfolding stampOf stamped
-  stamp-at zero b d j p s lt = absurd (not-suc-le-zero lt)
-  stamp-at (suc n) b d j p s lt = go (λ q. stamp-at n b d j p s q) (put-at n)
+  stamp-at zero s lt = absurd (not-suc-le-zero lt)
+  stamp-at (suc n) {b} {d} {j} {p} s lt = go (λ q. stamp-at n s q) (put-at n)
     where
       go : (j < n → stampOf n b ≡ stamp p) → (t : PutAt n) → stamped n t b (stampOf n b) ≡ stamp p
-      go ih (nothing never) = at-step j n lt (λ e. absurd (never d p (put-now n b d j p s e))) ih
+      go ih (nothing never) = at-last j n lt (λ e. absurd (never d p (send-now s e .puts))) ih
       go ih (puts d′ p′ h) =
           by-test (eqb (since r n d′) b)
-          (λ q. rw q
-          (ap stamp (sends-once r b d′ n d j p′ p
+          (λ q. rw q (ap stamp (sends-once
           (subst (λ (z : ℕ). Sending r z d′ n p′) (eqb-true _ _ q) (sends-now n d′ p′ h)) s .pair)))
           (λ q. rw q
-          (at-step j n lt
-          (λ e. absurd (eqb-false _ _ q (one-sender n b d p d′ p′ h (send-now n b d j p s e)))) ih))
+          (at-last j n lt (λ e. absurd (eqb-false _ _ q (one-sender (send-now s e) d′ p′ h))) ih))
 
   pub top-above : (n : ℕ) → 1 ≤ top n
   unfolding top raised
@@ -201,20 +173,18 @@ module _ (r : Run) where
       go ih (nothing _) = ih
       go ih (puts d p h) = omega arith
 
-  pub below-top : (n b d j : ℕ) (p : Pair) → Sending r b d j p → j < n → stamp p < top n
+  pub below-top : (n : ℕ) {b d j : ℕ} {p : Pair} → Sending r b d j p → j < n → stamp p < top n
   unfolding top raised
-  below-top zero b d j p s lt = absurd (not-suc-le-zero lt)
-  below-top (suc n) b d j p s lt = go (λ q. below-top n b d j p s q) (put-at n)
+  below-top zero s lt = absurd (not-suc-le-zero lt)
+  below-top (suc n) {b} {d} {j} {p} s lt = go (λ q. below-top n s q) (put-at n)
     where
       go : (j < n → stamp p < top n) → (t : PutAt n) → stamp p < raised n t (top n)
-      go ih (nothing never) = at-step j n lt (λ e. absurd (never d p (put-now n b d j p s e))) ih
+      go ih (nothing never) = at-last j n lt (λ e. absurd (never d p (send-now s e .puts))) ih
       go ih (puts d′ p′ h) =
-          at-step j n lt
-          (λ e. let now = send-now n b d j p s e in
-          let same =
-          sends-once r b d n d′ n p p′ now
-          (subst (λ (z : ℕ). Sending r z d′ n p′) (one-sender n b d p d′ p′ h now) (sends-now n d′ p′ h))
-          .pair in
+          at-last j n lt
+          (λ e. let now = send-now s e in
+          let same = sends-once now
+          (subst (λ (z : ℕ). Sending r z d′ n p′) (one-sender now d′ p′ h) (sends-now n d′ p′ h)) .pair in
           let one = top-above n in
           rw same (omega arith))
           (λ less. let x = ih less in omega arith)
@@ -229,8 +199,7 @@ module _ (r : Run) where
       go ih (puts d p h) = (
         (λ m. let s = member-sent n _ m in
             let x = s .before in
-            let q = sends-once r _ d n (s .client) (s .at) p (s .pair) (sends-now n d p h) (s .sending) .step
-            in
+            let q = sends-once (sends-now n d p h) (s .sending) .step in
             omega arith),
         ih,
       )

@@ -2,18 +2,15 @@
 --
 -- It changes only where d starts, and while an operation is open it is the step that began it.
 -- Assumes nothing.
-use mathlib.Core.Path.{_≡_, refl, ap}
-use mathlib.Core.Bool.{true, false, cond}
-use Prim.Native.Nat.{ℕ, zero, suc, _≤_}
-use native.Mathlib.Nat.{le-refl}
-use native.Mathlib.Omega.{arith}
+use Rattle.basics.proofs.Prelude.{_≡_, refl, true, false, cond, ℕ, zero, suc, _≤_, le-refl, arith}
 use Rattle.basics.proofs.Cases.{by-test}
+use Rattle.basics.proofs.Update.{update-same}
 use Rattle.register.specs.declared.Phase.{Phase}
-use Rattle.register.specs.Client.{Client, started}
-use Rattle.register.specs.World.{begins}
+use Rattle.register.specs.Client.{started}
+use Rattle.register.specs.World.{begins, nextClients, apply}
 use Rattle.register.specs.History.{worldAt}
 use Rattle.register.proofs.Run.{Run, world, event, enabled-at}
-use Rattle.register.proofs.Frames.{startsAt, client-starts}
+use Rattle.register.proofs.Frames.{startsAt}
 use Rattle.register.proofs.Turns.{Turn, turn}
 
 module _ (r : Run) where
@@ -37,11 +34,14 @@ module _ (r : Run) where
   since-starts n d h = rw h refl
 
   -- the turn of client d at step n
-  pub turn-at : (n d : ℕ) → Turn (r .S) (r .F) (world r n) (event r n) d (world r (suc n) .clients d)
+  abbrev pub TurnAt : ℕ → ℕ → Type 0
+  TurnAt n d = Turn (r .S) (r .F) (world r n) (event r n) d (world r (suc n) .clients d)
+
+  pub turn-at : (n d : ℕ) → TurnAt n d
   unfolding worldAt
   turn-at n d = turn (r .S) (r .F) (world r n) (event r n) (enabled-at r n) d
 
   -- a client that has just begun is in its phase
   pub begun-phase : (b d : ℕ) (ph : Phase) → event r b ≡ begins d ph → world r (suc b) .clients d .phase ≡ ph
-  unfolding worldAt started
-  begun-phase b d ph h = ap (λ (x : Client). x .phase) (client-starts (r .S) (world r b) (event r b) d ph h)
+  unfolding worldAt apply nextClients started
+  begun-phase b d ph h = rw (h, update-same) refl

@@ -1,35 +1,24 @@
 -- Still: a client that reads has not decided, and one that stores has too few acknowledgements.
 --
--- Why: after every taken message the client looks, and leaves its phase if it finds a pair or has enough
--- acknowledgements; so if it is still in the phase, it has not. At a start it has nothing, and n − f is above
--- 0.
+-- Why: after every message that it uses the client leaves its phase if it finds a pair or has enough
+-- acknowledgements; so if it is still in the phase, it has not. At a start it has nothing, and n − f is
+-- above 0.
 -- Assumes nothing.
-use mathlib.Core.Path.{_≡_, refl, sym, _∙_}
-use mathlib.Core.Bool.{true, false}
-use mathlib.Core.Logic.{inr}
-use mathlib.Core.Option.{none}
-use Prim.Native.Nat.{ℕ, zero, suc}
-use native.Mathlib.Omega.{arith}
-use borrow.Author.Tests.{leb-true}
+use Rattle.basics.proofs.Prelude.{_≡_, refl, sym, _∙_, true, false, inr, none, ℕ, zero, suc, arith, leb-true}
 use Rattle.basics.proofs.Cases.{by-test}
-use Rattle.message.specs.declared.Entry.{Entry}
-use Rattle.message.specs.declared.Message.{Message}
-use Rattle.message.specs.declared.ReadNumber.{ReadNumber}
-use Rattle.message.specs.declared.WriteCounter.{WriteCounter}
-use Rattle.register.specs.declared.Phase.{Phase}
-use Rattle.register.specs.declared.Phase.the-variants.{Idle, Storing}
+use Rattle.register.proofs.Vocabulary.{Entry, Message, ReadNumber, WriteCounter, Phase, Idle, Storing}
 use Rattle.register.specs.Thresholds.{counted, enough}
 use Rattle.register.specs.Settings.{Settings, servers}
-use Rattle.register.specs.Client.{Client, cleared, isReading, isNoted, started, withAck, Taken, chosen}
+use Rattle.register.specs.Client.{Client, cleared, isReading, isNoted, started, withAck}
+use Rattle.register.specs.Client.{Response, chosen}
 use Rattle.register.specs.World.{World, Event}
 use Rattle.register.specs.Steps.{Formats}
 use Rattle.register.specs.History.{worldAt}
 use Rattle.register.proofs.Counted.{counted-none}
 use Rattle.register.proofs.Run.{Run, world, event, enabled-at}
 use Rattle.register.proofs.Outcomes.{choice, Grown, grown-phase, Outcome, dropped, waits, shows}
-use Rattle.register.proofs.Outcomes.{spends, sends}
-use Rattle.register.proofs.Outcomes.{acks, ends}
-use Rattle.register.proofs.Frames.{ClientNext, same, starts, took, client-next}
+use Rattle.register.proofs.Outcomes.{spends, sends, acks, ends}
+use Rattle.register.proofs.Frames.{ClientNext, same, starts, responds, client-next}
 use Rattle.register.proofs.Live.{not-reading}
 
 pub record Still (S : Settings) (d : ℕ) (x : Client) : Type 0 where
@@ -58,10 +47,10 @@ module _ (S : Settings) (d : ℕ) (x : Client) (k : ℕ) (m : Message) (still : 
   still-grown y g r undecided =
       record {
         undecided = λ _. undecided;
-        few = λ e c q. absurd (not-reading _ r (inr (e, c, sym (grown-phase S d x k m y g) ∙ q)));
+        few = λ e c q. absurd (not-reading _ r (inr (e, c, sym (grown-phase g) ∙ q)));
       }
 
-  outcome-still : (o : Taken) → Outcome S d x k m o → Still S d (o .client)
+  outcome-still : (o : Response) → Outcome S d x k m o → Still S d (o .client)
   unfolding withAck
   outcome-still o (dropped _) = still
   outcome-still o (waits y g r c) = still-grown y g r c
@@ -77,7 +66,7 @@ still-next : (S : Settings) (F : Formats) (w : World) (e : Event) (d : ℕ) → 
 unfolding started
 still-next S F w e d still y (same _ _) = still
 still-next S F w e d still y (starts ph _ _) = still-cleared S d ph _
-still-next S F w e d still y (took k m ms o _ _ _ v) = outcome-still S d (w .clients d) k m still o v
+still-next S F w e d still y (responds t o _ v) = outcome-still S d (w .clients d) _ _ still o v
 
 pub still : (r : Run) (n d : ℕ) → Still (r .S) d (world r n .clients d)
 unfolding worldAt

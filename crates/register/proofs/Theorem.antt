@@ -4,8 +4,7 @@
 -- operation that has not ended leaves its client in a phase that is not idle (`ReadStatus`, `WriteStatus`);
 -- so it has nothing open. All of it is for any lawful formats; this repository's are lawful (`Formats`).
 -- Assumes nothing.
-use Prim.Native.Nat.{ℕ}
-use lib.ListN.{length}
+use Rattle.basics.proofs.Prelude.{length, ℕ}
 use Rattle.basics.proofs.Cases.{by-either, clash}
 use Rattle.register.specs.Formats.{formats}
 use Rattle.register.specs.History.{Quiet, NothingOpen}
@@ -24,19 +23,19 @@ module _ (r : Run) where
   nothing-open d q =
       let now = idle r (length (r .steps)) d (q .client) (q .works) (q .noWrite) (q .up) (q .down) in
       record {
-        reads = λ b x. by-either (read-status r b d (read-begins r b d x) (length (r .steps)) (x .inList))
+        reads = λ b x. by-either (read-status r b d (read-begins r x) (length (r .steps)) (x .inList))
             (λ o. let h = o .phase in clash (cc))
-            (λ o. (o .at, o .pair, read-ends r b d x o));
-        writes = λ b x. by-either (write-status r b d (x .entry) (write-begins r b d x) (length (r .steps))
-            (x .inList))
+            (λ o. (o .at, o .how .pair, read-ends r b d x o));
+        writes = λ b x. by-either
+            (write-status r b d (x .entry) (write-begins r x) (length (r .steps)) (x .inList))
             (λ o. in-phase r b d (x .entry) (length (r .steps)) o (λ h. clash (cc)) (λ c h. clash (cc)))
             (λ o. (
               o .at,
               record {
                 begins = x;
                 later = o .after;
-                ends = writes-out r (o .at) d (o .before) (o .writes);
-                next = λ i lo hi y. o .first i lo hi (writes-in r i d y);
+                ends = writes-out r (o .before) (o .how .ends .writes);
+                next = λ i lo hi y. o .how .ends .first i lo hi (writes-in r y);
               },
             ));
       }

@@ -4,86 +4,52 @@
 -- its choice; its write is spent; its write sends; its write ends. Each says what the step answers, so that
 -- operations can be followed from their beginning to their end (`ReadStatus`, `WriteStatus`, `Open`).
 -- Assumes nothing.
-use mathlib.Core.Path.{_≡_, refl, sym, ap, subst}
-use mathlib.Core.Bool.{true, false}
-use mathlib.Core.Logic.{inl, inr}
-use mathlib.Core.Option.{some}
-use mathlib.Core.List.{List, []}
-use Prim.Native.Nat.{ℕ}
-use lib.Dec.{eqb}
-use borrow.Author.Tests.{eqb-false, eq-eqb}
+use Rattle.basics.proofs.Prelude.{_≡_, refl, sym, ap, _∙_, subst, true, false, inl, inr, [], some, ℕ, eqb}
+use Rattle.basics.proofs.Prelude.{eqb-false, eq-eqb}
 use Rattle.basics.specs.Members.{Member}
 use Rattle.basics.proofs.Cases.{true-or-false}
-use Rattle.message.specs.declared.Entry.{Entry}
-use Rattle.message.specs.declared.Message.{Message}
-use Rattle.message.specs.declared.Message.the-variants.{WriteInfo, WriteAck}
-use Rattle.message.specs.declared.Pair.{Pair}
-use Rattle.message.specs.declared.WriteCounter.{WriteCounter}
-use Rattle.message.specs.Pair.{pairOf}
-use Rattle.register.specs.declared.Answer.the-variants.{Went, Read, Wrote, Spent}
-use Rattle.register.specs.declared.Phase.{Phase}
-use Rattle.register.specs.declared.Phase.the-variants.{Idle, Reading, ReadingForWrite, Storing}
+use Rattle.register.proofs.Vocabulary.{Entry, Message, WriteInfo, WriteAck, Pair, WriteCounter, pairOf}
+use Rattle.register.proofs.Vocabulary.{Went, Read, Wrote, Spent, Phase, Idle, Reading, ReadingForWrite}
+use Rattle.register.proofs.Vocabulary.{Storing}
 use Rattle.register.specs.Thresholds.{counted, enough}
 use Rattle.register.specs.Settings.{Settings, servers}
-use Rattle.register.specs.Client.{Client, started, withAck, Taken}
-use Rattle.register.specs.World.{World, Event, refuses, begins, serves, takes, stops, lies, takenBy}
+use Rattle.register.specs.Client.{Client, started, withAck, Response}
+use Rattle.register.specs.World.{World, Event, refuses, begins, serves, takes, stops, lies, responseOf}
 use Rattle.register.specs.World.{answerOf, apply}
 use Rattle.register.specs.Steps.{Formats}
 use Rattle.register.proofs.Enabled.{Enabled}
-use Rattle.register.proofs.Outcomes.{choice, nextCounter, Grown, grown-phase}
-use Rattle.register.proofs.Outcomes.{Outcome, dropped, waits, shows, spends, sends, acks, ends}
-use Rattle.register.proofs.Frames.{startsAt, takesAt, ClientNext, same, starts, took, client-next}
-use Rattle.register.proofs.Frames.{Puts}
+use Rattle.register.proofs.Outcomes.{choice, nextCounter, Grown, grown-phase, Outcome, dropped, waits}
+use Rattle.register.proofs.Outcomes.{shows, spends, sends, acks, ends}
+use Rattle.register.proofs.Frames.{startsAt, takesAt, Takes, ClientNext, same, starts, responds}
+use Rattle.register.proofs.Frames.{client-next, Puts}
 
 module _ (S : Settings) (F : Formats) (w : World) (e : Event) (d : ℕ) where
-  -- client d takes a message
-  pub record Takes : Type 0 where
-    pub server : ℕ
-    pub message : Message
-    pub rest : List Message
-    pub event : e ≡ takes d server message rest
-    pub enabled : Enabled S F w (takes d server message rest)
-
   -- client d takes a message in a reading phase and chooses p
   pub record Decides (p : Pair) : Type 0 where
-    pub by : Takes
+    pub by : Takes S F w e d
     pub grown : Client
     pub grows : Grown (w .clients d) (by .server) (by .message) grown
     pub chosen : choice S d grown ≡ some p
 
   pub data Turn (y : Client) : Type 0 where
-    rested : y .phase ≡ w .clients d .phase → startsAt e d ≡ false
-        → ((k : ℕ) (m : Message) (ms : List Message) → e ≡ takes d k m ms → answerOf S w e ≡ Went)
+    rested : y .phase ≡ w .clients d .phase → startsAt e d ≡ false → (Takes S F w e d → answerOf S w e ≡ Went)
         → ((m : Message) → Puts S F w e d m → ⊥) → Turn y
     opened : (ph : Phase) → e ≡ begins d ph → Enabled S F w (begins d ph) → y .phase ≡ ph → Turn y
     showed : (p : Pair) → Decides p → w .clients d .phase ≡ Reading → y .phase ≡ Idle
-        → answerOf S w e ≡ Read p
-        → Turn y
+        → answerOf S w e ≡ Read p → Turn y
     spent : (p : Pair) (entry : Entry) → Decides p → w .clients d .phase ≡ ReadingForWrite entry
-        → y .phase ≡ Idle
-        → answerOf S w e ≡ Spent → Turn y
+        → y .phase ≡ Idle → answerOf S w e ≡ Spent → Turn y
     sent : (p : Pair) (entry : Entry) → Decides p → w .clients d .phase ≡ ReadingForWrite entry
         → y .phase ≡ Storing entry (nextCounter p) → answerOf S w e ≡ Went
         → Puts S F w e d (WriteInfo (pairOf (nextCounter p) d entry)) → Turn y
-    ended : (entry : Entry) (c : WriteCounter) (t : Takes) → t .message ≡ WriteAck c
+    ended : (entry : Entry) (c : WriteCounter) (t : Takes S F w e d) → t .message ≡ WriteAck c
         → w .clients d .phase ≡ Storing entry c
         → enough (servers S) (S .f) (counted (withAck (w .clients d) (t .server) .acks) (servers S)) ≡ true
         → y .phase ≡ Idle → answerOf S w e ≡ Wrote (pairOf c d entry) → Turn y
 
-  answer-is : (k : ℕ) (m : Message) (ms : List Message) (o : Taken) → e ≡ takes d k m ms
-      → o ≡ takenBy S w d k m
-      → answerOf S w e ≡ o .answer
-  unfolding answerOf
-  answer-is k m ms o q h = rw q (ap (λ (x : Taken). x .answer) (sym h))
-
-  puts-is : (k : ℕ) (m : Message) (ms : List Message) (o : Taken) (x : Message) → e ≡ takes d k m ms
-      → o ≡ takenBy S w d k m → Member x (o .sends) → Puts S F w e d x
-  puts-is k m ms o x q h mem = rw q (refl, subst (λ (t : Taken). Member x (t .sends)) h mem)
-
   -- an event that is no turn of d's: it answers and puts nothing for d
-  not-taken : takesAt e d ≡ false → (k : ℕ) (m : Message) (ms : List Message) → e ≡ takes d k m ms
-      → answerOf S w e ≡ Went
-  not-taken h k m ms q = absurd (true-or-false (eqb d d) (eq-eqb d d refl) (rw q at h))
+  no-answer-now : takesAt e d ≡ false → Takes S F w e d → answerOf S w e ≡ Went
+  no-answer-now h t = let q = t .event in absurd (true-or-false (eqb d d) (eq-eqb d d refl) (rw q at h))
 
   no-puts : (e : Event) → startsAt e d ≡ false → takesAt e d ≡ false → (m : Message) → Puts S F w e d m → ⊥
   no-puts (refuses r) a b m h = h
@@ -93,41 +59,46 @@ module _ (S : Settings) (F : Formats) (w : World) (e : Event) (d : ℕ) where
   no-puts (stops c) a b m h = h
   no-puts (lies k c x) a b m h = h
 
-  no-sends : (t : Takes) (o : Taken) → o ≡ takenBy S w d (t .server) (t .message) → o .sends ≡ []
-      → (m : Message)
-      → Puts S F w e d m → ⊥
-  no-sends t o h n m p =
-      let p′ : Puts S F w (takes d (t .server) (t .message) (t .rest)) d m =
-      subst (λ (z : Event). Puts S F w z d m) (t .event) p in
-      subst (Member m) n (subst (λ (x : Taken). Member m (x .sends)) (sym h) (p′ .1))
+  -- client d takes a message, and responds with o
+  module _ (t : Takes S F w e d) (o : Response) (is : o ≡ responseOf S w d (t .server) (t .message)) where
+    answer-is : answerOf S w e ≡ o .answer
+    unfolding answerOf
+    answer-is = let q = t .event in rw q (ap (λ (x : Response). x .answer) (sym is))
 
-  outcome-turn : (t : Takes) (o : Taken) → o ≡ takenBy S w d (t .server) (t .message)
+    puts-is : (x : Message) → Member x (o .sends) → Puts S F w e d x
+    puts-is x h = let q = t .event in rw q (refl, subst (λ (y : Response). Member x (y .sends)) is h)
+
+    is-put : (x : Message) → Puts S F w e d x → Member x (o .sends)
+    is-put x h =
+        let h′ : Puts S F w (takes d (t .server) (t .message) (t .rest)) d x =
+        subst (λ (z : Event). Puts S F w z d x) (t .event) h in
+        subst (λ (y : Response). Member x (y .sends)) (sym is) (h′ .1)
+
+    rests : o .client .phase ≡ w .clients d .phase → o .answer ≡ Went → o .sends ≡ [] → Turn (o .client)
+    rests phase went none =
+        let q = t .event in
+        rested phase (rw q refl) (λ _. answer-is ∙ went) (λ m h. subst (Member m) none (is-put m h))
+
+  outcome-turn : (t : Takes S F w e d) (o : Response) → o ≡ responseOf S w d (t .server) (t .message)
       → Outcome S d (w .clients d) (t .server) (t .message) o → Turn (o .client)
   unfolding withAck
-  outcome-turn t o h (dropped _) =
-      rested refl (rw (t .event) refl) (λ k m ms q. answer-is _ _ _ _ (t .event) h) (no-sends t o h refl)
-  outcome-turn t o h (waits y g _ _) =
-      rested (grown-phase S d _ _ _ y g) (rw (t .event) refl) (λ k m ms q. answer-is _ _ _ _ (t .event) h)
-      (no-sends t o h refl)
-  outcome-turn t o h (shows y p g ph c) =
-      showed p (record { by = t; grown = y; grows = g; chosen = c }) ph refl (answer-is _ _ _ _ (t .event) h)
-  outcome-turn t o h (spends y p entry g ph c _) =
-      spent p entry (record { by = t; grown = y; grows = g; chosen = c }) ph refl (answer-is _ _ _ _ (t
-      .event) h)
-  outcome-turn t o h (sends y p entry g ph c _) =
-      sent p entry (record { by = t; grown = y; grows = g; chosen = c }) ph refl (answer-is _ _ _ _ (t
-      .event) h)
-      (puts-is _ _ _ _ _ (t .event) h (inr (inl refl)))
-  outcome-turn t o h (acks entry c _ _ _) =
-      rested refl (rw (t .event) refl) (λ k m ms q. answer-is _ _ _ _ (t .event) h) (no-sends t o h refl)
-  outcome-turn t o h (ends entry c i ph n) = ended entry c t i ph n refl (answer-is _ _ _ _ (t .event) h)
+  outcome-turn t o is (dropped _) = rests t o is refl refl refl
+  outcome-turn t o is (waits y g _ _) = rests t o is (grown-phase g) refl refl
+  outcome-turn t o is (shows y p g ph c) =
+      showed p (record { by = t; grown = y; grows = g; chosen = c }) ph refl (answer-is t o is)
+  outcome-turn t o is (spends y p entry g ph c _) =
+      spent p entry (record { by = t; grown = y; grows = g; chosen = c }) ph refl (answer-is t o is)
+  outcome-turn t o is (sends y p entry g ph c _) =
+      sent p entry (record { by = t; grown = y; grows = g; chosen = c }) ph refl (answer-is t o is)
+      (puts-is t o is _ (inr (inl refl)))
+  outcome-turn t o is (acks entry c _ _ _) = rests t o is refl refl refl
+  outcome-turn t o is (ends entry c i ph n) = ended entry c t i ph n refl (answer-is t o is)
 
   next-turn : (y : Client) → ClientNext S F w e d y → Turn y
   unfolding started
-  next-turn y (same a b) = rested refl a (not-taken b) (no-puts e a b)
+  next-turn y (same a b) = rested refl a (no-answer-now b) (no-puts e a b)
   next-turn y (starts ph q en) = opened ph q en refl
-  next-turn y (took k m ms o q en h v) =
-      outcome-turn (record { server = k; message = m; rest = ms; event = q; enabled = en }) o h v
+  next-turn y (responds t o h v) = outcome-turn t o h v
 
 pub turn : (S : Settings) (F : Formats) (w : World) (e : Event) → Enabled S F w e → (d : ℕ)
     → Turn S F w e d (apply S w e .clients d)

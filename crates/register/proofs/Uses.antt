@@ -7,18 +7,11 @@
 -- `not-the-start`: a read that begins after a write has ended does not show the initial pair.
 -- `read-finishes`, `write-finishes`: a quiet client's operations have ended.
 -- Assumes nothing.
-use mathlib.Core.Path.{_≡_, refl, sym, _∙_, subst, ap}
-use mathlib.Core.Logic.{_⊎_, inl, inr, _≢_}
-use mathlib.Core.List.{List}
-use Prim.Native.Nat.{ℕ, suc, _<_}
-use native.Mathlib.Omega.{arith}
-use lib.Dec.{eqb}
-use lib.ListN.{getD}
-use borrow.Author.Tests.{eqb-true, eqb-false}
+use Rattle.basics.proofs.Prelude.{_≡_, refl, sym, ap, _∙_, subst, _⊎_, inl, inr, _≢_, List, getD, ℕ, suc, _<_}
+use Rattle.basics.proofs.Prelude.{arith, eqb, eqb-true, eqb-false}
 use Rattle.basics.specs.Members.{Member, At}
 use Rattle.basics.proofs.Cases.{by-test, by-either}
-use Rattle.message.specs.declared.Pair.{Pair}
-use Rattle.message.specs.Pair.{initial}
+use Rattle.register.proofs.Vocabulary.{Pair, initial}
 use Rattle.register.specs.Settings.{Settings}
 use Rattle.register.specs.Steps.{Step, Formats}
 use Rattle.register.specs.History.{ReadBegins, WriteBegins, ReadEnds, WriteEnds, Ends, HasSent, PairOf}

@@ -1,56 +1,40 @@
--- What a reading client waits for, when the client takes a message (`Waiting` says what that is, and has the server's
--- part).
+-- What a reading client waits for, when the client takes a message (`Waiting` says what that is, and has the
+-- server's part).
 --
 -- Why: INFO of this read moves from the channel to the noted timestamps; a pair moves from the channel to the
--- set;
--- and a set keeps its highest pair, which is the server's present one, since nothing from the server is
+-- set; and a set keeps its highest pair, which is the server's present one, since nothing from the server is
 -- higher.
--- In order: a message of this server that is dropped (`waits-dropped`) or taken (`waits-grown`); one of another
+-- In order: a message of this server that is dropped (`waits-dropped`) or not (`waits-grown`); one of another
 -- server (`waits-elsewhere`).
 -- Assumes nothing.
-use mathlib.Core.Path.{_≡_, refl, sym}
-use mathlib.Core.Bool.{true}
-use mathlib.Core.Logic.{_⊎_, inl, inr, _≢_}
-use mathlib.Core.List.{List, _∷_}
-use mathlib.Core.Option.{Option, some}
-use Prim.Native.Nat.{ℕ, _≤_}
-use native.Mathlib.Omega.{arith}
+use Rattle.basics.proofs.Prelude.{_≡_, refl, sym, true, _⊎_, inl, inr, _≢_, List, _∷_, Option, some, ℕ, _≤_}
+use Rattle.basics.proofs.Prelude.{arith}
 use Rattle.basics.specs.Members.{Member}
 use Rattle.basics.specs.Update.{update}
 use Rattle.basics.proofs.Cases.{by-either, clash}
 use Rattle.basics.proofs.Update.{update-same, update-other}
-use Rattle.message.specs.declared.Message.{Message}
-use Rattle.message.specs.declared.Message.the-variants.{Info, Fwd}
-use Rattle.message.specs.declared.Pair.{Pair}
-use Rattle.message.specs.declared.ReadNumber.{ReadNumber}
-use Rattle.message.specs.Pair.{stamp}
+use Rattle.register.proofs.Vocabulary.{Message, Info, Fwd, Pair, stamp}
 use Rattle.register.specs.PairSet.{add, Ordered}
 use Rattle.register.specs.Server.{Server}
 use Rattle.register.specs.Client.{Client, setLimit, isReading, withInfo, withPair}
 use Rattle.register.proofs.PairSets.{add-keeps}
-use Rattle.register.proofs.Outcomes.{Grown, noted, added, Untaken}
-use Rattle.register.proofs.Infos.{number, number-noted, number-none, infos-cons, info-one, info-none}
+use Rattle.register.proofs.Outcomes.{Grown, noted, added, Ignored}
+use Rattle.register.proofs.Carried.{Carries}
+use Rattle.register.proofs.Infos.{infos, number, number-noted, number-none, info-one, info-none}
 use Rattle.register.proofs.Waiting.{Told, Waits}
 
 -- ---- the client takes a message of this server
 
 -- the message is dropped: it was no INFO of this read that is still to be noted, and no FWD
-pub waits-dropped : (up down : List Message) (x : Client) (s : Server) (d k : ℕ) (m : Message) (ms : List
-    Message)
-    → down ≡ m ∷ ms → isReading (x .phase) ≡ true → Untaken x k m → Waits up down x s d k
-    → Waits up ms x s d k
+pub waits-dropped : (up down : List Message) (x : Client) (s : Server) (d k : ℕ) (m : Message)
+    (ms : List Message) → down ≡ m ∷ ms → isReading (x .phase) ≡ true → Ignored x k m
+    → Waits up down x s d k → Waits up ms x s d k
+unfolding infos
 waits-dropped up down x s d k m ms q r un (inl a) =
-    let h = rw (q, infos-cons (x .reads) m ms) at (a .silent) in
-    inl (record {
-      before = a .before;
-      channel = a .channel;
-      old = a .old;
-      silent = omega arith;
-      unnoted = a
-          .unnoted;
-    })
+    let h = rw q at (a .silent) in
+    inl (record { get = a .get; silent = omega arith; unnoted = a .unnoted })
 waits-dropped up down x s d k m ms q r un (inr a) =
-    let h = rw (q, infos-cons (x .reads) m ms) at (a .once) in
+    let h = rw q at (a .once) in
     let z = info-none (x .reads) m no-info in
     inr (record {
       channel = a .channel;
@@ -65,7 +49,7 @@ waits-dropped up down x s d k m ms q r un (inr a) =
   where
     no-info : (p : Pair) → m ≡ Info (x .reads) p → ⊥
     no-info p e =
-        let h = rw (q, infos-cons (x .reads) m ms) at (a .once) in
+        let h = rw q at (a .once) in
         let i = number-noted (x .noted k) (un .noInfo r p e) in
         let j = info-one (x .reads) p m e in
         omega arith
@@ -75,10 +59,6 @@ pub record Fits (x : Client) (s : Server) (k : ℕ) (p : Pair) : Type 0 where
   pub ordered : Ordered (x .sets k)
   pub low : p .0 ≤ s .pair .0
   pub top : (z : Pair) → Member z (x .sets k) → z .0 ≤ s .pair .0
-
--- the message carries the pair p
-abbrev pub Carries : Message → Pair → Type 0
-Carries m p = (m ≡ Fwd p) ⊎ ((t : ReadNumber) × (m ≡ Info t p))
 
 fits-keeps : (x : Client) (s : Server) (k : ℕ) (p : Pair) → Fits x s k p
     → (s .pair ≡ p) ⊎ Member (s .pair) (x .sets k)
@@ -90,11 +70,10 @@ number-some : (g : ℕ → Option ℕ) (k u : ℕ) → number (update g k (some 
 unfolding number
 number-some g k u = rw update-same refl
 
--- the message is taken
-module _ (up down : List Message) (x : Client) (s : Server) (d k : ℕ) (m : Message) (ms : List Message) (q :
-    down ≡ m ∷ ms)
-    (fits : (p : Pair) → Carries m p → Fits x s k p) where
-  -- the present pair was in the set, or is the one that is taken, or is still on its way
+-- the message is not dropped
+module _ (up down : List Message) (x : Client) (s : Server) (d k : ℕ) (m : Message) (ms : List Message)
+    (q : down ≡ m ∷ ms) (fits : (p : Pair) → Carries m p → Fits x s k p) where
+  -- the present pair was in the set, or is the one that comes, or is still on its way
   told-next : (p : Pair) → Carries m p → Told (s .pair) (x .reads) down (x .sets k)
       → Told (s .pair) (x .reads) ms (update (x .sets) k (add setLimit p (x .sets k)) k)
   told-next p c (inl a) = inl (fits-keeps x s k p (fits p c) (inr a))
@@ -112,13 +91,13 @@ module _ (up down : List Message) (x : Client) (s : Server) (d k : ℕ) (m : Mes
       carried (inr (t, g)) e = clash (cc)
 
   pub waits-grown : (y : Client) → Grown x k m y → Waits up down x s d k → Waits up ms y s d k
-  unfolding withInfo withPair
+  unfolding withInfo withPair infos
   waits-grown y (noted t p e same un) (inl a) =
-      absurd (let h = rw (q, infos-cons (x .reads) m ms) at (a .silent) in
+      absurd (let h = rw q at (a .silent) in
       let i = info-one (x .reads) p m (rw same at e) in
       omega arith)
   waits-grown y (noted t p e same un) (inr a) =
-      let h = rw (q, infos-cons (x .reads) m ms) at (a .once) in
+      let h = rw q at (a .once) in
       let i = info-one (x .reads) p m (rw same at e) in
       let n = number-some (x .noted) k (stamp p) in
       let o = number-none (x .noted k) un in
@@ -129,17 +108,10 @@ module _ (up down : List Message) (x : Client) (s : Server) (d k : ℕ) (m : Mes
         told = told-next p (inr (t, e)) (a .told);
       })
   waits-grown y (added p e) (inl a) =
-      let h = rw (q, infos-cons (x .reads) m ms) at (a .silent) in
-      inl (record {
-        before = a .before;
-        channel = a .channel;
-        old = a .old;
-        silent = omega arith;
-        unnoted = a
-            .unnoted;
-      })
+      let h = rw q at (a .silent) in
+      inl (record { get = a .get; silent = omega arith; unnoted = a .unnoted })
   waits-grown y (added p e) (inr a) =
-      let h = rw (q, infos-cons (x .reads) m ms) at (a .once) in
+      let h = rw q at (a .once) in
       let i = info-none (x .reads) m (λ p′ e′. clash (cc)) in
       inr (record {
         channel = a .channel;
@@ -150,38 +122,9 @@ module _ (up down : List Message) (x : Client) (s : Server) (d k : ℕ) (m : Mes
 
 -- ---- the client takes a message of another server
 
-pub waits-elsewhere : (up down : List Message) (x : Client) (s : Server) (d j k : ℕ) (m : Message) (y :
-    Client)
-    → Grown x j m y → j ≢ k → Waits up down x s d k → Waits up down y s d k
+pub waits-elsewhere : (up down : List Message) (x : Client) (s : Server) (d j k : ℕ) (m : Message)
+    (y : Client) → Grown x j m y → j ≢ k → Waits up down x s d k → Waits up down y s d k
 unfolding withInfo withPair
-waits-elsewhere up down x s d j k m y (noted t p e _ _) ne (inl a) =
-    inl (record {
-      before = a .before;
-      channel = a .channel;
-      old = a .old;
-      silent = a .silent;
-      unnoted = rw (update-other (x .noted) j k _ ne) (a .unnoted);
-    })
-waits-elsewhere up down x s d j k m y (noted t p e _ _) ne (inr a) =
-    inr (record {
-      channel = a .channel;
-      reader = a .reader;
-      once = rw (update-other (x .noted) j k (some (stamp p)) ne) (a .once);
-      told = rw (update-other (x .sets) j k (add setLimit p (x .sets j)) ne) (a .told);
-    })
-waits-elsewhere up down x s d j k m y (added p e) ne (inl a) =
-    inl (record {
-      before = a .before;
-      channel = a .channel;
-      old = a .old;
-      silent = a .silent;
-      unnoted = a
-          .unnoted;
-    })
-waits-elsewhere up down x s d j k m y (added p e) ne (inr a) =
-    inr (record {
-      channel = a .channel;
-      reader = a .reader;
-      once = a .once;
-      told = rw (update-other (x .sets) j k (add setLimit p (x .sets j)) ne) (a .told);
-    })
+waits-elsewhere up down x s d j k m y (noted t p e _ _) ne h =
+    rw (update-other (x .noted) j k _ ne, update-other (x .sets) j k _ ne) h
+waits-elsewhere up down x s d j k m y (added p e) ne h = rw (update-other (x .sets) j k _ ne) h

@@ -1,52 +1,41 @@
 -- Well-formed channels stay well formed at every event.
 --
--- Why: what an event puts on a channel was given room by its checks and is of the right kind; what is dropped changes
--- nothing; what is taken off or emptied leaves fewer. A message goes only to an honest server or a working client, so
--- a channel that is unused or drops stays empty.
+-- Why: what an event puts on a channel was given room by its checks and is of the right kind; what is
+-- dropped changes nothing; what is taken, served or emptied leaves fewer. A message goes only to an honest
+-- server or a working client, so a channel that is unused or drops stays empty.
 -- In order: lists of messages; channels to servers; channels to clients.
 -- Assumes nothing.
-use mathlib.Core.Path.{_≡_, refl, ap, subst}
-use mathlib.Core.Bool.{Bool, true, false, cond, _&&_}
-use mathlib.Core.Logic.{inl, inr}
-use mathlib.Core.List.{List, [], _∷_, _++_, append-nil}
-use Prim.Native.Nat.{ℕ, _+_, _≤_, _<_}
-use native.Mathlib.Nat.{le-refl}
-use native.Mathlib.Omega.{arith}
-use lib.Dec.{eqb}
-use lib.ListN.{length, length-append}
-use borrow.Author.Tests.{eqb-true, eqb-false, leb-true}
+use Rattle.basics.proofs.Prelude.{_≡_, refl, ap, subst, Bool, true, false, cond, _&&_, inl, inr, List, []}
+use Rattle.basics.proofs.Prelude.{_∷_, _++_, append-nil, length, length-append, ℕ, _+_, _≤_, _<_, le-refl}
+use Rattle.basics.proofs.Prelude.{arith, eqb, eqb-true, eqb-false, leb-true}
 use Rattle.basics.specs.Members.{Member}
 use Rattle.basics.proofs.Cases.{by-test, by-either, true-or-false, both, both-of}
 use Rattle.basics.proofs.Members.{member-cases}
 use Rattle.basics.proofs.Update.{update-other}
 use Rattle.message.specs.Layout.{lastRead}
-use Rattle.message.specs.declared.Message.{Message}
-use Rattle.message.specs.declared.Message.the-variants.{GetInfo, Info, Done, WriteInfo, Fwd, WriteAck}
+use Rattle.register.proofs.Vocabulary.{Message, GetInfo, Info, Done, WriteInfo, Fwd, WriteAck}
 use Rattle.message.specs.declared.Unpacked.the-variants.{Good}
-use Rattle.register.specs.declared.Phase.{Phase}
-use Rattle.register.specs.declared.Phase.the-variants.{Idle, Reading, ReadingForWrite, Storing}
 use Rattle.register.specs.Settings.{Settings, Accepted, isServer, isClient, isHonest}
-use Rattle.register.specs.Server.{Sent, serverSends, sentTo}
+use Rattle.register.specs.Server.{Sent, sent, serverSends, sentTo}
 use Rattle.register.specs.Client.{nextRead}
-use Rattle.register.specs.World.{World, Event, refuses, begins, serves, takes, stops, lies, takenBy}
-use Rattle.register.specs.World.{putsUp}
-use Rattle.register.specs.World.{putsDown, leavesUp, leavesDown, nextUp, nextDown, nextStopped}
+use Rattle.register.specs.World.{World, Event, refuses, begins, serves, takes, stops, lies, responseOf}
+use Rattle.register.specs.World.{putsUp, putsDown, leavesUp, leavesDown, nextUp, nextDown, nextStopped}
 use Rattle.register.specs.Steps.{Formats, slots, hasRoom, isReply, roomUp}
 use Rattle.register.specs.WellFormed.{FromClient, FromServer, WellChannel, WellFormed}
 use Rattle.register.proofs.Bounds.{client-small, honest-server, honest-of}
-use Rattle.register.proofs.Enabled.{Enabled, slotsFor, Starts}
-use Rattle.register.proofs.Dropping.{put-or-dropped, nothing-put}
+use Rattle.register.proofs.Enabled.{Enabled, slotsFor, some-slot}
+use Rattle.register.proofs.Dropping.{put-or-dropped, nothing-put, at-channel}
 use Rattle.register.proofs.Rooms.{unless, room-up, room-down}
 use Rattle.register.proofs.Lawful.{Lawful, FieldsFit}
-use Rattle.register.proofs.WellServer.{WellSent, well-sends, sent-there, none-there}
-use Rattle.register.proofs.WellClient.{WellTaken, well-takes}
+use Rattle.register.proofs.WellServer.{WellSent, well-sends, none-there}
+use Rattle.register.proofs.Sends.{sent-member}
+use Rattle.register.proofs.WellClient.{WellResponse, well-takes}
 
 -- ---- lists of messages
 
 module _ (Kind : Message → Type 0) where
-  well-more : (s t : List Message) → WellChannel Kind s → length s + length t ≤ slots → ((m : Message)
-      → Member m t → Kind m)
-      → WellChannel Kind (s ++ t)
+  well-more : (s t : List Message) → WellChannel Kind s → length s + length t ≤ slots
+      → ((m : Message) → Member m t → Kind m) → WellChannel Kind (s ++ t)
   well-more s t well room new =
       record {
         few = rw length-append room;
@@ -69,7 +58,18 @@ pub oldest-kind : (Kind : Message → Type 0) (l : List Message) (m : Message) (
     → WellChannel Kind l → Kind m
 oldest-kind Kind l m ms e well = well .kinds m (rw e (inl refl))
 
-module _ (S : Settings) (F : Formats) (w : World) (well : WellFormed S F w) where
+-- a reply whose fields fit is of the kinds that servers send
+reply-kind : (m : Message) → isReply (Good m) ≡ true → FieldsFit m → FromServer m
+unfolding isReply
+reply-kind (GetInfo t) r f = absurd (true-or-false false r refl)
+reply-kind (Info t p) r f = f
+reply-kind Done r f = absurd (true-or-false false r refl)
+reply-kind (WriteInfo p) r f = absurd (true-or-false false r refl)
+reply-kind (Fwd p) r f = f
+reply-kind (WriteAck c) r f = f
+
+module _ (S : Settings) (F : Formats) (accepted : Accepted S) (lawful : Lawful F) (w : World)
+    (well : WellFormed S F w) where
   -- ---- channels to servers
 
   pub record WellUp (d k : ℕ) (l : List Message) : Type 0 where
@@ -98,6 +98,39 @@ module _ (S : Settings) (F : Formats) (w : World) (well : WellFormed S F w) wher
             unused = λ h. absurd (true-or-false _ (both-of (isClient S d) _ (rw same at client) honest) h);
           }
 
+  tag-only : (d : ℕ) → w .clients d .reads .0 < lastRead
+      → (m : Message) → Member m (GetInfo (nextRead (w .clients d)) ∷ []) → FromClient m
+  unfolding nextRead
+  tag-only d low m (inl e) = rw e (omega arith)
+
+  -- the response of client c to the oldest message of server j
+  pub well-response : (c j : ℕ) (m : Message) (ms : List Message) → Enabled S F w (takes c j m ms)
+      → WellResponse S F (responseOf S w c j m)
+  well-response c j m ms en =
+      let range = client-small S accepted c (en .client) in
+      well-takes S F lawful c (omega arith) (w .clients c) (well .client c) j (en .server) m
+      (oldest-kind FromServer (w .down c j) m ms (en .channel) (well .down c j))
+
+  pub up-next : (e : Event) → Enabled S F w e → (d k : ℕ) → WellUp d k (nextUp S w e d k)
+  unfolding nextUp leavesUp putsUp
+  up-next (refuses r) en d k = rw (nothing-put (S .faulty k) (w .up d k)) (up-now d k)
+  up-next (begins c ph) en d k =
+      up-put c (slotsFor ph) _ (en .client) (en .room) (some-slot ph) (tag-only c (en .below)) d k
+  up-next (serves j c m ms) en d k =
+      rw (nothing-put (S .faulty k) (cond (eqb j k && eqb c d) ms (w .up d k)))
+      (at-channel (WellUp d k) j c k d ms (w .up d k)
+      (λ server client. record {
+        channel =
+            well-rest FromClient (w .up d k) m ms (rw (server, client) at (en .channel)) (well .up d k);
+        unused = λ h. absurd (true-or-false _
+            (both-of (isClient S d) _ (rw client at (en .client)) (rw server at (en .honest))) h);
+      })
+      (up-now d k))
+  up-next (takes c j m ms) en d k =
+      up-put c _ _ (en .client) (en .room) (le-refl _) (well-response c j m ms en .sends) d k
+  up-next (stops c) en d k = rw (nothing-put (S .faulty k) (w .up d k)) (up-now d k)
+  up-next (lies j c m) en d k = rw (nothing-put (S .faulty k) (w .up d k)) (up-now d k)
+
   -- ---- channels to clients
 
   pub record WellDown (d k : ℕ) (stopped : Bool) (l : List Message) : Type 0 where
@@ -106,12 +139,8 @@ module _ (S : Settings) (F : Formats) (w : World) (well : WellFormed S F w) wher
     pub drops : stopped ≡ true → l ≡ []
 
   down-now : (d k : ℕ) → WellDown d k (w .stopped d) (w .down d k)
-  down-now d k = record {
-    channel = well .down d k;
-    unused = well .downUnused d k;
-    drops = well .downDrops d
-        k;
-  }
+  down-now d k =
+      record { channel = well .down d k; unused = well .downUnused d k; drops = well .downDrops d k }
 
   -- a server puts messages on its channel to client d: one that is a client, and works
   down-put : (d k : ℕ) (t : List Message) → isClient S d ≡ true → isServer S k ≡ true → w .stopped d ≡ false
@@ -124,7 +153,7 @@ module _ (S : Settings) (F : Formats) (w : World) (well : WellFormed S F w) wher
         drops = λ h. absurd (true-or-false _ h works);
       }
 
-  -- server k takes a message of client c, and answers
+  -- server k serves a message of client c
   down-serves : (k c : ℕ) (m : Message) (ms : List Message) → Enabled S F w (serves k c m ms) → (d : ℕ)
       → w .stopped d ≡ false
       → WellDown d k (w .stopped d) (w .down d k ++ sentTo d (serverSends (w .servers k) c m))
@@ -140,122 +169,46 @@ module _ (S : Settings) (F : Formats) (w : World) (well : WellFormed S F w) wher
           (oldest-kind FromClient (w .up c k) m ms (en .channel) (well .up c k))
 
       kinds : (q : Message) → Member q (sentTo d (serverSends (w .servers k) c m)) → FromServer q
-      kinds q h =
-          let s = sent-there d _ q h in
-          rw (s .is) (sends (s .one) (s .member) .kind)
+      kinds q h = sends (sent d q) (sent-member d q _ h) .kind
 
       nowhere : isClient S d ≡ false → sentTo d (serverSends (w .servers k) c m) ≡ []
       nowhere no-client =
           none-there d _ (λ x h to. true-or-false (isClient S d) (rw to at (sends x h .client)) no-client)
 
--- ---- events
-
-starts-phase : (F : Formats) (ph : Phase) → Starts F ph → 1 ≤ slotsFor ph
-starts-phase F Idle s = absurd s
-starts-phase F Reading s = omega arith
-starts-phase F (ReadingForWrite e) s = omega arith
-starts-phase F (Storing e c) s = absurd s
-
--- a reply whose fields fit is of the kinds that servers send
-reply-kind : (m : Message) → isReply (Good m) ≡ true → FieldsFit m → FromServer m
-unfolding isReply
-reply-kind (GetInfo t) r f = absurd (true-or-false false r refl)
-reply-kind (Info t p) r f = f
-reply-kind Done r f = absurd (true-or-false false r refl)
-reply-kind (WriteInfo p) r f = absurd (true-or-false false r refl)
-reply-kind (Fwd p) r f = f
-reply-kind (WriteAck c) r f = f
-
-module _ (S : Settings) (F : Formats) (accepted : Accepted S) (lawful : Lawful F) (w : World) (well :
-    WellFormed S F w) where
-  tag-only : (d : ℕ) → w .clients d .reads .0 < lastRead
-      → (m : Message) → Member m (GetInfo (nextRead (w .clients d)) ∷ []) → FromClient m
-  unfolding nextRead
-  tag-only d low m (inl e) = rw e (omega arith)
-
-  -- what client c makes of the oldest message of server j
-  pub well-taken : (c j : ℕ) (m : Message) (ms : List Message) → Enabled S F w (takes c j m ms)
-      → WellTaken S F (takenBy S w c j m)
-  well-taken c j m ms en =
-      let range = client-small S accepted c (en .client) in
-      well-takes S F lawful c (omega arith) (w .clients c) (well .client c) j (en .server) m
-      (oldest-kind FromServer (w .down c j) m ms (en .channel) (well .down c j))
-
-  pub up-next : (e : Event) → Enabled S F w e → (d k : ℕ) → WellUp S F w well d k (nextUp S w e d k)
-  unfolding nextUp leavesUp putsUp
-  up-next (refuses r) en d k = rw (nothing-put (S .faulty k) (w .up d k)) (up-now S F w well d k)
-  up-next (begins c ph) en d k =
-      up-put S F w well c (slotsFor ph) _ (en .client) (en .room) (starts-phase F ph (en .phase)) (tag-only c
-      (en .below)) d k
-  up-next (serves j c m ms) en d k =
-      rw (nothing-put (S .faulty k) (cond (eqb j k && eqb c d) ms (w .up d k)))
-      (by-test (eqb j k && eqb c d) (λ e. rw e (popped (both (eqb j k) _ e))) (λ e. rw e (up-now S F w well d
-      k)))
-    where
-      popped : (eqb j k ≡ true) × (eqb c d ≡ true) → WellUp S F w well d k ms
-      popped e =
-          let server = eqb-true j k (e .0) in
-          let client = eqb-true c d (e .1) in
-          record {
-            channel = well-rest FromClient (w .up d k) m ms (rw (server, client) at (en .channel)) (well .up
-                d k);
-            unused =
-                λ h. absurd (true-or-false _
-                (both-of (isClient S d) _ (rw client at (en .client)) (rw server at (en .honest))) h);
-          }
-  up-next (takes c j m ms) en d k =
-      up-put S F w well c _ _ (en .client) (en .room) (le-refl _) (well-taken c j m ms en .sends) d k
-  up-next (stops c) en d k = rw (nothing-put (S .faulty k) (w .up d k)) (up-now S F w well d k)
-  up-next (lies j c m) en d k = rw (nothing-put (S .faulty k) (w .up d k)) (up-now S F w well d k)
-
   pub down-next : (e : Event) → Enabled S F w e → (d k : ℕ)
-      → WellDown S F w well d k (nextStopped S w e d) (nextDown S w e d k)
+      → WellDown d k (nextStopped S w e d) (nextDown S w e d k)
   unfolding nextDown leavesDown putsDown nextStopped hasRoom
-  down-next (refuses r) en d k = rw (nothing-put (w .stopped d) (w .down d k)) (down-now S F w well d k)
-  down-next (begins c ph) en d k = rw (nothing-put (w .stopped d) (w .down d k)) (down-now S F w well d k)
+  down-next (refuses r) en d k = rw (nothing-put (w .stopped d) (w .down d k)) (down-now d k)
+  down-next (begins c ph) en d k = rw (nothing-put (w .stopped d) (w .down d k)) (down-now d k)
   down-next (serves j c m ms) en d k =
-      put-or-dropped (WellDown S F w well d k (w .stopped d)) (w .stopped d) (w .down d k) _ (down-now S F w
-      well d k)
+      put-or-dropped (WellDown d k (w .stopped d)) (w .stopped d) (w .down d k) _ (down-now d k)
       (λ works. by-test (eqb j k)
       (λ e. rw e (subst
-      (λ z. WellDown S F w well d z (w .stopped d) (w .down d z ++ sentTo d (serverSends (w .servers j) c m)))
-      (eqb-true j k e) (down-serves S F w well j c m ms en d works)))
-      (λ e. rw (e, append-nil (w .down d k)) (down-now S F w well d k)))
+      (λ z. WellDown d z (w .stopped d) (w .down d z ++ sentTo d (serverSends (w .servers j) c m)))
+      (eqb-true j k e) (down-serves j c m ms en d works)))
+      (λ e. rw (e, append-nil (w .down d k)) (down-now d k)))
   down-next (takes c j m ms) en d k =
       rw (nothing-put (w .stopped d) (cond (eqb j k && eqb c d) ms (w .down d k)))
-      (by-test (eqb j k && eqb c d) (λ e. rw e (popped (both (eqb j k) _ e))) (λ e. rw e (down-now S F w well
-      d k)))
-    where
-      popped : (eqb j k ≡ true) × (eqb c d ≡ true) → WellDown S F w well d k (w .stopped d) ms
-      popped e =
-          let server = eqb-true j k (e .0) in
-          let client = eqb-true c d (e .1) in
-          record {
-            channel = well-rest FromServer (w .down d k) m ms (rw (server, client) at (en .channel)) (well
-                .down d k);
-            unused =
-                λ h. absurd (true-or-false _
-                (both-of (isClient S d) _ (rw client at (en .client)) (rw server at (en .server))) h);
-            drops = λ h. absurd (true-or-false _ h (rw client at (en .works)));
-          }
+      (at-channel (WellDown d k (w .stopped d)) j c k d ms (w .down d k)
+      (λ server client. record {
+        channel =
+            well-rest FromServer (w .down d k) m ms (rw (server, client) at (en .channel)) (well .down d k);
+        unused = λ h. absurd (true-or-false _
+            (both-of (isClient S d) _ (rw client at (en .client)) (rw server at (en .server))) h);
+        drops = λ h. absurd (true-or-false _ h (rw client at (en .works)));
+      })
+      (down-now d k))
   down-next (stops c) en d k =
       rw (nothing-put (w .stopped d) (cond (eqb c d) [] (w .down d k)))
       (by-test (eqb c d)
       (λ e. rw e (record { channel = well-empty FromServer; unused = λ h. refl; drops = λ h. refl }))
-      (λ e. rw (e, update-other (w .stopped) c d true (eqb-false c d e)) (down-now S F w well d k)))
+      (λ e. rw (e, update-other (w .stopped) c d true (eqb-false c d e)) (down-now d k)))
   down-next (lies j c m) en d k =
-      put-or-dropped (WellDown S F w well d k (w .stopped d)) (w .stopped d) (w .down d k) _ (down-now S F w
-      well d k)
-      (λ works. by-test (eqb j k && eqb c d) (λ e. rw e (lied works (both (eqb j k) _ e)))
-      (λ e. rw (e, append-nil (w .down d k)) (down-now S F w well d k)))
+      put-or-dropped (WellDown d k (w .stopped d)) (w .stopped d) (w .down d k) _ (down-now d k)
+      (λ works. at-channel (λ l. WellDown d k (w .stopped d) (w .down d k ++ l)) j c k d (m ∷ []) []
+      (λ server client. down-put d k (m ∷ []) (rw client at (en .client)) (rw server at (en .server)) works
+      (leb-true _ _ (unless (w .stopped d) _ (rw (server, client) at (en .room)) works)) kind)
+      (rw (append-nil (w .down d k)) (down-now d k)))
     where
       kind : (q : Message) → Member q (m ∷ []) → FromServer q
       kind q (inl e) = rw e (reply-kind m (en .reply) (lawful .fits (en .bytes) m (en .message)))
-
-      lied : w .stopped d ≡ false → (eqb j k ≡ true) × (eqb c d ≡ true)
-          → WellDown S F w well d k (w .stopped d) (w .down d k ++ m ∷ [])
-      lied works e =
-          let server = eqb-true j k (e .0) in
-          let client = eqb-true c d (e .1) in
-          down-put S F w well d k (m ∷ []) (rw client at (en .client)) (rw server at (en .server)) works
-          (leb-true _ _ (unless (w .stopped d) _ (rw (server, client) at (en .room)) works)) kind

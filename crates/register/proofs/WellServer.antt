@@ -1,30 +1,24 @@
--- A well-formed server stays well formed when it takes a message of a client.
+-- A well-formed server stays well formed when it serves a message of a client.
 --
--- Why: GET_INFO and DONE change one reader, the sender, who is a client; WRITE_INFO may bring a pair, and messages on
--- channels have their fields in their widths. What it sends is of the kinds that servers send, in the widths of what
--- it took.
+-- Why: GET_INFO and DONE change one reader, the sender, who is a client; WRITE_INFO may bring a pair, and
+-- messages on channels have their fields in their widths. What it sends is of the kinds that servers send,
+-- in the widths of what it served.
 -- Assumes nothing.
-use mathlib.Core.Path.{_≡_, refl, sym, ap, _∙_}
-use mathlib.Core.Bool.{Bool, true, false}
-use mathlib.Core.Logic.{inl, inr}
-use mathlib.Core.List.{List, [], _∷_}
-use Prim.Native.Nat.{ℕ, zero, suc, _^_, _<_}
-use lib.Dec.{eqb, ltb}
-use borrow.Author.Tests.{eqb-true}
+use Rattle.basics.proofs.Prelude.{_≡_, refl, Bool, true, false, inl, inr, List, [], _∷_, ℕ, _^_, _<_, eqb}
+use Rattle.basics.proofs.Prelude.{ltb, eqb-true}
 use Rattle.basics.specs.Update.{update}
 use Rattle.basics.specs.Members.{Member}
 use Rattle.basics.proofs.Cases.{by-test, by-either, true-or-false}
 use Rattle.basics.proofs.Members.{member-cases}
 use Rattle.basics.proofs.Update.{update-at}
-use Rattle.message.specs.declared.Message.{Message}
-use Rattle.message.specs.declared.Message.the-variants.{GetInfo, Info, Done, WriteInfo, Fwd, WriteAck}
-use Rattle.message.specs.declared.Pair.{Pair}
-use Rattle.message.specs.Pair.{stamp, counter}
+use Rattle.register.proofs.Vocabulary.{Message, GetInfo, Info, Done, WriteInfo, Fwd, WriteAck, Pair}
+use Rattle.register.proofs.Vocabulary.{stamp, counter}
 use Rattle.message.proofs.Pairs.{counter-fits}
 use Rattle.register.specs.Settings.{Settings, mostClients, isClient}
-use Rattle.register.specs.Server.{Server, stored, serverAfter, serverSends, forwards, Sent, sent}
+use Rattle.register.specs.Server.{Server, stored, nextServer, serverSends, forwards, Sent, sent}
 use Rattle.register.specs.Server.{sentTo}
 use Rattle.register.specs.WellFormed.{FromClient, FromServer, WellServer}
+use Rattle.register.proofs.Sends.{forwards-member}
 
 stored-fits : (p q : Pair) → p .0 < 2 ^ 64 → q .0 < 2 ^ 64 → stored p q .0 < 2 ^ 64
 unfolding stored
@@ -35,19 +29,15 @@ module _ (S : Settings) (s : Server) (d : ℕ) (client : isClient S d ≡ true) 
   reader-changed : (b : Bool) (e : ℕ) → isClient S e ≡ false → update (s .readers) d b e ≡ false
   reader-changed b e h =
       update-at (λ r. r ≡ false) (s .readers) d e b
-      (λ same. absurd (true-or-false (isClient S e) (ap (isClient S) (sym same)
-      ∙ client) h)) (λ other. well .readers e h)
+      (λ same. absurd (true-or-false (isClient S e) (rw same at client) h)) (λ other. well .readers e h)
 
-  pub well-after : (m : Message) → FromClient m → WellServer S (serverAfter s d m)
-  unfolding serverAfter
+  pub well-after : (m : Message) → FromClient m → WellServer S (nextServer s d m)
+  unfolding nextServer
   well-after (GetInfo t) f = record { pair = well .pair; readers = reader-changed true }
   well-after (Info t p) f = absurd f
   well-after Done f = record { pair = well .pair; readers = reader-changed false }
-  well-after (WriteInfo p) f = record {
-    pair = stored-fits (s .pair) p (well .pair) f;
-    readers = well
-        .readers;
-  }
+  well-after (WriteInfo p) f =
+      record { pair = stored-fits (s .pair) p (well .pair) f; readers = well .readers }
   well-after (Fwd p) f = absurd f
   well-after (WriteAck c) f = absurd f
 
@@ -57,26 +47,6 @@ module _ (S : Settings) (s : Server) (d : ℕ) (client : isClient S d ≡ true) 
 pub record WellSent (S : Settings) (x : Sent) : Type 0 where
   pub client : isClient S (x .to) ≡ true
   pub kind : FromServer (x .message)
-
--- a forwarded message goes to a reader and is FWD
-pub record Forwarded (readers : ℕ → Bool) (p : Pair) (x : Sent) : Type 0 where
-  pub reader : readers (x .to) ≡ true
-  pub is : x .message ≡ Fwd p
-
-pub forwarded : (readers : ℕ → Bool) (p : Pair) (n : ℕ) (x : Sent) → Member x (forwards readers p n)
-    → Forwarded readers p x
-unfolding forwards
-forwarded readers p zero x m = absurd m
-forwarded readers p (suc n) x m =
-    by-either (member-cases x (forwards readers p n) _ m) (λ h. forwarded readers p n x h)
-    (λ h. by-test (readers (suc n))
-    (λ e. by-either (rw e at h)
-    (λ q. record {
-      reader = ap (λ (y : Sent). readers (y .to)) q
-          ∙ e;
-      is = ap (λ (y : Sent). y .message) q;
-    }) (λ q. absurd q))
-    (λ e. absurd (rw e at h)))
 
 module _ (S : Settings) (s : Server) (d : ℕ) (client : isClient S d ≡ true) (well : WellServer S s) where
   well-reply : (m : Message) → FromServer m → (x : Sent) → Member x (sent d m ∷ []) → WellSent S x
@@ -89,8 +59,8 @@ module _ (S : Settings) (s : Server) (d : ℕ) (client : isClient S d ≡ true) 
   well-forward : (p : Pair) → p .0 < 2 ^ 64 → (x : Sent) → Member x (forwards (s .readers) p mostClients)
       → WellSent S x
   well-forward p f x h =
-      let g = forwarded (s .readers) p mostClients x h in
-      record { client = reader-client (x .to) (g .reader); kind = rw (g .is) f }
+      let g = forwards-member (s .readers) p mostClients (x .to) (x .message) h in
+      record { client = reader-client (x .to) (g .1); kind = rw (g .0) f }
 
   pub well-sends : (m : Message) → FromClient m → (x : Sent) → Member x (serverSends s d m) → WellSent S x
   unfolding serverSends
@@ -104,26 +74,6 @@ module _ (S : Settings) (s : Server) (d : ℕ) (client : isClient S d ≡ true) 
   well-sends (WriteAck c) f x h = absurd f
 
 -- ---- what goes to one client
-
--- a message to client e is the message of one that goes there
-pub record SentThere (e : ℕ) (l : List Sent) (m : Message) : Type 0 where
-  pub one : Sent
-  pub member : Member one l
-  pub to : one .to ≡ e
-  pub is : m ≡ one .message
-
-pub sent-there : (e : ℕ) (l : List Sent) (m : Message) → Member m (sentTo e l) → SentThere e l m
-unfolding sentTo
-sent-there e [] m h = absurd h
-sent-there e (x ∷ l) m h =
-    by-test (eqb (x .to) e)
-    (λ t. by-either (rw t at h)
-    (λ q. record { one = x; member = inl refl; to = eqb-true (x .to) e t; is = q }) (λ g. later (sent-there e
-    l m g)))
-    (λ t. later (sent-there e l m (rw t at h)))
-  where
-    later : SentThere e l m → SentThere e (x ∷ l) m
-    later r = record { one = r .one; member = inr (r .member); to = r .to; is = r .is }
 
 pub none-there : (e : ℕ) (l : List Sent) → ((x : Sent) → Member x l → x .to ≡ e → ⊥) → sentTo e l ≡ []
 unfolding sentTo

@@ -1,8 +1,8 @@
--- The history of a list of steps: its worlds, events and answers, and the operations that it holds (01, 'The words of demand 3').
+-- The history of a list of steps: worlds, events, answers and operations (01, 'The words of demand 3').
 --
--- In order: the run; when reads and writes begin and end; what a write sent; what is over at the end of the list.
--- An operation is named by the number of the step that began it, counted from 0. Everything follows from the settings and the
--- list by the rules of `World` and `Steps`.
+-- In order: the run; when reads and writes begin and end; what a write sent; what is over at the end of the
+-- list. An operation is named by the number of the step that began it, counted from 0. Everything follows
+-- from the settings and the list by the rules of `World` and `Steps`.
 -- Assumes nothing.
 use Prim.Native.Nat.{ℕ, zero, suc, _<_, _≤_}
 use mathlib.Core.Path.{_≡_}
@@ -86,8 +86,7 @@ module _ (S : Settings) (F : Formats) (steps : List Step) where
   abbrev pub Ends : ℕ → ℕ → Type 0
   Ends a j = ((d : ℕ) × (p : Pair) × ReadEnds a d j p) ⊎ ((d : ℕ) × WriteEnds a d j)
 
-  -- the write b of client d sends the pair p at step j: a D of its client, before the write has ended, puts WRITE_INFO with p on
-  -- channels
+  -- the write b of client d sends the pair p at step j: before it has ended, a D of d puts WRITE_INFO with p
   pub record Sends (b d j : ℕ) (p : Pair) : Type 0 where
     pub begins : WriteBegins b d
     pub later : b < j
@@ -112,8 +111,8 @@ module _ (S : Settings) (F : Formats) (steps : List Step) where
     pub sends : Sends b client at p
     pub only : (b′ d′ j′ : ℕ) → Sends b′ d′ j′ p → b′ ≡ b
 
-  -- client d is quiet after the list: it works, no WRITE_INFO is on its way to an honest server, whoever sent it, and nothing is
-  -- on the channels between client d and honest servers
+  -- client d is quiet after the list: it works; no WRITE_INFO, whoever sent it, is on its way to an honest
+  -- server; and nothing is on the channels between client d and honest servers
   pub record Quiet (d : ℕ) : Type 0 where
     pub client : isClient S d ≡ true
     pub works : lastWorld .stopped d ≡ false

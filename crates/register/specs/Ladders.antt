@@ -1,6 +1,6 @@
 -- The order of refusals of each step, by its tests, with the numbers of paper 01's table.
 --
--- Stated here once: the model gives each ladder its tests on a world (`Steps`), the code its own on what it holds.
+-- Stated here once: the model gives each ladder its tests on a world (`Steps`), the code its own tests.
 -- In order: R, W, K, D, C, L. That each rises is in `proofs/Ladders`.
 -- Assumes nothing.
 use mathlib.Core.Bool.{Bool}

@@ -1,7 +1,7 @@
--- The six steps, with any arguments: when each is refused, and which event it is (01, 'Rehearsal' and the table).
+-- The six steps, with any arguments: when each is refused, which event it is (01, 'Rehearsal', the table).
 --
 -- In order: the steps; room on channels; the tests of each step's ladder (`Ladders`); the event of a step.
--- Soundness (3) is not here, since every world of a run is well formed; the code's states are judged in `state`.
+-- Soundness (3) is not here: every world of a run is well formed, and `state` judges the code's states.
 -- Assumes nothing.
 use Prim.Native.Nat.{ℕ, suc, _+_}
 use mathlib.Core.Bool.{Bool, true, false, not, _&&_, _||_}
@@ -23,8 +23,9 @@ use Rattle.register.specs.declared.Phase.the-variants.{Reading, ReadingF
 use Rattle.register.specs.Settings.{Settings, servers, isServer, isClient, isHonest}
 use Rattle.register.specs.Server.{serverSends, sentTo}
 use Rattle.register.specs.Client.{isIdle}
-use Rattle.register.specs.Ladders.{readLadder, writeLadder, serveLadder, takeLadder, stopLadder, lieLadder}
-use Rattle.register.specs.World.{World, Event, refuses, begins, serves, takes, stops, lies, takenBy}
+use Rattle.register.specs.Ladders.{readLadder, writeLadder, serveLadder}
+use Rattle.register.specs.Ladders.{takeLadder, stopLadder, lieLadder}
+use Rattle.register.specs.World.{World, Event, refuses, begins, serves, takes, stops, lies, responseOf}
 
 -- R d, W d entry, K k d, D d k, C d, and L k d with any bytes
 pub data Step : Type 0 where
@@ -72,7 +73,7 @@ module _ (S : Settings) (F : Formats) where
   unfoldable pub roomUp : World → ℕ → ℕ → Bool
   roomUp w d more = allBelow (λ i. not (isHonest S (suc i)) || hasRoom (w .up d (suc i)) more) (servers S)
 
-  -- every channel from server k that does not drop has room for what the server sends after message m of client d
+  -- each channel from server k that does not drop has room for what follows message m of client d
   unfoldable pub roomDown : World → ℕ → ℕ → Message → Bool
   roomDown w k d m =
       allBelow
@@ -85,14 +86,14 @@ module _ (S : Settings) (F : Formats) where
       readLadder (not (isClient S d)) (w .stopped d) (not (isIdle (w .clients d .phase)))
       (leb lastRead (w .clients d .reads .0)) (not (roomUp w d 2))
   ladder w (W d e) =
-      writeLadder (not (isClient S d)) (w .stopped d) (not (isIdle (w .clients d .phase))) (not (F .isLicence e))
-      (leb lastRead (w .clients d .reads .0)) (not (roomUp w d 3))
+      writeLadder (not (isClient S d)) (w .stopped d) (not (isIdle (w .clients d .phase)))
+      (not (F .isLicence e)) (leb lastRead (w .clients d .reads .0)) (not (roomUp w d 3))
   ladder w (K k d) =
       serveLadder (not (isClient S d && isServer S k)) (S .faulty k) (isEmpty (w .up d k))
       (not (roomDown w k d (oldest (w .up d k))))
   ladder w (D d k) =
       takeLadder (not (isClient S d && isServer S k)) (w .stopped d) (isEmpty (w .down d k))
-      (not (roomUp w d (length (takenBy S w d k (oldest (w .down d k)) .sends))))
+      (not (roomUp w d (length (responseOf S w d k (oldest (w .down d k)) .sends))))
   ladder w (C d) = stopLadder (not (isClient S d)) (w .stopped d)
   ladder w (L k d bytes) =
       lieLadder (not (isClient S d && isServer S k)) (not (S .faulty k)) (not (isReply (F .unpack bytes)))

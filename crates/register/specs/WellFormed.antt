@@ -68,18 +68,19 @@ pub record WellSet (l : List Pair) : Type 0 where
   pub pairs : (p : Pair) → Member p l → p .0 < 2 ^ 64
 
 -- a client
-pub record WellClient (S : Settings) (F : Formats) (x : Client) : Type 0 where
+pub record WellClient (S : Settings) (F : Formats) (self : Client) : Type 0 where
   -- its parts are in range
-  pub phase : WellPhase F (x .phase)
-  pub reads : x .reads .0 < 2 ^ 20
-  pub noted : (k t : ℕ) → x .noted k ≡ some t → t < 2 ^ 24
-  pub sets : (k : ℕ) → WellSet (x .sets k)
+  pub phase : WellPhase F (self .phase)
+  pub reads : self .reads .0 < 2 ^ 20
+  pub noted : (k t : ℕ) → self .noted k ≡ some t → t < 2 ^ 24
+  pub sets : (k : ℕ) → WellSet (self .sets k)
   -- noted timestamps and sets: none outside a reading phase, and none of what is no server
-  pub notedUnused : (k : ℕ) → isServer S k && isReading (x .phase) ≡ false → x .noted k ≡ none
-  pub setsUnused : (k : ℕ) → isServer S k && isReading (x .phase) ≡ false → x .sets k ≡ []
+  pub notedUnused : (k : ℕ) → isServer S k && isReading (self .phase) ≡ false → self .noted k ≡ none
+  pub setsUnused : (k : ℕ) → isServer S k && isReading (self .phase) ≡ false → self .sets k ≡ []
   -- acknowledgements: none of what is no server, and none outside storing
-  pub acksUnused : (k : ℕ) → isServer S k ≡ false → x .acks k ≡ false
-  pub acksIdle : ((e : Entry) (c : WriteCounter) → x .phase ≡ Storing e c → ⊥) → (k : ℕ) → x .acks k ≡ false
+  pub acksUnused : (k : ℕ) → isServer S k ≡ false → self .acks k ≡ false
+  pub acksIdle : ((e : Entry) (c : WriteCounter) → self .phase ≡ Storing e c → ⊥)
+      → (k : ℕ) → self .acks k ≡ false
 
 -- a world
 pub record WellFormed (S : Settings) (F : Formats) (w : World) : Type 0 where

@@ -1,7 +1,8 @@
 -- The system at one moment, what happens in it, and what each happening changes (01, 'Rehearsal').
 --
--- In order: the world; the setup; events; what an event puts on channels, which channels drop, what it leaves there; the next
--- world and the answer. Which event a step is, and when it is refused, is in `Steps`; nothing here refuses.
+-- In order: the world; the setup; events; what an event puts on channels, which channels drop, what it
+-- leaves there; the next world and the answer. Which event a step is, and when it is refused, is in
+-- `Steps`; nothing here refuses.
 -- Assumes nothing.
 use Prim.Native.Nat.{ℕ}
 use mathlib.Core.Bool.{Bool, true, false, cond, _&&_}
@@ -15,11 +16,11 @@ use Rattle.register.specs.declared.Answer.{Answer}
 use Rattle.register.specs.declared.Answer.the-variants.{Went, Refused}
 use Rattle.register.specs.declared.Phase.{Phase}
 use Rattle.register.specs.Settings.{Settings, servers, isServer}
-use Rattle.register.specs.Server.{Server, newServer, serverAfter, serverSends, sentTo}
-use Rattle.register.specs.Client.{Client, newClient, nextRead, started, Taken, clientTakes}
+use Rattle.register.specs.Server.{Server, newServer, nextServer, serverSends, sentTo}
+use Rattle.register.specs.Client.{Client, newClient, nextRead, started, Response, clientTakes}
 
--- servers and clients by number; which clients have stopped; up d k is the channel (01: wire) from client d to server k, down d k
--- the one from server k to client d, the oldest message first
+-- servers and clients by number; which clients have stopped; up d k is the channel (01: wire) from client d
+-- to server k, down d k the one from server k to client d, the oldest message first
 pub record World : Type 0 where
   pub servers : ℕ → Server
   pub clients : ℕ → Client
@@ -38,8 +39,9 @@ newWorld =
       down = λ d k. [];
     }
 
--- what can happen: nothing, for a refusal; client d starts in a phase (R, W); server k takes message m of client d (K), client d
--- takes message m of server k (D), and leaves the rest; client d stops (C); faulty server k puts m on its channel to d (L)
+-- what can happen: nothing, for a refusal; client d starts in a phase (R, W); server k serves message m of
+-- client d (K), client d takes message m of server k (D), and leaves the rest; client d stops (C); faulty
+-- server k puts m on its channel to d (L)
 pub data Event : Type 0 where
   refuses : Refusal → Event
   begins : ℕ → Phase → Event
@@ -49,16 +51,16 @@ pub data Event : Type 0 where
   lies : (k d : ℕ) → Message → Event
 
 module _ (S : Settings) where
-  -- what client d makes of message m of server k
-  abbrev pub takenBy : World → ℕ → ℕ → Message → Taken
-  takenBy w d k m = clientTakes (servers S) (S .f) d (w .clients d) k m
+  -- the response of client d to message m of server k
+  abbrev pub responseOf : World → ℕ → ℕ → Message → Response
+  responseOf w d k m = clientTakes (servers S) (S .f) d (w .clients d) k m
 
   -- what an event puts on the channel from client d to server k
   unfoldable pub putsUp : World → Event → ℕ → ℕ → List Message
   putsUp w (refuses r) d k = []
   putsUp w (begins c ph) d k = cond (eqb c d && isServer S k) (GetInfo (nextRead (w .clients c)) ∷ []) []
   putsUp w (serves j c m ms) d k = []
-  putsUp w (takes c j m ms) d k = cond (eqb c d && isServer S k) (takenBy w c j m .sends) []
+  putsUp w (takes c j m ms) d k = cond (eqb c d && isServer S k) (responseOf w c j m .sends) []
   putsUp w (stops c) d k = []
   putsUp w (lies j c m) d k = []
 
@@ -71,7 +73,7 @@ module _ (S : Settings) where
   putsDown w (stops c) d k = []
   putsDown w (lies j c m) d k = cond (eqb j k && eqb c d) (m ∷ []) []
 
-  -- what an event leaves of what was on a channel: a taken message is off, and C empties the channels to its client
+  -- what an event leaves on a channel: K and D take the oldest message off, C empties those to its client
   unfoldable pub leavesUp : World → Event → ℕ → ℕ → List Message
   leavesUp w (refuses r) d k = w .up d k
   leavesUp w (begins c ph) d k = w .up d k
@@ -99,7 +101,7 @@ module _ (S : Settings) where
   unfoldable pub nextServers : World → Event → ℕ → Server
   nextServers w (refuses r) = w .servers
   nextServers w (begins c ph) = w .servers
-  nextServers w (serves j c m ms) = update (w .servers) j (serverAfter (w .servers j) c m)
+  nextServers w (serves j c m ms) = update (w .servers) j (nextServer (w .servers j) c m)
   nextServers w (takes c j m ms) = w .servers
   nextServers w (stops c) = w .servers
   nextServers w (lies j c m) = w .servers
@@ -108,7 +110,7 @@ module _ (S : Settings) where
   nextClients w (refuses r) = w .clients
   nextClients w (begins c ph) = update (w .clients) c (started (w .clients c) ph)
   nextClients w (serves j c m ms) = w .clients
-  nextClients w (takes c j m ms) = update (w .clients) c (takenBy w c j m .client)
+  nextClients w (takes c j m ms) = update (w .clients) c (responseOf w c j m .client)
   nextClients w (stops c) = w .clients
   nextClients w (lies j c m) = w .clients
 
@@ -131,11 +133,11 @@ module _ (S : Settings) where
         down = nextDown w e;
       }
 
-  -- 01's answer of a step: WENT, or what a taken message comes to (READ, WROTE, SPENT), or REFUSED 4 to 12
+  -- the answer of a step: WENT, or a client's to a message (READ, WROTE, SPENT), or REFUSED 4 to 12
   unfoldable pub answerOf : World → Event → Answer
   answerOf w (refuses r) = Refused r
   answerOf w (begins c ph) = Went
   answerOf w (serves j c m ms) = Went
-  answerOf w (takes c j m ms) = takenBy w c j m .answer
+  answerOf w (takes c j m ms) = responseOf w c j m .answer
   answerOf w (stops c) = Went
   answerOf w (lies j c m) = Went

@@ -1,14 +1,10 @@
 -- The program in a session: before step q of its history, its memory is that of the history's world. A step
--- that it takes there is answered as the history says, and leaves the memory of the next world.
+-- that it makes there is answered as the history has it, and leaves the memory of the next world.
 --
 -- Why: every world of a history is well formed (`register`), and a step of the stored form of such a world is
 -- the model's step, stored (`Histories.stored-stepped`).
 -- Assumes nothing.
-use mathlib.Core.Path.{_≡_, sym, ap, _∙_}
-use mathlib.Core.Bool.{true}
-use mathlib.Core.List.{List}
-use Prim.Native.Nat.{ℕ, suc}
-use lib.ListN.{getD}
+use Rattle.basics.proofs.Prelude.{_≡_, true, List, getD, ℕ, suc}
 use Rattle.register.specs.declared.Step.{Step}
 use Rattle.register.specs.Formats.{formats}
 use Rattle.register.specs.History.{worldAt, answerAt}
@@ -19,10 +15,9 @@ use Rattle.register.proofs.Reachable.{well-formed}
 use Rattle.state.specs.declared.Settings.{Settings}
 use Rattle.state.specs.State.{settingsOf, stepOf, storeServers, storeClients, storeSlots}
 use Rattle.state.proofs.SoundFacts.{Allowed}
-use Rattle.steps.specs.Inner.{After, after}
-use Rattle.system.specs.Step.{storedBy}
+use Rattle.steps.specs.After.{After, after}
 use Rattle.system.proofs.Histories.{stored-stepped}
-use Rattle.rehearse.specs.Saying.{Stage, stage, stepOn}
+use Rattle.rehearse.specs.Stage.{Stage, stage, stepOn}
 
 module _ (t : Settings) (steps : List model.Step) where
   -- the world before step q
@@ -33,7 +28,7 @@ module _ (t : Settings) (steps : List model.Step) where
   abbrev pub stageAt : ℕ → ℕ → Stage
   stageAt q n = stage true t (storeServers (world q)) (storeClients (world q)) (storeSlots (world q)) n
 
-  -- what the history says of step q
+  -- what the history has of step q
   abbrev pub answered : ℕ → After
   answered q =
       after (answerAt (settingsOf t) formats steps q) (storeServers (world (suc q)))
@@ -43,7 +38,5 @@ module _ (t : Settings) (steps : List model.Step) where
       → stepOn (stageAt q n) x ≡ answered q
   unfolding worldAt
   step-answered allowed q n x e =
-      stored-stepped t allowed (world q)
-      (well-formed (settingsOf t) formats (allowed .accepted) lawful steps q) x
-      ∙ ap (λ (y : model.Step). storedBy t (world q) (model.eventOf (settingsOf t) formats (world q) y))
-      (sym e)
+      let well = well-formed (settingsOf t) formats (allowed .accepted) lawful steps q in
+      cc (stored-stepped t allowed (world q) well x, e)

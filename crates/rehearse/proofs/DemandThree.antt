@@ -6,11 +6,7 @@
 -- accepted settings demand 3 holds of every list of steps (`register`).
 -- In order: the outputs from an accepted S on; the session in a script; the program.
 -- Assumes nothing.
-use mathlib.Core.Path.{_≡_, refl, sym, ap, subst, _∙_}
-use mathlib.Core.List.{List, _∷_, _++_}
-use mathlib.Core.Option.{some}
-use Prim.Native.Nat.{ℕ}
-use lib.ListN.{length}
+use Rattle.basics.proofs.Prelude.{_≡_, refl, sym, ap, _∙_, subst, List, _∷_, _++_, some, length, ℕ}
 use Rattle.register.specs.Settings.{Settings}
 use Rattle.register.proofs.Theorem.{demand-three}
 use Rattle.script.specs.declared.parse.Line.{Line}
@@ -19,7 +15,7 @@ use Rattle.script.specs.declared.print.Output.the-variants as output
 use Rattle.script.specs.Lines.{linesOf}
 use Rattle.script.specs.Numerals.{nextNumber}
 use Rattle.state.specs.State.{settingsOf}
-use Rattle.rehearse.specs.Saying.{Stage}
+use Rattle.rehearse.specs.Stage.{Stage}
 use Rattle.rehearse.specs.Blocks.{beginning, inputOf}
 use Rattle.rehearse.specs.Sessions.{acceptedBy, NoneAccepted, stepsOf, sessionOutputs, linesIn}
 use Rattle.rehearse.specs.Sessions.{Session, Rehearsed}
@@ -40,9 +36,10 @@ module _ {p : Stage} {s : Line} {S : Settings} (b : Begun p s S) (between after�
   abbrev later : List Output
   later = outputsOf (stageBehind first between) after′
 
-  said : outputsOf p (s ∷ between ++ after′) ≡ sessionOutputs (settingsOf (b .settings)) between ++ later
+  session-outputs : outputsOf p (s ∷ between ++ after′)
+      ≡ sessionOutputs (settingsOf (b .settings)) between ++ later
   unfolding outputsOf
-  said =
+  session-outputs =
       (λ i. b .prints i ∷ outputsOf (b .leaves (stepsOf between) i) (between ++ after′))
       ∙ ap (λ (os : List Output). output.Set ∷ os)
       (outputs-then first between after′
@@ -64,7 +61,7 @@ session p before between after′ s S e plain =
       many = outputs-many p before;
       answers =
           outputs-then p before (s ∷ between ++ after′)
-          ∙ ap (λ (os : List Output). outputsOf p before ++ os) (said b between after′ plain);
+          ∙ ap (λ (os : List Output). outputsOf p before ++ os) (session-outputs b between after′ plain);
       demand = demand-three (settingsOf (b .settings)) (b .allowed .accepted) (stepsOf between);
     })
 

@@ -2,9 +2,9 @@ pub mod Printing
 pub mod Scripts
 pub mod Staying
 pub mod Obeying
-pub mod Taking
+pub mod SoFar
 pub mod Closing
-pub mod Going
+pub mod Between
 pub mod Whole
 pub mod Outputs
 pub mod Answering

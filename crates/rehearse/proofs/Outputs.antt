@@ -3,33 +3,27 @@
 -- Why: every line is counted, whatever it is, up to the last number of 64 bits.
 -- In order: the outputs of lines, and of lines behind lines; the numbers; the text.
 -- Assumes nothing.
-use mathlib.Core.Path.{_≡_, refl, ap, _∙_}
-use mathlib.Core.Bool.{Bool, true, false, cond}
-use mathlib.Core.List.{List, [], _∷_, _++_, map}
-use Prim.Native.Nat.{ℕ, suc}
-use native.Mathlib.Omega.{arith}
-use lib.Dec.{ltb}
-use lib.ListN.{length}
-use borrow.Author.Tests.{ltb-true, ltb-false}
+use Rattle.basics.proofs.Prelude.{_≡_, refl, ap, _∙_, Bool, true, false, cond, List, [], _∷_, _++_, length, ℕ}
+use Rattle.basics.proofs.Prelude.{suc, arith, ltb, ltb-true, ltb-false}
+use mathlib.Core.List.{map}
 use Rattle.basics.proofs.Cases.{by-test}
 use Rattle.script.specs.declared.parse.Line.{Line}
 use Rattle.script.specs.declared.parse.Line.the-variants as line
 use Rattle.script.specs.declared.print.Output.{Output}
 use Rattle.script.specs.Grammar.{lineOf}
 use Rattle.script.specs.Numerals.{nextNumber}
-use Rattle.script.specs.Printed.{printed}
-use Rattle.steps.specs.Inner.{After}
+use Rattle.steps.specs.After.{After}
 use Rattle.system.specs.declared.setup.Setup.{Setup}
 use Rattle.system.specs.declared.setup.Setup.the-variants as setup
 use Rattle.system.specs.Setup.{setupOf}
-use Rattle.rehearse.specs.Saying.{Stage, stepOn, counted, moved, setUp, says, after, textOf}
+use Rattle.rehearse.specs.Stage.{Stage, stepOn, counted, moved, setUp, outputOf, after, textOf}
 use Rattle.rehearse.specs.Sessions.{numberAt, textFrom}
 
 -- ---- the outputs of lines
 
 unfoldable pub outputsOf : Stage → List Line → List Output
 outputsOf p [] = []
-outputsOf p (l ∷ ls) = says p l ∷ outputsOf (after p l) ls
+outputsOf p (l ∷ ls) = outputOf p l ∷ outputsOf (after p l) ls
 
 -- what is known behind them
 unfoldable pub stageBehind : Stage → List Line → Stage
@@ -45,7 +39,7 @@ pub outputs-then : (p : Stage) (ls ks : List Line)
     → outputsOf p (ls ++ ks) ≡ outputsOf p ls ++ outputsOf (stageBehind p ls) ks
 unfolding outputsOf stageBehind
 outputs-then p [] ks = refl
-outputs-then p (l ∷ ls) ks = ap (λ (os : List Output). says p l ∷ os) (outputs-then (after p l) ls ks)
+outputs-then p (l ∷ ls) ks = ap (λ (os : List Output). outputOf p l ∷ os) (outputs-then (after p l) ls ks)
 
 -- ---- the numbers
 
@@ -61,7 +55,7 @@ step-counted p o false = refl
 line-counted : (p : Stage) (l : Line) → after p l .number ≡ nextNumber (p .number)
 unfolding after
 line-counted p (line.Setup f c m) = setup-counted p (setupOf f c m)
-line-counted p (line.Take x) = step-counted p (stepOn p x) (p .isSet)
+line-counted p (line.Do x) = step-counted p (stepOn p x) (p .isSet)
 line-counted p line.Unread = refl
 
 -- the next place has the next number
@@ -79,6 +73,4 @@ unfolding textOf textFrom outputsOf
 text-is p n [] e = refl
 text-is p n (l ∷ ls) e =
     let x : Line = lineOf l in
-    ap (λ (t : List ℕ). printed (p .number) (says p x) ++ t)
-    (text-is (after p x) (suc n) ls (line-counted p x ∙ ap nextNumber e ∙ next-place n))
-    ∙ ap (λ (k : ℕ). printed k (says p x) ++ textFrom (suc n) (outputsOf (after p x) (map lineOf ls))) e
+    cc (text-is (after p x) (suc n) ls (line-counted p x ∙ ap nextNumber e ∙ next-place n), e)

@@ -1,12 +1,9 @@
 -- Whatever the lines, the state stays sound.
 --
--- Why: a step keeps a sound state sound (`Histories.kept`), and a state at setup is sound where the settings are allowed, as
--- those of an accepted setup are, and those that the program starts with.
+-- Why: a step keeps a sound state sound (`Histories.kept`), and a state at setup is sound where the
+-- settings are allowed, as those of an accepted setup are, and those that the program starts with.
 -- Assumes nothing.
-use mathlib.Core.Path.{_≡_, refl, sym, subst}
-use mathlib.Core.Bool.{Bool, true, cond}
-use mathlib.Core.List.{List, [], _∷_}
-use Prim.Native.Nat.{ℕ}
+use Rattle.basics.proofs.Prelude.{_≡_, refl, sym, subst, Bool, true, cond, List, [], _∷_, ℕ}
 use Rattle.basics.proofs.Cases.{by-test}
 use Rattle.basics.specs.Counting.{countBelow}
 use Rattle.basics.specs.Tests.{allBelow}
@@ -28,7 +25,7 @@ use Rattle.system.specs.declared.setup.Setup.the-variants.{Set, Refused}
 use Rattle.system.specs.Setup.{settingsBy, setupOf}
 use Rattle.system.proofs.Histories.{kept}
 use Rattle.system.proofs.SetupLaws.{allowed-set}
-use Rattle.rehearse.specs.Saying.{Stage, stepOn, counted, moved, setUp, after, stageAfter}
+use Rattle.rehearse.specs.Stage.{Stage, stepOn, counted, moved, setUp, after, stageAfter}
 use Rattle.rehearse.specs.Blocks.{beginning}
 
 abbrev pub Sound : Stage → Type 0
@@ -36,7 +33,8 @@ Sound p = isSound (p .settings) (p .servers) (p .clients) (p .slots) ≡ true
 
 -- ---- a state at setup
 
-new-sound : (t : Settings) → Allowed t → isSound t (storeServers newWorld) (storeClients newWorld) (storeSlots newWorld) ≡ true
+new-sound : (t : Settings) → Allowed t
+    → isSound t (storeServers newWorld) (storeClients newWorld) (storeSlots newWorld) ≡ true
 new-sound t allowed = stored-state t allowed newWorld (well-new (settingsOf t) formats)
 
 -- that of the settings that the program starts with
@@ -56,7 +54,7 @@ set-sound p f c m (Refused n) e h = h
 pub line-sound : (p : Stage) (l : Line) → Sound p → Sound (after p l)
 unfolding after
 line-sound p (line.Setup f c m) h = set-sound p f c m (setupOf f c m) refl h
-line-sound p (line.Take x) h =
+line-sound p (line.Do x) h =
     let o = stepOn p x in
     by-test (p .isSet)
     (λ t. subst (λ (i : Bool). Sound (cond i (moved p o) (counted p))) (sym t)

@@ -1,9 +1,9 @@
 -- A block of input and its lines, and the program on a whole input that comes in parts.
 --
--- In order: the whole lines of a text, and the line that is cut; what the lines of a block leave; a block of what was kept and what
--- was read; the program, part by part.
+-- In order: the whole lines of a text, and the line that is cut; what the lines of a block leave; a block
+-- of what was kept and what was read; the program, part by part.
 -- Assumes nothing.
-use Prim.Native.Nat.{ℕ, _+_}
+use Prim.Native.Nat.{ℕ, _+_, _*_}
 use mathlib.Core.Path.{_≡_}
 use mathlib.Core.Bool.{Bool, false}
 use mathlib.Core.List.{List, [], _∷_, _++_}
@@ -11,13 +11,14 @@ use lib.ListN.{length, take, drop}
 use Rattle.script.specs.declared.print.Numeral.{Numeral}
 use Rattle.script.specs.Lines.{wholeLines, most}
 use Rattle.script.specs.Numerals.{numeralOf}
+use Rattle.script.specs.Printed.{longest}
 use Rattle.script.specs.Writing.{Written}
 use Rattle.register.specs.World.{newWorld}
 use Rattle.state.specs.declared.Settings.{Settings}
 use Rattle.state.specs.State.{storeServers, storeClients, storeSlots}
 use Rattle.system.specs.Setup.{settingsBy}
 use Rattle.rehearse.specs.declared.lines.Turn.{Turn}
-use Rattle.rehearse.specs.Saying.{Stage, stage, textOf, stageAfter}
+use Rattle.rehearse.specs.Stage.{Stage, stage, textOf, stageAfter}
 
 -- ---- the whole lines of a text, and what stands behind them
 
@@ -33,20 +34,28 @@ cutLine s = drop (lengthOf (wholeLines s)) s
 -- ---- what the lines of a block leave
 
 abbrev pub turnOf : Settings → Bool → Numeral → (at used : ℕ) → Turn
-turnOf t isSet number at used = record { settings = t; «is_set» = isSet; number = number; at = at; used = used }
+turnOf t isSet number at used =
+    record { settings = t; «is_set» = isSet; number = number; at = at; used = used }
 
 -- what the program knows, with its memory
 abbrev pub stageIn : Turn → List ℕ → List ℕ → List ℕ → Stage
 stageIn q s c b = stage (q .«is_set») (q .settings) s c b (q .number .number)
 
--- every whole line is taken: its text is written, and the program knows what it knows after it
-pub record LinesTaken (q : Turn) (input s c b out : List ℕ) (z : Turn) (s′ c′ b′ out′ : List ℕ) : Type 0 where
+-- every whole line is obeyed: its text is written, and the program knows what it knows after it
+pub record LinesDone (q : Turn) (input s c b out : List ℕ) (z : Turn) (s′ c′ b′ out′ : List ℕ) : Type 0 where
   pub state : stageIn z s′ c′ b′ ≡ stageAfter (stageIn q s c b) (wholeLines input)
   pub numeral : z .number ≡ numeralOf (z .number .number)
   pub text : Written (textOf (stageIn q s c b) (wholeLines input)) out 0 (z .used) out′
   pub place : z .at ≡ lengthOf (wholeLines input)
 
 -- ---- a block
+
+-- its bytes, at most, and those that its lines print
+abbrev pub inputBytes : ℕ
+inputBytes = 16384
+
+abbrev pub outputBytes : ℕ
+outputBytes = inputBytes * longest
 
 -- the last line gets its end, if there is one
 abbrev pub closed : List ℕ → List ℕ
@@ -55,29 +64,30 @@ closed (x ∷ xs) = x ∷ xs ++ 10 ∷ []
 
 -- what was kept, and what was read behind it; where nothing was, the input has ended
 abbrev pub joined : List ℕ → List ℕ → List ℕ
-joined left [] = closed left
-joined left (x ∷ xs) = left ++ x ∷ xs
+joined cut [] = closed cut
+joined cut (x ∷ xs) = cut ++ x ∷ xs
 
 -- ---- the program, part by part
 
 -- what it knows, what it keeps of a line that is cut, and all that it has written
 pub record Progress : Type 0 where
   pub known : Stage
-  pub left : List ℕ
-  pub said : List ℕ
+  pub cut : List ℕ
+  pub wrote : List ℕ
 
 abbrev pub progress : Stage → List ℕ → List ℕ → Progress
-progress p left said = record { known = p; left = left; said = said }
+progress p cut wrote = record { known = p; cut = cut; wrote = wrote }
 
 -- at first no setup was accepted, and the next line is number 0; no step reaches the system that is there
 abbrev pub beginning : Stage
-beginning = stage false (settingsBy 0 1 0) (storeServers newWorld) (storeClients newWorld) (storeSlots newWorld) 0
+beginning =
+    stage false (settingsBy 0 1 0) (storeServers newWorld) (storeClients newWorld) (storeSlots newWorld) 0
 
 -- it reads some bytes, and writes the text of the lines that are then whole
 abbrev pub turn : Progress → List ℕ → Progress
 turn g bytes =
-    progress (stageAfter (g .known) (wholeLines (g .left ++ bytes))) (take most (cutLine (g .left ++ bytes)))
-    (g .said ++ textOf (g .known) (wholeLines (g .left ++ bytes)))
+    progress (stageAfter (g .known) (wholeLines (g .cut ++ bytes))) (take most (cutLine (g .cut ++ bytes)))
+    (g .wrote ++ textOf (g .known) (wholeLines (g .cut ++ bytes)))
 
 unfoldable pub turns : Progress → List (List ℕ) → Progress
 turns g [] = g
@@ -85,7 +95,7 @@ turns g (x ∷ xs) = turns (turn g x) xs
 
 -- all that it has written when the input has ended
 abbrev pub ending : Progress → List ℕ
-ending g = g .said ++ textOf (g .known) (wholeLines (closed (g .left)))
+ending g = g .wrote ++ textOf (g .known) (wholeLines (closed (g .cut)))
 
 -- the whole input
 unfoldable pub inputOf : List (List ℕ) → List ℕ

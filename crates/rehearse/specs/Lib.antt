@@ -1,3 +1,3 @@
-pub mod Saying
+pub mod Stage
 pub mod Blocks
 pub mod Sessions

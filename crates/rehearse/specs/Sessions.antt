@@ -29,7 +29,7 @@ use Rattle.state.specs.State.{settingsOf, stepOf}
 use Rattle.system.specs.declared.setup.Setup.{Setup}
 use Rattle.system.specs.declared.setup.Setup.the-variants as setup
 use Rattle.system.specs.Setup.{setupOf}
-use Rattle.rehearse.specs.Saying.{setupSays}
+use Rattle.rehearse.specs.Stage.{setupOutput}
 use Rattle.rehearse.specs.Blocks.{progress, beginning, turns, ending, inputOf}
 
 -- ---- what lines are
@@ -41,7 +41,7 @@ acceptedIn (setup.Refused n) = none
 
 unfoldable pub acceptedBy : Line → Option Settings
 acceptedBy (line.Setup f c m) = acceptedIn (setupOf f c m)
-acceptedBy (line.Take x) = none
+acceptedBy (line.Do x) = none
 acceptedBy line.Unread = none
 
 -- no line of these is an accepted S
@@ -52,7 +52,7 @@ NoneAccepted ls = (l : Line) → Member l ls → acceptedBy l ≡ none
 unfoldable pub stepsOf : List Line → List Step
 stepsOf [] = []
 stepsOf (line.Setup f c m ∷ ls) = stepsOf ls
-stepsOf (line.Take x ∷ ls) = stepOf x ∷ stepsOf ls
+stepsOf (line.Do x ∷ ls) = stepOf x ∷ stepsOf ls
 stepsOf (line.Unread ∷ ls) = stepsOf ls
 
 -- ---- what is printed for the lines of a session
@@ -60,8 +60,8 @@ stepsOf (line.Unread ∷ ls) = stepsOf ls
 -- one output for each line: the first step gets answer q, the next step answer q + 1, and so on
 unfoldable pub outputsBy : (ℕ → Answer) → ℕ → List Line → List Output
 outputsBy answer q [] = []
-outputsBy answer q (line.Setup f c m ∷ ls) = setupSays (setupOf f c m) ∷ outputsBy answer q ls
-outputsBy answer q (line.Take x ∷ ls) = output.Answered (answer q) ∷ outputsBy answer (suc q) ls
+outputsBy answer q (line.Setup f c m ∷ ls) = setupOutput (setupOf f c m) ∷ outputsBy answer q ls
+outputsBy answer q (line.Do x ∷ ls) = output.Answered (answer q) ∷ outputsBy answer (suc q) ls
 outputsBy answer q (line.Unread ∷ ls) = output.Unread ∷ outputsBy answer q ls
 
 -- SET, and behind it the answers of the history that the steps have from the settings S on

@@ -4,11 +4,11 @@ ghost use mathlib.Core.Bool.{true};
 ghost use mathlib.Core.Path.{_≡_};
 ghost use lib.ListN.{length};
 ghost use Rattle.script.specs.Numerals.{numeralOf};
-ghost use Rattle.script.specs.Printed.{printed};
+ghost use Rattle.script.specs.Printed.{printed, longest};
 ghost use Rattle.script.specs.Writing.{Written};
 ghost use Rattle.state.specs.Sound.{isSound};
-ghost use Rattle.rehearse.specs.Saying.{stage, Obeys};
-ghost use Rattle.rehearse.specs.Blocks.{turnOf, LinesTaken};
+ghost use Rattle.rehearse.specs.Stage.{stage, Obeys};
+ghost use Rattle.rehearse.specs.Blocks.{turnOf, LinesDone};
 use channel::Slots;
 use register::Answer;
 use script::next::next;
@@ -24,8 +24,8 @@ use steps::step::take_step;
 use system::setup::Setup;
 use system::setup::set_up;
 
-// What the lines of a block leave: the settings, whether a setup was accepted, the next line's number, where the line that is cut
-// begins, and how much output there is.
+// What the lines of a block leave: the settings, whether a setup was accepted, the next line's number,
+// where the line that is cut begins, and how much output there is.
 pub struct Turn {
     pub settings: Settings,
     pub is_set: bool,
@@ -35,7 +35,7 @@ pub struct Turn {
 }
 
 pub fn turn_of(settings: Settings, is_set: bool, number: Numeral, at: usize, used: usize) -> Turn
-    ensures { λ z. ⌜ z ≡ turnOf settings «is_set» number at used ⌝ }
+    ensures { λ r. ⌜ r ≡ turnOf settings «is_set» number at used ⌝ }
 {
     Turn {
         settings: settings,
@@ -48,7 +48,7 @@ pub fn turn_of(settings: Settings, is_set: bool, number: Numeral, at: usize, use
 
 // Writes a line behind what is written, and answers where it ends.
 fn put_line(out: &mut [u8], used: usize, number: Numeral, what: Output) -> usize
-    requires { ⌜ (used + 80 ≤ length (now out)) × (number ≡ numeralOf (number .number)) ⌝ }
+    requires { ⌜ (used + longest ≤ length (now out)) × (number ≡ numeralOf (number .number)) ⌝ }
     ensures { λ r. ⌜ Written (printed (number .number) what) (now (out .entry)) used r (now (out .exit)) ⌝ }
 {
     used + print_numbered(&mut out[used..], number, what)
@@ -63,92 +63,104 @@ struct Obeyed {
     is_set: bool,
 }
 
-fn obeyed_of(t: Settings, is_set: bool, what: Output) -> Obeyed
-    ensures { λ r. ⌜ r ≡ record { what = what; settings = t; «is_set» = «is_set» } ⌝ }
+fn obeyed_of(settings: Settings, is_set: bool, what: Output) -> Obeyed
+    ensures { λ r. ⌜ r ≡ record { what = what; settings = settings; «is_set» = «is_set» } ⌝ }
 {
     Obeyed {
         what: what,
-        settings: t,
+        settings: settings,
         is_set: is_set,
     }
 }
 
 // An accepted setup sets up afresh, a refused one keeps the present system, or none.
 fn set_afresh(
-    t: Settings,
+    settings: Settings,
     is_set: bool,
     f: u32,
-    clients: u32,
+    count: u32,
     faulty: u32,
-    s: &mut Servers,
-    c: &mut Clients,
-    b: &mut Slots,
+    servers: &mut Servers,
+    clients: &mut Clients,
+    slots: &mut Slots,
 ) -> Obeyed
-    ensures { λ r. ⌜ ((n : ℕ) → Obeys (stage «is_set» t (now (s .entry)) (now (c .entry)) (now (b .entry)) n)
-        (Line.Setup f clients faulty) (r .what) (stage (r .«is_set») (r .settings) (now (s .exit)) (now (c .exit)) (now (b .exit)))) ⌝ }
+    ensures { λ r. ⌜ ((n : ℕ) → Obeys
+        (stage «is_set» settings (now (servers .entry)) (now (clients .entry)) (now (slots .entry)) n)
+        (Line.Setup f count faulty) (r .what) (stage (r .«is_set») (r .settings)
+        (now (servers .exit)) (now (clients .exit)) (now (slots .exit)))) ⌝ }
 {
-    match set_up(f, clients, faulty, s, c, b) {
-        Setup::Set(u) => obeyed_of(u, true, Output::Set),
-        Setup::Refused(n) => obeyed_of(t, is_set, Output::Answered(Answer::Refused(n))),
+    match set_up(f, count, faulty, servers, clients, slots) {
+        Setup::Set(accepted) => obeyed_of(accepted, true, Output::Set),
+        Setup::Refused(why) => obeyed_of(settings, is_set, Output::Answered(Answer::Refused(why))),
     }
 }
 
 // A step before an accepted setup is unreadable.
 fn obey(
-    t: Settings,
+    settings: Settings,
     is_set: bool,
     line: Line,
-    s: &mut Servers,
-    c: &mut Clients,
-    b: &mut Slots,
+    servers: &mut Servers,
+    clients: &mut Clients,
+    slots: &mut Slots,
 ) -> Obeyed
-    requires { ⌜ isSound t (now s) (now c) (now b) ≡ true ⌝ }
-    ensures { λ r. ⌜ ((n : ℕ) → Obeys (stage «is_set» t (now (s .entry)) (now (c .entry)) (now (b .entry)) n)
-        line (r .what) (stage (r .«is_set») (r .settings) (now (s .exit)) (now (c .exit)) (now (b .exit)))) ⌝ }
+    requires { ⌜ isSound settings (now servers) (now clients) (now slots) ≡ true ⌝ }
+    ensures { λ r. ⌜ ((n : ℕ) → Obeys
+        (stage «is_set» settings (now (servers .entry)) (now (clients .entry)) (now (slots .entry)) n)
+        line (r .what) (stage (r .«is_set») (r .settings)
+        (now (servers .exit)) (now (clients .exit)) (now (slots .exit)))) ⌝ }
 {
     match line {
-        Line::Setup(f, n, m) => set_afresh(t, is_set, f, n, m, s, c, b),
-        Line::Take(x) => {
-            if !is_set {
-                return obeyed_of(t, is_set, Output::Unread);
-            }
-            obeyed_of(t, is_set, Output::Answered(take_step(t, x, s, c, b)))
+        Line::Setup(f, count, faulty) => {
+            set_afresh(settings, is_set, f, count, faulty, servers, clients, slots)
         }
-        Line::Unread => obeyed_of(t, is_set, Output::Unread),
+        Line::Do(step) => {
+            if !is_set {
+                return obeyed_of(settings, is_set, Output::Unread);
+            }
+            obeyed_of(
+                settings,
+                is_set,
+                Output::Answered(take_step(settings, step, servers, clients, slots)),
+            )
+        }
+        Line::Unread => obeyed_of(settings, is_set, Output::Unread),
     }
 }
 
 // ---- the lines
 
-// Takes every whole line of a block.
-pub fn take_lines(
-    q: Turn,
+// Obeys every whole line of a block.
+pub fn obey_lines(
+    turn: Turn,
     input: &[u8],
     out: &mut [u8],
-    s: &mut Servers,
-    c: &mut Clients,
-    b: &mut Slots,
+    servers: &mut Servers,
+    clients: &mut Clients,
+    slots: &mut Slots,
 ) -> Turn
-    requires { ⌜ (isSound (q .settings) (now s) (now c) (now b) ≡ true) × (q .number ≡ numeralOf (q .number .number))
-        × (length (now input) * 80 ≤ length (now out)) ⌝ }
-    ensures { λ z. ⌜ LinesTaken q (now (input .entry)) (now (s .entry)) (now (c .entry)) (now (b .entry)) (now (out .entry))
-        z (now (s .exit)) (now (c .exit)) (now (b .exit)) (now (out .exit)) ⌝ }
+    requires { ⌜ (isSound (turn .settings) (now servers) (now clients) (now slots) ≡ true)
+        × (turn .number ≡ numeralOf (turn .number .number))
+        × (length (now input) * longest ≤ length (now out)) ⌝ }
+    ensures { λ r. ⌜ LinesDone turn (now (input .entry))
+        (now (servers .entry)) (now (clients .entry)) (now (slots .entry)) (now (out .entry))
+        r (now (servers .exit)) (now (clients .exit)) (now (slots .exit)) (now (out .exit)) ⌝ }
 {
-    let mut t = q.settings;
-    let mut is_set = q.is_set;
-    let mut number = q.number;
+    let mut settings = turn.settings;
+    let mut is_set = turn.is_set;
+    let mut number = turn.number;
     let mut at = 0;
     let mut used = 0;
     loop {
         let found = next(input, at);
         if input.len() <= found.end {
-            return turn_of(t, is_set, number, at, used);
+            return turn_of(settings, is_set, number, at, used);
         }
         let line = found.line;
-        let o = obey(t, is_set, line, s, c, b);
-        let what = o.what;
-        t = o.settings;
-        is_set = o.is_set;
+        let obeyed = obey(settings, is_set, line, servers, clients, slots);
+        let what = obeyed.what;
+        settings = obeyed.settings;
+        is_set = obeyed.is_set;
         used = put_line(out, used, number, what);
         at = found.end + 1;
         number = next_numeral(number);

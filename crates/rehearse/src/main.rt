@@ -1,18 +1,19 @@
 // The program rehearse (01): reads a script from standard input and writes one line for each of its lines.
 //
-// Input and output go in blocks of fixed size, for any number of lines of any length. Here are only the reads and writes: what
-// is made of a block is in `lines`, and what the whole comes to in specs/Blocks.
+// Input and output go in blocks of fixed size, for any number of lines of any length. Here are only the
+// reads and writes: what is made of a block is in `lines`, and what all turns together write in specs/Blocks.
 ghost use Prim.Native.Nat.{_+_, _<_, _≤_};
 ghost use mathlib.Core.Path.{_≡_};
 ghost use lib.ListN.{length, take, drop};
 ghost use Rattle.script.specs.Writing.{Written};
-ghost use Rattle.rehearse.specs.Blocks.{joined};
+ghost use Rattle.rehearse.specs.Blocks.{joined, inputBytes, outputBytes};
 use libc::STDERR_FILENO;
 use libc::STDIN_FILENO;
 use libc::STDOUT_FILENO;
-use lines::take_lines;
+use lines::obey_lines;
 use lines::turn_of;
 use script::lines::keep;
+use script::print::PRINTED_BYTES;
 use script::print::numeral_of;
 use state::Settings;
 
@@ -20,37 +21,43 @@ mod lines;
 
 const LINE_END: u8 = 10;
 
-// The block of input, and the space for what its lines print.
-fn new_input() -> [u8; 16384]
-    ensures { λ r. ⌜ 16384 ≡ length r ⌝ }
+// The bytes of a block of input, and of the space for what its lines print.
+const INPUT_BYTES: usize = 16384;
+
+const OUTPUT_BYTES: usize = INPUT_BYTES * PRINTED_BYTES;
+
+fn new_input() -> [u8; INPUT_BYTES]
+    ensures { λ r. ⌜ inputBytes ≡ length r ⌝ }
 {
-    [0; 16384]
+    [0; INPUT_BYTES]
 }
 
-fn new_output() -> [u8; 1310720]
-    ensures { λ r. ⌜ 1310720 ≡ length r ⌝ }
+fn new_output() -> [u8; OUTPUT_BYTES]
+    ensures { λ r. ⌜ outputBytes ≡ length r ⌝ }
 {
-    [0; 1310720]
+    [0; OUTPUT_BYTES]
 }
 
 // Reads behind the bytes that were kept, and answers how many.
 fn read_behind(input: &mut [u8], have: usize) -> usize
     requires { ⌜ have ≤ length (now input) ⌝ }
-    ensures { λ r. ⌜ (take have (now (input .exit)) ≡ take have (now (input .entry))) × (have + r ≤ length (now (input .exit))) ⌝ }
+    ensures { λ r. ⌜ (take have (now (input .exit)) ≡ take have (now (input .entry)))
+        × (have + r ≤ length (now (input .exit))) ⌝ }
 {
     let got = libc::read(STDIN_FILENO, &mut input[have..]);
     io::count(got, &input[have..])
 }
 
-// Closes the block: `have` bytes kept of the last one, and n bytes that were read behind them. At the input's end n is 0, and a
-// last line without its end gets one. Answers where the block ends.
-fn close(input: &mut [u8], have: usize, n: usize) -> usize
-    requires { ⌜ (have < length (now input)) × (have + n ≤ length (now input)) ⌝ }
-    ensures { λ r. ⌜ Written (joined (take have (now (input .entry))) (take n (drop have (now (input .entry)))))
+// Closes the block: `have` bytes kept of the last one, and `more` bytes that were read behind them. At the
+// input's end `more` is 0, and a last line without its end gets one. Answers where the block ends.
+fn close(input: &mut [u8], have: usize, more: usize) -> usize
+    requires { ⌜ (have < length (now input)) × (have + more ≤ length (now input)) ⌝ }
+    ensures { λ r. ⌜ Written
+        (joined (take have (now (input .entry))) (take more (drop have (now (input .entry)))))
         (now (input .entry)) 0 r (now (input .exit)) ⌝ }
 {
-    if 0 < n {
-        return have + n;
+    if 0 < more {
+        return have + more;
     }
     if have < 1 {
         return 0;
@@ -59,7 +66,8 @@ fn close(input: &mut [u8], have: usize, n: usize) -> usize
     have + 1
 }
 
-// Writes what the lines of a block print, and answers whether all of it was written. If not, that is said on standard error.
+// Writes what the lines of a block print, and answers whether all of it was written. If not, that is said
+// on standard error.
 fn write_out(text: &[u8]) -> bool {
     if io::write_all(STDOUT_FILENO, text) {
         return true;
@@ -68,34 +76,42 @@ fn write_out(text: &[u8]) -> bool {
     false
 }
 
-// Every line of input prints at most 80 bytes, so the output of a block has room. A proved loop has to end, and nothing says that
-// the input does: so the loop counts its turns down, from a number that no run uses up.
+// Every line of input prints at most 80 bytes, so the output of a block has room. A proved loop has to end,
+// and nothing says that the input does: so the loop counts its turns down, from a number that no run uses
+// up.
 fn main() {
-    let mut s = [0u64; 26];
-    let mut c = [0u64; 571];
-    let mut b = channel::empty_slots();
+    let mut servers = [0u64; 26];
+    let mut clients = [0u64; 571];
+    let mut slots = channel::empty_slots();
     let mut input = new_input();
     let mut out = new_output();
-    let t = Settings {
+    let settings = Settings {
         f: 0,
         clients: 1,
         faulty: 0,
     };
-    let mut q = turn_of(t, false, numeral_of(0), 0, 0);
+    let mut turn = turn_of(settings, false, numeral_of(0), 0, 0);
     let mut have = 0;
     let mut turns = u64::MAX;
     while 0 < turns {
-        let n = read_behind(&mut input, have);
-        let total = close(&mut input, have, n);
+        let more = read_behind(&mut input, have);
+        let total = close(&mut input, have, more);
         if total < 1 {
             return;
         }
-        q = take_lines(q, &input[..total], &mut out, &mut s, &mut c, &mut b);
-        let used = q.used;
+        turn = obey_lines(
+            turn,
+            &input[..total],
+            &mut out,
+            &mut servers,
+            &mut clients,
+            &mut slots,
+        );
+        let used = turn.used;
         if !write_out(&out[..used]) {
             return;
         }
-        let at = q.at;
+        let at = turn.at;
         have = keep(&mut input, at, total);
         turns -= 1;
     }

@@ -1,21 +1,17 @@
--- A candidate above the choice so far takes its place, and another changes nothing, whether or not it counts.
+-- A candidate above the choice so far replaces it, and another changes nothing, whether or not it counts.
 -- Assumes nothing.
-use mathlib.Core.Path.{_≡_, refl, ap}
-use mathlib.Core.Bool.{Bool, true, false, cond}
-use mathlib.Core.Option.{Option, none, some}
-use native.Mathlib.Omega.{arith}
-use lib.Dec.{ltb}
-use borrow.Author.Tests.{ltb-true, ltb-false, le-ltb}
+use Rattle.basics.proofs.Prelude.{_≡_, refl, ap, Bool, true, false, cond, Option, none, some, arith, ltb}
+use Rattle.basics.proofs.Prelude.{ltb-true, ltb-false, le-ltb}
 use Rattle.basics.proofs.Cases.{by-test, true-or-false}
 use Rattle.message.specs.declared.Pair.{Pair}
 use Rattle.message.proofs.Pairs.{same-number}
 use Rattle.register.specs.Client.{higher}
 use Rattle.replies.specs.Loops.{isAbove}
 
-pub above-takes : (p : Pair) (o : Option Pair) → isAbove p o ≡ true → higher p o ≡ some p
+pub above-replaces : (p : Pair) (o : Option Pair) → isAbove p o ≡ true → higher p o ≡ some p
 unfolding higher
-above-takes p none e = refl
-above-takes p (some q) e = let h = ltb-true (q .0) (p .0) e in rw (le-ltb (p .0) (q .0) (omega arith))
+above-replaces p none e = refl
+above-replaces p (some q) e = let h = ltb-true (q .0) (p .0) e in rw (le-ltb (p .0) (q .0) (omega arith))
 
 pub other-leaves : (p : Pair) (o : Option Pair) → isAbove p o ≡ false → higher p o ≡ o
 unfolding higher

@@ -1,49 +1,51 @@
--- What a memory of 91 numbers holds at a place.
+-- What a memory holds at a place.
 --
--- A place below 13 is there, so each of the three readings is its number's (`noted-at`, `set-at`, `ack-at`).
--- A set's size is the number that stands for it, or four where that is more (`size-below`, `size-full`), and
--- its pairs are the numbers in order (`pair-at`).
+-- A place of a server is there, so each of the three readings is its number's (`noted-at`, `set-at`,
+-- `ack-at`). A set's size is the number that stands for it, or four where that is more (`size-below`,
+-- `size-full`), and its pairs are the numbers in order (`pair-at`, `set-four`).
 -- Assumes nothing.
-use mathlib.Core.Path.{_≡_, refl, ap, _∙_}
-use mathlib.Core.Bool.{not}
-use mathlib.Core.List.{List, [], _∷_}
-use Prim.Native.Nat.{ℕ, zero, suc, _+_, _*_, _≤_, _<_, compare·suc-suc}
-use native.Mathlib.Nat.{not-suc-le-zero, le-of-suc-le-suc}
-use native.Mathlib.Numerals.{add-one}
-use native.Mathlib.Omega.{arith}
-use lib.Dec.{eqb, leb}
-use lib.ListN.{length, getD, take, drop, length-drop}
-use lib.Seq.{length-take-le, take-all, getD-take, getD-drop, drop-cons}
-use borrow.Author.Tests.{lt-ltb, ne-eqb}
+use Rattle.basics.proofs.Prelude.{_≡_, refl, sym, ap, _∙_, not, List, [], _∷_, _++_, append-nil, length, getD}
+use Rattle.basics.proofs.Prelude.{take, drop, length-drop, length-take-le, ℕ, zero, suc, _+_, _*_, _≤_, _<_}
+use Rattle.basics.proofs.Prelude.{not-suc-le-zero, add-zero, add-one, arith, eqb, leb, ne-eqb, lt-ltb}
+use Prim.Native.Nat.{compare·suc-suc}
+use native.Mathlib.Nat.{le-of-suc-le-suc}
+use lib.ListN.{drop-of-length-le}
+use lib.Seq.{take-all, getD-take, getD-drop, drop-cons}
 use Rattle.message.specs.declared.Pair.{Pair}
-use Rattle.register.specs.Client.{isNoted, isAtMost}
-use Rattle.replies.specs.Replies.{noteOf, pairsOf, fourAt, setAt, notedIn, setIn, ackIn}
+use Rattle.message.specs.Pair.{initial}
+use Rattle.register.specs.Settings.{mostServers}
+use Rattle.register.specs.Client.{isNoted, isAtMost, setLimit}
+use Rattle.replies.specs.Replies.{replyWords, pairsAt, noteAt, sizeAt, ackAt, pairAt}
+use Rattle.replies.specs.Replies.{noteOf, pairsOf, fourAt, setAt, notedIn, setIn, ackIn, row}
+use Rattle.replies.proofs.Steps.{ofFour}
+use Rattle.replies.proofs.Stores.{row-is}
 
 -- ---- the three readings
 
-module _ (r : List ℕ) (i : ℕ) (ih : i < 13) where
-  pub noted-at : notedIn r (suc i) ≡ noteOf (getD r i 0)
+module _ (replies : List ℕ) (i : ℕ) (ih : i < mostServers) where
+  pub noted-at : notedIn replies (suc i) ≡ noteOf (noteAt replies i)
   unfolding notedIn
-  noted-at = rw (lt-ltb i 13 ih)
+  noted-at = rw (lt-ltb i mostServers ih)
 
-  pub set-at : setIn r (suc i) ≡ setAt r i
+  pub set-at : setIn replies (suc i) ≡ setAt replies i
   unfolding setIn
-  set-at = rw (lt-ltb i 13 ih)
+  set-at = rw (lt-ltb i mostServers ih)
 
-  pub ack-at : ackIn r (suc i) ≡ not (eqb (getD r (26 + i) 0) 0)
+  pub ack-at : ackIn replies (suc i) ≡ not (eqb (ackAt replies i) 0)
   unfolding ackIn
-  ack-at = rw (lt-ltb i 13 ih)
+  ack-at = rw (lt-ltb i mostServers ih)
 
 -- a timestamp is noted where its number is not zero
-pub noted-used : (w : ℕ) → isNoted (noteOf w) ≡ not (eqb w 0)
+pub noted-used : (number : ℕ) → isNoted (noteOf number) ≡ not (eqb number 0)
 unfolding isNoted noteOf
 noted-used zero = refl
-noted-used (suc w) = rw (ne-eqb (suc w) 0 (λ e. omega arith))
+noted-used (suc stamp) = rw (ne-eqb (suc stamp) 0 (λ e. omega arith))
 
-pub at-most-used : (w t : ℕ) → (w ≡ 0 → ⊥) → isAtMost t (noteOf w) ≡ leb w (t + 1)
+pub at-most-used : (number stamp : ℕ) → (number ≡ 0 → ⊥) → isAtMost stamp (noteOf number)
+    ≡ leb number (stamp + 1)
 unfolding isAtMost noteOf
-at-most-used zero t h = absurd (h refl)
-at-most-used (suc u) t h = rw (add-one t, compare·suc-suc u t)
+at-most-used zero stamp h = absurd (h refl)
+at-most-used (suc noted) stamp h = rw (add-one stamp, compare·suc-suc noted stamp)
 
 -- ---- the pairs of a set
 
@@ -57,58 +59,73 @@ pairs-at [] j d h = absurd (not-suc-le-zero h)
 pairs-at (w ∷ l) zero d h = refl
 pairs-at (w ∷ l) (suc j) d h = pairs-at l j d (le-of-suc-le-suc h)
 
-module _ (r : List ℕ) (i : ℕ) (long : length r ≡ 91) (ih : i < 13) where
-  pub four-length : length (fourAt r i) ≡ 4
-  four-length = length-take-le 4 (drop (39 + i * 4) r) (omega (arith, length-drop (39 + i * 4) r))
+module _ (replies : List ℕ) (i : ℕ) (long : length replies ≡ replyWords) (ih : i < mostServers) where
+  abbrev four : List ℕ
+  four = fourAt replies i
 
-  set-length : length (setIn r (suc i)) ≡ length (take (getD r (13 + i) 0) (fourAt r i))
-  set-length = rw (set-at r i ih) (pairs-length (take (getD r (13 + i) 0) (fourAt r i)))
+  abbrev size : ℕ
+  size = sizeAt replies i
 
-  pub size-below : getD r (13 + i) 0 ≤ 4 → length (setIn r (suc i)) ≡ getD r (13 + i) 0
-  size-below h =
-      set-length ∙ length-take-le (getD r (13 + i) 0) (fourAt r i) (omega (arith, four-length))
+  abbrev S : List Pair
+  S = setIn replies (suc i)
 
-  pub size-full : 4 ≤ getD r (13 + i) 0 → length (setIn r (suc i)) ≡ 4
-  size-full h =
-      set-length ∙ ap length (take-all (getD r (13 + i) 0) (fourAt r i) (omega (arith, four-length)))
-      ∙ four-length
+  pub four-length : length four ≡ setLimit
+  four-length =
+      let at = pairsAt + i * setLimit in
+      length-take-le setLimit (drop at replies) (omega (arith, length-drop at replies))
 
-  pub size-most : length (setIn r (suc i)) ≤ 4
+  set-length : length S ≡ length (take size four)
+  set-length = rw (set-at replies i ih) (pairs-length (take size four))
+
+  pub size-below : size ≤ setLimit → length S ≡ size
+  size-below h = set-length ∙ length-take-le size four (omega (arith, four-length))
+
+  pub size-full : setLimit ≤ size → length S ≡ setLimit
+  size-full h = set-length ∙ ap length (take-all size four (omega (arith, four-length))) ∙ four-length
+
+  pub size-most : length S ≤ setLimit
   size-most =
       omega (
         arith,
         set-length,
-        lib.ListN.length-take (getD r (13 + i) 0) (fourAt r i),
+        lib.ListN.length-take size four,
         four-length,
-        native.Mathlib.Nat.min-le-right (getD r (13 + i) 0) (length (fourAt r i)),
+        native.Mathlib.Nat.min-le-right size (length four),
       )
 
-  pub size-most-read : length (setIn r (suc i)) ≤ getD r (13 + i) 0
+  pub size-most-read : length S ≤ size
   size-most-read =
       omega (
         arith,
         set-length,
-        lib.ListN.length-take (getD r (13 + i) 0) (fourAt r i),
-        native.Mathlib.Nat.min-le-left (getD r (13 + i) 0) (length (fourAt r i)),
+        lib.ListN.length-take size four,
+        native.Mathlib.Nat.min-le-left size (length four),
       )
 
-  pub four-at : (j : ℕ) → j < 4 → getD (fourAt r i) j 0 ≡ getD r (39 + i * 4 + j) 0
-  four-at j h = getD-take 4 (drop (39 + i * 4) r) j 0 h ∙ getD-drop (39 + i * 4) r j 0
+  pub four-at : (j : ℕ) → j < setLimit → getD four j 0 ≡ pairAt replies i j
+  four-at j h =
+      let at = pairsAt + i * setLimit in
+      getD-take setLimit (drop at replies) j 0 h ∙ getD-drop at replies j 0
 
-  pub pair-at : (j : ℕ) (d : Pair) → j < length (setIn r (suc i))
-      → getD (setIn r (suc i)) j d ≡ record { 0 = getD r (39 + i * 4 + j) 0 }
+  pub pair-at : (j : ℕ) (d : Pair) → j < length S → getD S j d ≡ record { 0 = pairAt replies i j }
   pair-at j d h =
-      let l = take (getD r (13 + i) 0) (fourAt r i) in
-      let h′ : j < length l = omega (arith, set-length) in
-      let small : j < 4 = omega (arith, size-most) in
-      let read : j < getD r (13 + i) 0 = omega (arith, size-most-read) in
-      let word : getD l j 0 ≡ getD r (39 + i * 4 + j) 0 =
-      getD-take (getD r (13 + i) 0) (fourAt r i) j 0 read ∙ four-at j small in
-      rw (set-at r i ih) (pairs-at l j d h′ ∙ (λ e. record { 0 = word e }))
+      let inside : j < length (take size four) = omega (arith, set-length) in
+      let word : getD (take size four) j 0 ≡ pairAt replies i j =
+      getD-take size four j 0 (omega (arith, size-most-read)) ∙ four-at j (omega (arith, size-most)) in
+      rw (set-at replies i ih) (pairs-at (take size four) j d inside ∙ (λ e. record { 0 = word e }))
 
   -- the rest of a set from place j on begins with the pair at j
-  pub rest-at : (j : ℕ) → j < length (setIn r (suc i))
-      → drop j (setIn r (suc i)) ≡ record { 0 = getD r (39 + i * 4 + j) 0 } ∷ drop (suc j) (setIn r (suc i))
-  rest-at j h =
-      drop-cons (setIn r (suc i)) j (record { 0 = 0 }) h
-      ∙ ap (λ (x : Pair). x ∷ drop (suc j) (setIn r (suc i))) (pair-at j (record { 0 = 0 }) h)
+  pub rest-at : (j : ℕ) → j < length S → drop j S ≡ record { 0 = pairAt replies i j } ∷ drop (suc j) S
+  rest-at j h = drop-cons S j initial h ∙ ap (λ (x : Pair). x ∷ drop (suc j) S) (pair-at j initial h)
+
+  -- the set by its four numbers
+  pub set-four : S
+      ≡ ofFour (getD replies (pairsAt + i * setLimit) 0) (pairAt replies i 1) (pairAt replies i 2)
+      (pairAt replies i 3) size
+  unfolding row
+  set-four =
+      let numbers : row (pairAt replies i) setLimit ++ drop setLimit four ≡ four =
+      row-is (pairAt replies i) setLimit four (omega (arith, four-length)) (λ j h. sym (four-at j h)) in
+      let none = drop-of-length-le four {i = setLimit} (omega (arith, four-length)) in
+      let all = rw (none, append-nil (row (pairAt replies i) setLimit)) at numbers in
+      set-at replies i ih ∙ rw (← all, add-zero (pairsAt + i * setLimit))

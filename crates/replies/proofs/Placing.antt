@@ -4,19 +4,18 @@
 -- before or behind the new pair's place gives the numbers of the set with that pair (`widened-is`); and
 -- storing a set's own numbers changes nothing (`put-same`).
 -- Assumes nothing.
-use mathlib.Core.Path.{_≡_, refl, sym, ap, _∙_}
-use mathlib.Core.List.{List, [], _∷_}
-use Prim.Native.Nat.{ℕ, zero, suc, _+_, _*_, _-_, _≤_, _<_}
-use native.Mathlib.Nat.{add-zero}
-use native.Mathlib.Numerals.{add-one}
-use native.Mathlib.Omega.{arith}
-use lib.ListN.{length, getD, take, drop, set, List·getD-append, List·getD-eq-default}
-use lib.Seq.{sets, set-getD, length-take-le, getD-take, getD-drop, getD-at, getD-append-add}
-use borrow.Author.Tests.{ltb-true, ltb-false, eqb-true, eqb-false}
+use Rattle.basics.proofs.Prelude.{_≡_, refl, sym, ap, _∙_, List, [], _∷_, length, getD, set, take, drop}
+use Rattle.basics.proofs.Prelude.{length-take-le, ℕ, zero, suc, _+_, _-_, _*_, _≤_, _<_, add-zero, add-one}
+use Rattle.basics.proofs.Prelude.{arith, eqb, ltb, eqb-true, eqb-false, ltb-true, ltb-false}
+use lib.ListN.{List·getD-append, List·getD-eq-default}
+use lib.Seq.{sets, set-getD, getD-take, getD-drop, getD-at, getD-append-add}
 use Rattle.basics.proofs.Cases.{by-test}
 use Rattle.message.specs.declared.Pair.{Pair}
 use Rattle.message.specs.Pair.{initial}
-use Rattle.replies.specs.Replies.{setIn, row, pairWord, putSet, Padded}
+use Rattle.register.specs.Settings.{mostServers}
+use Rattle.register.specs.Client.{setLimit}
+use Rattle.replies.specs.Replies.{replyWords, sizesAt, pairsAt, sizeAt, pairAt, setIn, row, pairWord}
+use Rattle.replies.specs.Replies.{putSet, Padded}
 use Rattle.replies.specs.Loops.{placedAt, widenedBy}
 use Rattle.replies.proofs.Places.{size-below, pair-at}
 
@@ -33,103 +32,102 @@ word-drop out l k =
     pair-word (drop out l) k ∙ ap (λ (x : Pair). x .0) (getD-drop out l k initial)
     ∙ sym (pair-word l (out + k))
 
-module _ (r : List ℕ) (i : ℕ) (long : length r ≡ 91) (ih : i < 13) (pad : Padded r i) where
+module _ (replies : List ℕ) (i : ℕ) (long : length replies ≡ replyWords) (ih : i < mostServers)
+    (pad : Padded replies i) where
   abbrev at : ℕ
-  at = 39 + i * 4
+  at = pairsAt + i * setLimit
 
-  pub word-is : (k : ℕ) → k < 4 → pairWord (setIn r (suc i)) k ≡ getD r (at + k) 0
+  abbrev S : List Pair
+  S = setIn replies (suc i)
+
+  pub word-is : (k : ℕ) → k < setLimit → pairWord S k ≡ pairAt replies i k
   word-is k h =
-      let size = size-below r i long ih (pad .size) in
-      by-test (lib.Dec.ltb k (getD r (13 + i) 0))
-      (λ e. let less : k < length (setIn r (suc i)) = omega (arith, ltb-true k (getD r (13 + i) 0) e, size) in
-      pair-word (setIn r (suc i)) k ∙ ap (λ (x : Pair). x .0) (pair-at r i long ih k initial less))
-      (λ e. let past : getD r (13 + i) 0 ≤ k = ltb-false k (getD r (13 + i) 0) e in
-      pair-word (setIn r (suc i)) k
-      ∙ ap (λ (x : Pair). x .0) (List·getD-eq-default (setIn r (suc i)) initial {n = k} (omega (arith, size)))
+      let number = sizeAt replies i in
+      let size = size-below replies i long ih (pad .size) in
+      pair-word S k ∙ by-test (ltb k number)
+      (λ e. ap (λ (x : Pair). x .0)
+      (pair-at replies i long ih k initial (omega (arith, ltb-true k number e, size))))
+      (λ e. let past : number ≤ k = ltb-false k number e in
+      ap (λ (x : Pair). x .0) (List·getD-eq-default S initial {n = k} (omega (arith, size)))
       ∙ sym (pad .zeros k h past))
 
-  module _ (j : ℕ) (p : Pair) (inside : j ≤ length (setIn r (suc i))) where
-    front : length (take j (setIn r (suc i))) ≡ j
-    front = length-take-le j (setIn r (suc i)) inside
+  module _ (j : ℕ) (pair : Pair) (inside : j ≤ length S) where
+    front : length (take j S) ≡ j
+    front = length-take-le j S inside
 
-    -- behind the new pair: the pair before
-    behind : (k : ℕ) → j < k → getD (placedAt j p (setIn r (suc i))) k initial
-        ≡ getD (setIn r (suc i)) (k - 1) initial
+    -- the pairs of the set with the pair put at place j: before it, it, and behind it the pair before
+    before : (k : ℕ) → k < j → getD (placedAt j pair S) k initial ≡ getD S k initial
+    before k h =
+        List·getD-append (take j S) (pair ∷ drop j S) initial k (omega (arith, front))
+        ∙ getD-take j S k initial h
+
+    behind : (k : ℕ) → j < k → getD (placedAt j pair S) k initial ≡ getD S (k - 1) initial
     behind k h =
-        let S = setIn r (suc i) in
         let q = k - 1 - j in
         let hk : k ≡ length (take j S) + suc q = omega (arith, front) in
         let hq : j + q ≡ k - 1 = omega arith in
-        ap (λ (x : ℕ). getD (placedAt j p S) x initial) hk
-        ∙ getD-append-add (take j S) (p ∷ drop j S) (suc q) initial
+        ap (λ (x : ℕ). getD (placedAt j pair S) x initial) hk
+        ∙ getD-append-add (take j S) (pair ∷ drop j S) (suc q) initial
         ∙ getD-drop j S q initial ∙ ap (λ (x : ℕ). getD S x initial) hq
 
-    pub widened-is : (k : ℕ) → k ≤ 4 → j ≤ 4 → widenedBy r at j (p .0) k
-        ≡ pairWord (placedAt j p (setIn r (suc i))) k
+    -- a number of the memory is that of the pair put at k
+    moved : (k m : ℕ) → m < setLimit → getD (placedAt j pair S) k initial ≡ getD S m initial
+        → pairAt replies i m ≡ pairWord (placedAt j pair S) k
+    moved k m h e =
+        sym (word-is m h) ∙ pair-word S m ∙ ap (λ (x : Pair). x .0) (sym e)
+        ∙ sym (pair-word (placedAt j pair S) k)
+
+    pub widened-is : (k : ℕ) → k ≤ setLimit → j ≤ setLimit → widenedBy replies at j (pair .0) k
+        ≡ pairWord (placedAt j pair S) k
     widened-is k h jh =
-        let S = setIn r (suc i) in
-        by-test (lib.Dec.ltb k j)
-        (λ e. let less = ltb-true k j e in
-        rw e (sym (word-is k (omega arith)) ∙ pair-word S k ∙ ap (λ (x : Pair). x .0)
-        (sym (List·getD-append (take j S) (p ∷ drop j S) initial k (omega (arith, front))
-        ∙ getD-take j S k initial less))
-        ∙ sym (pair-word (placedAt j p S) k)))
+        by-test (ltb k j) (λ e. let less = ltb-true k j e in rw e (moved k k (omega arith) (before k less)))
         (λ e. let more = ltb-false k j e in
-        by-test (lib.Dec.eqb k j)
-        (λ e′. let same = eqb-true k j e′ in
-        rw (e, e′) (sym (pair-word (placedAt j p S) k ∙ ap (λ (x : Pair). x .0)
-        (getD-at (take j S) p (drop j S) initial k (front ∙ sym same)))))
+        by-test (eqb k j)
+        (λ e′. rw (e, e′) (sym (pair-word (placedAt j pair S) k ∙ ap (λ (x : Pair). x .0)
+        (getD-at (take j S) pair (drop j S) initial k (front ∙ sym (eqb-true k j e′))))))
         (λ e′. let other = eqb-false k j e′ in
-        let past : j < k = by-test (lib.Dec.ltb j k) (λ t. ltb-true j k t)
-        (λ t. absurd (other (let g = ltb-false j k t in omega arith))) in
+        let past : j < k = omega arith in
         let step : at + k - 1 ≡ at + (k - 1) = omega arith in
-        rw (e, e′) (ap (λ (x : ℕ). getD r x 0) step ∙ sym (word-is (k - 1) (omega arith))
-        ∙ pair-word S (k - 1)
-        ∙ sym (pair-word (placedAt j p S) k ∙ ap (λ (x : Pair). x .0) (behind k past)))))
+        rw (e, e′, step) (moved k (k - 1) (omega arith) (behind k past))))
 
 -- ---- five stores
 
 -- the four numbers from at on
-pub four-stores : (r : List ℕ) (at a b c d : ℕ)
-    → set (set (set (set r at a) (at + 1) b) (at + 2) c) (at + 3) d ≡ sets r at (a ∷ b ∷ c ∷ d ∷ [])
-four-stores r at a b c d =
+four-stores : (l : List ℕ) (at a b c d : ℕ)
+    → set (set (set (set l at a) (at + 1) b) (at + 2) c) (at + 3) d ≡ sets l at (a ∷ b ∷ c ∷ d ∷ [])
+four-stores l at a b c d =
     let e1 : at + 1 ≡ suc at = add-one at in
     let e2 : at + 2 ≡ suc (suc at) = omega arith in
     let e3 : at + 3 ≡ suc (suc (suc at)) = omega arith in
     rw (e1, e2, e3)
 
-pub row-four : (l : List Pair) → row (pairWord l) 4
-    ≡ pairWord l 0 ∷ pairWord l 1 ∷ pairWord l 2 ∷ pairWord l 3 ∷ []
-unfolding row
-row-four l = refl
-
-pub put-as-stores : (r : List ℕ) (i : ℕ) (l : List Pair)
-    → putSet r i l
-    ≡ set (set (set (set (set r (13 + i) (length l)) (39 + i * 4) (pairWord l 0)) (39 + i * 4 + 1)
-    (pairWord l 1))
-    (39 + i * 4 + 2) (pairWord l 2)) (39 + i * 4 + 3) (pairWord l 3)
-unfolding putSet
-put-as-stores r i l =
-    rw (row-four l) (sym (four-stores (set r (13 + i) (length l)) (39 + i * 4) (pairWord l 0) (pairWord l 1)
-    (pairWord l 2) (pairWord l 3)))
+pub put-as-stores : (replies : List ℕ) (i : ℕ) (pairs : List Pair) → putSet replies i pairs
+    ≡ set (set (set (set (set replies (sizesAt + i) (length pairs))
+    (pairsAt + i * setLimit) (pairWord pairs 0))
+    (pairsAt + i * setLimit + 1) (pairWord pairs 1))
+    (pairsAt + i * setLimit + 2) (pairWord pairs 2))
+    (pairsAt + i * setLimit + 3) (pairWord pairs 3)
+unfolding putSet row
+put-as-stores replies i pairs =
+    sym (four-stores (set replies (sizesAt + i) (length pairs)) (pairsAt + i * setLimit) (pairWord pairs 0)
+    (pairWord pairs 1) (pairWord pairs 2) (pairWord pairs 3))
 
 -- a set stored over itself
-pub put-same : (r : List ℕ) (i : ℕ) → length r ≡ 91 → i < 13 → Padded r i → putSet r i (setIn r (suc i)) ≡ r
-put-same r i long ih pad =
-    let S = setIn r (suc i) in
-    let at = 39 + i * 4 in
-    let w = word-is r i long ih pad in
-    let zeroth : pairWord S 0 ≡ getD r at 0 = w 0 (omega arith) ∙ ap (λ (x : ℕ). getD r x 0) (add-zero at) in
-    put-as-stores r i S
+pub put-same : (replies : List ℕ) (i : ℕ) → length replies ≡ replyWords → i < mostServers → Padded replies i
+    → putSet replies i (setIn replies (suc i)) ≡ replies
+put-same replies i long ih pad =
+    let at = pairsAt + i * setLimit in
+    let w = word-is replies i long ih pad in
+    put-as-stores replies i (setIn replies (suc i))
     ∙ rw (
-      size-below r i long ih (pad .size),
-      zeroth,
+      size-below replies i long ih (pad .size),
+      w 0 (omega arith) ∙ ap (λ (x : ℕ). getD replies x 0) (add-zero at),
       w 1 (omega arith),
       w 2 (omega arith),
       w 3 (omega arith),
-      set-getD r (13 + i) 0,
-      set-getD r at 0,
-      set-getD r (at + 1) 0,
-      set-getD r (at + 2) 0,
-      set-getD r (at + 3) 0,
+      set-getD replies (sizesAt + i) 0,
+      set-getD replies at 0,
+      set-getD replies (at + 1) 0,
+      set-getD replies (at + 2) 0,
+      set-getD replies (at + 3) 0,
     )

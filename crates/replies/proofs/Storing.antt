@@ -3,20 +3,18 @@
 -- Row by row: a timestamp, a size and an acknowledgement are stored as the number that showed them, and so
 -- are the four numbers of a set, which are its pairs' and zeros.
 -- Assumes nothing.
-use mathlib.Core.Path.{_≡_, refl, sym, ap, _∙_}
-use mathlib.Core.Bool.{Bool, not, _&&_}
-use mathlib.Core.List.{List, _++_, append-assoc, append-nil}
-use Prim.Native.Nat.{ℕ, zero, suc, _+_, _*_, _/_, _%_, _≤_, _<_}
-use native.Mathlib.Omega.{arith}
-use lib.Dec.{eqb, ltb}
-use lib.ListN.{length, getD, drop, replicate, length-drop, drop-of-length-le}
+use Rattle.basics.proofs.Prelude.{_≡_, refl, sym, ap, _∙_, Bool, not, _&&_, List, _++_, append-assoc}
+use Rattle.basics.proofs.Prelude.{append-nil, length, getD, drop, replicate, length-drop, ℕ, zero, suc, _+_}
+use Rattle.basics.proofs.Prelude.{_*_, _/_, _%_, _≤_, _<_, arith, eqb, ltb}
+use lib.ListN.{drop-of-length-le}
 use lib.Seq.{getD-drop, drop-drop}
 use mir.Val.{boolByte}
 use Rattle.message.specs.declared.ReadNumber.{ReadNumber}
 use Rattle.register.specs.declared.Phase.{Phase}
-use Rattle.register.specs.Client.{cleared}
-use Rattle.replies.specs.Replies.{noteOf, noteWord, pairWord, notedIn, setIn, ackIn, held, row}
-use Rattle.replies.specs.Replies.{storeReplies}
+use Rattle.register.specs.Settings.{mostServers}
+use Rattle.register.specs.Client.{cleared, setLimit}
+use Rattle.replies.specs.Replies.{replyWords, sizesAt, acksAt, pairsAt, noteAt, ackAt, noteOf, noteWord}
+use Rattle.replies.specs.Replies.{pairWord, notedIn, setIn, ackIn, held, row, storeReplies}
 use Rattle.replies.proofs.Places.{noted-at, ack-at, size-below}
 use Rattle.replies.proofs.Placing.{word-is}
 use Rattle.replies.proofs.Soundness.{Sound, padded, most}
@@ -33,53 +31,57 @@ ack-back (suc zero) h = refl
 ack-back (suc (suc w)) h = let z : ⊥ = omega arith in absurd z
 
 -- a row over the numbers from at on, in front of what follows
-row-over : (g : ℕ → ℕ) (n at : ℕ) (r : List ℕ) → at + n ≤ length r
-    → ((i : ℕ) → i < n → g i ≡ getD r (at + i) 0)
-    → row g n ++ drop (at + n) r ≡ drop at r
-row-over g n at r h e =
-    ap (λ (t : List ℕ). row g n ++ t) (sym (drop-drop n at r))
-    ∙ row-is g n (drop at r) (omega (arith, length-drop at r)) (λ i less. e i less ∙ sym (getD-drop at r i 0))
+row-over : (g : ℕ → ℕ) (n at : ℕ) (l : List ℕ) → at + n ≤ length l
+    → ((i : ℕ) → i < n → g i ≡ getD l (at + i) 0) → row g n ++ drop (at + n) l ≡ drop at l
+row-over g n at l h e =
+    ap (row g n ++_) (sym (drop-drop n at l))
+    ∙ row-is g n (drop at l) (omega (arith, length-drop at l)) (λ i less. e i less ∙ sym (getD-drop at l i 0))
 
-module _ (n : ℕ) (a b : Bool) (r : List ℕ) (s : Sound n a b r) where
-  long : length r ≡ 91
-  long = s .long
+module _ (n : ℕ) (a b : Bool) (replies : List ℕ) (s : Sound n a b replies) where
+  -- the rest of the memory from a row on
+  abbrev «from» : ℕ → List ℕ
+  «from» at = drop at replies
 
-  notes : row (λ i. noteWord (notedIn r (suc i))) 13 ++ drop 13 r ≡ r
+  notes : row (λ i. noteWord (notedIn replies (suc i))) mostServers ++ «from» sizesAt ≡ replies
   notes =
-      row-is (λ i. noteWord (notedIn r (suc i))) 13 r (omega (arith, s .long))
-      (λ i h. ap noteWord (noted-at r i h) ∙ note-back (getD r i 0))
+      row-is (λ i. noteWord (notedIn replies (suc i))) mostServers replies (omega (arith, s .long))
+      (λ i h. ap noteWord (noted-at replies i h) ∙ note-back (noteAt replies i))
 
-  sizes : row (λ i. length (setIn r (suc i))) 13 ++ drop 26 r ≡ drop 13 r
+  sizes : row (λ i. length (setIn replies (suc i))) mostServers ++ «from» acksAt ≡ «from» sizesAt
   sizes =
-      row-over (λ i. length (setIn r (suc i))) 13 13 r (omega (arith, s .long))
-      (λ i h. size-below r i (s .long) h (padded n a b r s i h .size))
+      row-over (λ i. length (setIn replies (suc i))) mostServers sizesAt replies (omega (arith, s .long))
+      (λ i h. size-below replies i (s .long) h (padded n a b replies s i h .size))
 
-  acks : row (λ i. boolByte (ackIn r (suc i))) 13 ++ drop 39 r ≡ drop 26 r
+  acks : row (λ i. boolByte (ackIn replies (suc i))) mostServers ++ «from» pairsAt ≡ «from» acksAt
   acks =
-      row-over (λ i. boolByte (ackIn r (suc i))) 13 26 r (omega (arith, s .long))
-      (λ i h. ap boolByte (ack-at r i h)
-      ∙ ack-back (getD r (26 + i) 0) (most (ltb i n && b) 1 (getD r (26 + i) 0) (s .part i h .ack)))
+      row-over (λ i. boolByte (ackIn replies (suc i))) mostServers acksAt replies (omega (arith, s .long))
+      (λ i h. ap boolByte (ack-at replies i h)
+      ∙ ack-back (ackAt replies i) (most (ltb i n && b) 1 (ackAt replies i) (s .part i h .ack)))
 
-  pairs : row (λ i. pairWord (setIn r (suc (i / 4))) (i % 4)) 52 ≡ drop 39 r
+  -- number i of the sets
+  abbrev number : ℕ → ℕ
+  number i = pairWord (setIn replies (suc (i / setLimit))) (i % setLimit)
+
+  number-is : (x : ℕ) → x < mostServers * setLimit → number x ≡ getD replies (pairsAt + x) 0
+  number-is x h =
+      let i : x / setLimit < mostServers = omega arith in
+      let j : x % setLimit < setLimit = omega arith in
+      let e : pairsAt + x / setLimit * setLimit + x % setLimit ≡ pairsAt + x = omega arith in
+      word-is replies (x / setLimit) (s .long) i (padded n a b replies s (x / setLimit) i) (x % setLimit) j
+      ∙ ap (λ (k : ℕ). getD replies k 0) e
+
+  pairs : row number (mostServers * setLimit) ≡ «from» pairsAt
   pairs =
-      sym (append-nil (row (λ i. pairWord (setIn r (suc (i / 4))) (i % 4)) 52))
-      ∙ ap (λ (t : List ℕ). row (λ i. pairWord (setIn r (suc (i / 4))) (i % 4)) 52 ++ t)
-      (sym (drop-of-length-le r {i = 91} (omega (arith, s .long))))
-      ∙ row-over (λ i. pairWord (setIn r (suc (i / 4))) (i % 4)) 52 39 r (omega (arith, s .long)) number
-    where
-      number : (x : ℕ) → x < 52 → pairWord (setIn r (suc (x / 4))) (x % 4) ≡ getD r (39 + x) 0
-      number x h =
-          let i : x / 4 < 13 = omega arith in
-          let j : x % 4 < 4 = omega arith in
-          let e : 39 + x / 4 * 4 + x % 4 ≡ 39 + x = omega arith in
-          word-is r (x / 4) (s .long) i (padded n a b r s (x / 4) i) (x % 4) j ∙ ap (λ (k : ℕ). getD r k 0) e
+      sym (append-nil (row number (mostServers * setLimit)))
+      ∙ ap (row number (mostServers * setLimit) ++_)
+      (sym (drop-of-length-le replies {i = replyWords} (omega (arith, s .long))))
+      ∙ row-over number (mostServers * setLimit) pairsAt replies (omega (arith, s .long)) number-is
 
-  pub store-held : (ph : Phase) (t : ReadNumber) → storeReplies (held ph t r) ≡ r
+  pub store-held : (phase : Phase) (reads : ReadNumber) → storeReplies (held phase reads replies) ≡ replies
   unfolding storeReplies
-  store-held ph t =
-      simp append-assoc
-      (rw (pairs, acks, sizes) notes)
+  store-held phase reads = simp append-assoc (rw (pairs, acks, sizes) notes)
 
-pub store-cleared : (ph : Phase) (t : ReadNumber) → storeReplies (cleared ph t) ≡ replicate 91 0
+pub store-cleared : (phase : Phase) (reads : ReadNumber)
+    → storeReplies (cleared phase reads) ≡ replicate replyWords 0
 unfolding storeReplies row noteWord pairWord
-store-cleared ph t = refl
+store-cleared phase reads = refl

@@ -20,35 +20,37 @@ use Rattle.replies.specs.Replies.{held}
 
 -- the number i behind at is in use
 abbrev pub isUsed : List ℕ → ℕ → ℕ → Bool
-isUsed r at i = not (eqb (getD r (at + i) 0) 0)
+isUsed replies at i = not (eqb (getD replies (at + i) 0) 0)
 
 -- what a memory shows, whatever the phase and the read number
 abbrev pub heldIn : List ℕ → Client
-heldIn r = held Idle (record { 0 = 0 }) r
+heldIn = held Idle (record { 0 = 0 })
 
--- p counts, by what the memory shows (the client's number does not matter)
+-- a pair counts, by what the memory shows (the client's number does not matter)
 abbrev pub countsIn : ℕ → List ℕ → Pair → Bool
-countsIn f r = counts (size f) f 0 (heldIn r)
+countsIn f replies = counts (size f) f 0 (heldIn replies)
 
--- p is above what was chosen so far
+-- a pair is above what was chosen so far
 abbrev pub isAbove : Pair → Option Pair → Bool
-isAbove p none = true
-isAbove p (some q) = below q p
+isAbove pair none = true
+isAbove pair (some best) = below best pair
 
--- the choice o with the pairs of one more set
+-- the best choice so far, with the pairs of one more set
 unfoldable pub bestOf : (Pair → Bool) → List Pair → Option Pair → Option Pair
-bestOf test [] o = o
-bestOf test (p ∷ ps) o = cond (test p) (higher p (bestOf test ps o)) (bestOf test ps o)
+bestOf test [] best = best
+bestOf test (p ∷ ps) best = cond (test p) (higher p (bestOf test ps best)) (bestOf test ps best)
 
--- how many pairs at the head of a set are below p
+-- how many pairs at the head of a set are below a pair
 unfoldable pub rankOf : Pair → List Pair → ℕ
-rankOf p [] = 0
-rankOf p (x ∷ xs) = cond (below x p) (suc (rankOf p xs)) 0
+rankOf pair [] = 0
+rankOf pair (x ∷ xs) = cond (below x pair) (suc (rankOf pair xs)) 0
 
--- p put at place j of a set
+-- a pair put at place j of a set
 abbrev pub placedAt : ℕ → Pair → List Pair → List Pair
-placedAt j p l = take j l ++ p ∷ drop j l
+placedAt j pair pairs = take j pairs ++ pair ∷ drop j pairs
 
--- number k of the numbers from at on with x put at place j
+-- number `place` of the numbers from at on with a number put at place j
 abbrev pub widenedBy : List ℕ → ℕ → ℕ → ℕ → ℕ → ℕ
-widenedBy r at j x k = cond (ltb k j) (getD r (at + k) 0) (cond (eqb k j) x (getD r (at + k - 1) 0))
+widenedBy replies at j number place =
+    cond (ltb place j) (getD replies (at + place) 0)
+    (cond (eqb place j) number (getD replies (at + place - 1) 0))

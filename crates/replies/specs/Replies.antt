@@ -1,7 +1,7 @@
 -- The memory that a client is lent for what the servers reply (01, 'Desk': noted timestamps, pair sets,
 -- acknowledgements).
 --
--- It is 91 numbers, in four rows: for each of 13 servers its noted timestamp plus one, the size of its set,
+-- It is four rows of numbers: for each of 13 servers its noted timestamp plus one, the size of its set,
 -- its acknowledgement (0 or 1), and the four pairs of its set. What is not used is zero.
 --
 -- In order: the places; what a memory holds for each server; the memory of what a client holds; one server's
@@ -19,7 +19,7 @@ use mir.Val.{boolByte}
 use Rattle.message.specs.declared.Pair.{Pair}
 use Rattle.message.specs.declared.ReadNumber.{ReadNumber}
 use Rattle.register.specs.declared.Phase.{Phase}
-use Rattle.register.specs.Settings.{marks}
+use Rattle.register.specs.Settings.{mostServers}
 use Rattle.register.specs.Client.{Client, setLimit}
 use Rattle.replies.specs.declared.Choice.{Choice}
 use Rattle.replies.specs.declared.Choice.the-variants.{Found, Nothing}
@@ -28,19 +28,32 @@ use Rattle.replies.specs.declared.Choice.the-variants.{Found, Nothing}
 
 -- where each row begins; the noted timestamps begin at 0
 abbrev pub sizesAt : ℕ
-sizesAt = 13
+sizesAt = mostServers
 
 abbrev pub acksAt : ℕ
-acksAt = 26
+acksAt = 2 * mostServers
 
 abbrev pub pairsAt : ℕ
-pairsAt = 39
+pairsAt = 3 * mostServers
 
--- all of it
-abbrev pub words : ℕ
-words = 91
+-- how many numbers there are: 91
+abbrev pub replyWords : ℕ
+replyWords = pairsAt + mostServers * setLimit
 
--- ---- what a memory holds for the servers, numbered from 1; of a server without a place it holds nothing
+-- the numbers of the server at place i: its timestamp's, its set's size, its acknowledgement, its pair j's
+abbrev pub noteAt : List ℕ → ℕ → ℕ
+noteAt replies i = getD replies i 0
+
+abbrev pub sizeAt : List ℕ → ℕ → ℕ
+sizeAt replies i = getD replies (sizesAt + i) 0
+
+abbrev pub ackAt : List ℕ → ℕ → ℕ
+ackAt replies i = getD replies (acksAt + i) 0
+
+abbrev pub pairAt : List ℕ → ℕ → ℕ → ℕ
+pairAt replies i j = getD replies (pairsAt + i * setLimit + j) 0
+
+-- ---- what a memory holds for the servers
 
 -- a timestamp is stored plus one, so that zero is none
 unfoldable pub noteOf : ℕ → Option ℕ
@@ -53,26 +66,35 @@ pairsOf (w ∷ ws) = record { 0 = w } ∷ pairsOf ws
 
 -- the four numbers of the set at place i, and of these as many as its size says
 abbrev pub fourAt : List ℕ → ℕ → List ℕ
-fourAt r i = take setLimit (drop (pairsAt + i * setLimit) r)
+fourAt replies i = take setLimit (drop (pairsAt + i * setLimit) replies)
 
 abbrev pub setAt : List ℕ → ℕ → List Pair
-setAt r i = pairsOf (take (getD r (sizesAt + i) 0) (fourAt r i))
+setAt replies i = pairsOf (take (sizeAt replies i) (fourAt replies i))
+
+-- by the server's number, from 1, what stands at its place; of a server without a place, nothing
+abbrev pub byNumber : {A : Type 0} → A → (ℕ → A) → ℕ → A
+byNumber nothing atPlace zero = nothing
+byNumber nothing atPlace (suc i) = cond (ltb i mostServers) (atPlace i) nothing
 
 unfoldable pub notedIn : List ℕ → ℕ → Option ℕ
-notedIn r zero = none
-notedIn r (suc i) = cond (ltb i marks) (noteOf (getD r i 0)) none
+notedIn replies = byNumber none (λ i. noteOf (noteAt replies i))
 
 unfoldable pub setIn : List ℕ → ℕ → List Pair
-setIn r zero = []
-setIn r (suc i) = cond (ltb i marks) (setAt r i) []
+setIn replies = byNumber [] (setAt replies)
 
 unfoldable pub ackIn : List ℕ → ℕ → Bool
-ackIn r zero = false
-ackIn r (suc i) = cond (ltb i marks) (not (eqb (getD r (acksAt + i) 0) 0)) false
+ackIn replies = byNumber false (λ i. not (eqb (ackAt replies i) 0))
 
 -- the client that a memory shows, in a phase and at a read number
 abbrev pub held : Phase → ReadNumber → List ℕ → Client
-held ph t r = record { phase = ph; reads = t; noted = notedIn r; sets = setIn r; acks = ackIn r }
+held phase reads replies =
+    record {
+      phase = phase;
+      reads = reads;
+      noted = notedIn replies;
+      sets = setIn replies;
+      acks = ackIn replies;
+    }
 
 -- ---- the memory of what a client holds
 
@@ -92,33 +114,34 @@ pairWord (p ∷ ps) zero = p .0
 pairWord (p ∷ ps) (suc j) = pairWord ps j
 
 unfoldable pub storeReplies : Client → List ℕ
-storeReplies x =
-    row (λ i. noteWord (x .noted (suc i))) marks
-    ++ row (λ i. length (x .sets (suc i))) marks
-    ++ row (λ i. boolByte (x .acks (suc i))) marks
-    ++ row (λ i. pairWord (x .sets (suc (i / setLimit))) (i % setLimit)) (marks * setLimit)
+storeReplies client =
+    row (λ i. noteWord (client .noted (suc i))) mostServers
+    ++ row (λ i. length (client .sets (suc i))) mostServers
+    ++ row (λ i. boolByte (client .acks (suc i))) mostServers
+    ++ row (λ i. pairWord (client .sets (suc (i / setLimit))) (i % setLimit)) (mostServers * setLimit)
 
 -- ---- one server's part replaced
 
 -- the noted timestamp at place i
 abbrev pub putNote : List ℕ → ℕ → ℕ → List ℕ
-putNote r i t = set r i (t + 1)
+putNote replies i stamp = set replies i (stamp + 1)
 
 -- an acknowledgement at place i
 abbrev pub putAck : List ℕ → ℕ → List ℕ
-putAck r i = set r (acksAt + i) 1
+putAck replies i = set replies (acksAt + i) 1
 
 -- the set at place i
 unfoldable pub putSet : List ℕ → ℕ → List Pair → List ℕ
-putSet r i l = sets (set r (sizesAt + i) (length l)) (pairsAt + i * setLimit) (row (pairWord l) setLimit)
+putSet replies i pairs =
+    sets (set replies (sizesAt + i) (length pairs)) (pairsAt + i * setLimit) (row (pairWord pairs) setLimit)
 
 -- the set at place i has at most four pairs, and the numbers behind them are zero
-pub record Padded (r : List ℕ) (i : ℕ) : Type 0 where
-  pub size : getD r (sizesAt + i) 0 ≤ setLimit
-  pub zeros : (j : ℕ) → j < setLimit → getD r (sizesAt + i) 0 ≤ j → getD r (pairsAt + i * setLimit + j) 0 ≡ 0
+pub record Padded (replies : List ℕ) (i : ℕ) : Type 0 where
+  pub size : sizeAt replies i ≤ setLimit
+  pub zeros : (j : ℕ) → j < setLimit → sizeAt replies i ≤ j → pairAt replies i j ≡ 0
 
 -- ---- the choice as an answer
 
 abbrev pub choiceOf : Choice → Option Pair
-choiceOf (Found p) = some p
+choiceOf (Found pair) = some pair
 choiceOf Nothing = none

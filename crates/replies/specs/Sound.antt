@@ -3,17 +3,17 @@
 -- Of n servers, timestamps and sets are used while the client reads, acknowledgements while it stores. What
 -- is not used is zero.
 -- Assumes nothing.
-use Prim.Native.Nat.{ℕ, suc, _+_, _*_, _^_}
+use Prim.Native.Nat.{ℕ, suc, _^_}
 use mathlib.Core.Bool.{Bool, true, cond, _&&_, _||_}
 use mathlib.Core.List.{List, [], _∷_}
 use lib.Dec.{eqb, leb, ltb}
-use lib.ListN.{length, getD}
+use lib.ListN.{length}
 use Rattle.basics.specs.Tests.{allPass, allBelow}
 use Rattle.message.specs.declared.Pair.{Pair}
 use Rattle.message.specs.Pair.{below}
-use Rattle.register.specs.Settings.{marks}
+use Rattle.register.specs.Settings.{mostServers}
 use Rattle.register.specs.Client.{setLimit}
-use Rattle.replies.specs.Replies.{sizesAt, acksAt, pairsAt, words, setIn}
+use Rattle.replies.specs.Replies.{replyWords, noteAt, sizeAt, ackAt, pairAt, setIn}
 
 -- p is below the first of a list
 abbrev pub isFirst : Pair → List Pair → Bool
@@ -25,27 +25,35 @@ unfoldable pub isRising : List Pair → Bool
 isRising [] = true
 isRising (p ∷ ps) = isFirst p ps && isRising ps
 
+-- number j of the set at place i belongs to a pair or is zero
+abbrev pub isPast : List ℕ → ℕ → ℕ → Bool
+isPast replies i j = ltb j (sizeAt replies i) || eqb (pairAt replies i j) 0
+
 -- 'unused places are zero', behind the last pair of the set at place i
 unfoldable pub isPadded : List ℕ → ℕ → Bool
-isPadded r i =
-    allBelow (λ j. ltb j (getD r (sizesAt + i) 0) || eqb (getD r (pairsAt + i * setLimit + j) 0) 0) setLimit
+isPadded replies i = allBelow (isPast replies i) setLimit
 
 -- a number that is used is at most its limit, and one that is not is zero
 abbrev pub isWithin : Bool → ℕ → ℕ → Bool
-isWithin used limit x = leb x (cond used limit 0)
+isWithin used limit number = leb number (cond used limit 0)
+
+-- the highest timestamp, of 24 bits, plus one
+abbrev pub mostNoted : ℕ
+mostNoted = 2 ^ 24
 
 -- the server at place i, whose timestamp and set, and whose acknowledgement, are used or not
 unfoldable pub isSoundAt : Bool → Bool → List ℕ → ℕ → Bool
-isSoundAt reading storing r i =
+isSoundAt reading storing replies i =
     allPass
-    (isWithin reading (2 ^ 24) (getD r i 0)
-    ∷ isWithin reading setLimit (getD r (sizesAt + i) 0)
-    ∷ isWithin storing 1 (getD r (acksAt + i) 0)
-    ∷ isRising (setIn r (suc i))
-    ∷ isPadded r i
+    (isWithin reading mostNoted (noteAt replies i)
+    ∷ isWithin reading setLimit (sizeAt replies i)
+    ∷ isWithin storing 1 (ackAt replies i)
+    ∷ isRising (setIn replies (suc i))
+    ∷ isPadded replies i
     ∷ [])
 
 -- the whole memory, of which the places of n servers are used
 unfoldable pub areSound : ℕ → Bool → Bool → List ℕ → Bool
-areSound n reading storing r =
-    eqb (length r) words && allBelow (λ i. isSoundAt (ltb i n && reading) (ltb i n && storing) r i) marks
+areSound n reading storing replies =
+    eqb (length replies) replyWords
+    && allBelow (λ i. isSoundAt (ltb i n && reading) (ltb i n && storing) replies i) mostServers

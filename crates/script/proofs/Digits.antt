@@ -3,13 +3,9 @@
 -- In order: the length of digits; how many decimal digits a number has, one division at a time; bounds of
 -- that count, by powers of ten.
 -- Assumes nothing.
-use mathlib.Core.Path.{_≡_, refl, ap}
-use Prim.Native.Nat.{ℕ, zero, suc, _+_, _/_, _^_, _≤_, _<_}
+use Rattle.basics.proofs.Prelude.{_≡_, refl, ap, length, ℕ, zero, suc, _+_, _/_, _%_, _^_, _≤_, _<_, arith}
+use Rattle.basics.proofs.Prelude.{ltb, lt-ltb, le-ltb}
 use native.Mathlib.Nat.{pow-suc, one-le-pow, le-div-iff-mul-le, div-lt-iff-lt-mul, zero-lt-suc}
-use native.Mathlib.Omega.{arith}
-use lib.Dec.{ltb}
-use lib.ListN.{length}
-use borrow.Author.Tests.{lt-ltb, le-ltb}
 use Rattle.basics.proofs.Cases.{by-test}
 use Rattle.script.specs.Numbers.{hexDigit, digitsOf, digitCount, decimal}
 
@@ -21,6 +17,13 @@ digits-length base (suc n) value = ap suc (digits-length base n value)
 -- a decimal digit is one of 0 to 9
 pub digit-below-ten : (d : ℕ) → d < 10 → 48 + d ≡ hexDigit d
 digit-below-ten d h = rw (lt-ltb d 10 h)
+
+-- the last two digits of a number are those of its last two as a number
+pub last-one : (value : ℕ) → value % 100 % 10 ≡ value % 10
+last-one value = omega arith
+
+pub last-ten : (value : ℕ) → value % 100 / 10 ≡ value / 10 % 10
+last-ten value = omega arith
 
 -- ---- how many
 

@@ -3,18 +3,15 @@
 -- In order: the line from a place up to its end; what was found there, behind the text, by the quick reader
 -- and by `parse`.
 -- Assumes nothing.
-use mathlib.Core.Path.{_≡_, sym, ap, _∙_}
-use mathlib.Core.List.{List}
-use Prim.Native.Nat.{ℕ, _+_, _-_, _≤_}
-use native.Mathlib.Nat.{add-zero}
-use native.Mathlib.Omega.{arith}
-use lib.ListN.{length, take, drop, length-drop, drop-of-length-le}
+use Rattle.basics.proofs.Prelude.{_≡_, sym, ap, _∙_, List, length, take, drop, length-drop, ℕ, _+_, _-_, _≤_}
+use Rattle.basics.proofs.Prelude.{add-zero, arith}
+use lib.ListN.{drop-of-length-le}
 use lib.Seq.{take-nil}
 use Rattle.register.specs.declared.Step.{Step}
 use Rattle.script.specs.declared.next.Quick.{Quick}
 use Rattle.script.specs.declared.next.Quick.the-variants as quick
 use Rattle.script.specs.declared.parse.Line.{Line}
-use Rattle.script.specs.declared.parse.Line.the-variants.{Take, Unread}
+use Rattle.script.specs.declared.parse.Line.the-variants.{Do, Unread}
 use Rattle.script.specs.Lines.{upTo, part, lineEnd}
 use Rattle.script.specs.Grammar.{lineOf}
 use Rattle.script.specs.Next.{foundAt, IsQuick}
@@ -46,7 +43,7 @@ none-found text at h =
 -- what the quick reader found
 pub quick-found : (text : List ℕ) (at : ℕ) (r : Quick) → IsQuick r text at → (x : Step) (end : ℕ)
     → r ≡ quick.Is x end
-    → record { end = end; line = Take x } ≡ foundAt text at
+    → record { end = end; line = Do x } ≡ foundAt text at
 quick-found text at r h x end e = sym (rw e at h)
 
 -- what stands up to the line's end

@@ -1,20 +1,15 @@
 -- Hexadecimal digits in two parts: 22 digits are a number when the first 6 and the other 16 are, and then it
 -- is the first part times 2 ^ 64 plus the second.
 -- Assumes nothing.
-use mathlib.Core.Path.{_≡_, refl, ap, sym, _∙_}
-use mathlib.Core.Bool.{true, _&&_}
-use mathlib.Core.List.{List, [], _∷_}
-use mathlib.Core.Option.{Option, none, some}
-use Prim.Native.Nat.{ℕ, _+_, _*_, _%_, _^_, _<_}
-use native.Mathlib.Nat.{mod-eq-of-lt, lt-of-lt-of-le, add-mul, mul-assoc, add-assoc, zero-mul, zero-add}
+use Rattle.basics.proofs.Prelude.{_≡_, refl, sym, ap, _∙_, true, _&&_, List, [], _∷_, Option, none, some}
+use Rattle.basics.proofs.Prelude.{length, take, drop, length-drop, length-take-le, ℕ, _+_, _*_, _%_, _^_, _<_}
+use Rattle.basics.proofs.Prelude.{zero-add, arith, eqb, eqb-true, eq-eqb}
+use native.Mathlib.Nat.{mod-eq-of-lt, lt-of-lt-of-le, add-mul, mul-assoc, add-assoc, zero-mul}
 use native.Mathlib.Nat.{pow-succ', pow-zero}
-use native.Mathlib.Omega.{arith}
 use lib.Arith.{digits-lt}
-use lib.Dec.{eqb, lit≤}
-use lib.ListN.{length, take, drop, take-append-drop, length-drop}
+use lib.Dec.{lit≤}
+use lib.ListN.{take-append-drop}
 use lib.Pow.{high, low}
-use lib.Seq.{length-take-le}
-use borrow.Author.Tests.{eq-eqb, eqb-true}
 use Rattle.basics.proofs.Cases.{by-test, both}
 use Rattle.script.specs.Numbers.{isHexDigit, hexValue, allBytes, valueFrom, hexIn}
 use Rattle.script.specs.declared.parse.Hex.{Hex}
@@ -84,18 +79,17 @@ module _ (text : List ℕ) (wide : length text ≡ 22) where
   rest-wide = length-drop 6 text ∙ omega arith
 
   tests : allBytes isHexDigit text ≡ allBytes isHexDigit (take 6 text) && allBytes isHexDigit (drop 6 text)
-  tests =
-      ap (λ (l : List ℕ). allBytes isHexDigit l) (sym (take-append-drop 6 text))
-      ∙ all-append isHexDigit (take 6 text) (drop 6 text)
+  tests = cc (take-append-drop 6 text, all-append isHexDigit (take 6 text) (drop 6 text))
 
   values : valueFrom hexValue 16 0 text
       ≡ valueFrom hexValue 16 0 (take 6 text) * 2 ^ 64 + valueFrom hexValue 16 0 (drop 6 text)
   values =
-      ap (λ (l : List ℕ). valueFrom hexValue 16 0 l) (sym (take-append-drop 6 text))
-      ∙ value-append hexValue 16 0 (take 6 text) (drop 6 text)
-      ∙ value-behind hexValue 16 (valueFrom hexValue 16 0 (take 6 text)) (drop 6 text)
-      ∙ ap (λ (n : ℕ). valueFrom hexValue 16 0 (take 6 text) * 16 ^ n + valueFrom hexValue 16 0 (drop 6 text))
-      rest-wide
+      cc (
+        take-append-drop 6 text,
+        value-append hexValue 16 0 (take 6 text) (drop 6 text),
+        value-behind hexValue 16 (valueFrom hexValue 16 0 (take 6 text)) (drop 6 text),
+        rest-wide,
+      )
 
   halves : hexIn 22 text ≡ joined (hexIn 6 (take 6 text)) (hexIn 16 (drop 6 text))
   unfolding hexIn

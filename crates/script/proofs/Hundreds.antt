@@ -4,15 +4,9 @@
 -- those of the hundreds (`decimal-hundreds`). In order: that; when digits are kept; what those are
 -- (`kept-digits`).
 -- Assumes nothing.
-use mathlib.Core.Path.{_≡_, refl, ap, sym, _∙_}
-use mathlib.Core.Bool.{_&&_}
-use mathlib.Core.List.{List, [], _∷_, _++_}
-use Prim.Native.Nat.{ℕ, zero, suc, _*_, _/_, _%_, _^_, _≤_, _<_}
+use Rattle.basics.proofs.Prelude.{_≡_, refl, sym, ap, _∙_, _&&_, List, [], _∷_, _++_, length, ℕ, zero, suc}
+use Rattle.basics.proofs.Prelude.{_*_, _/_, _%_, _^_, _≤_, _<_, arith, ltb, ltb-true, lt-ltb, le-ltb}
 use native.Mathlib.Nat.{pow-suc, div-div-eq-div-mul}
-use native.Mathlib.Omega.{arith}
-use lib.Dec.{ltb}
-use lib.ListN.{length}
-use borrow.Author.Tests.{ltb-true, lt-ltb, le-ltb}
 use Rattle.basics.proofs.Cases.{by-test, both}
 use Rattle.script.specs.Numbers.{hexDigit, digitsOf, digitCount, decimal}
 use Rattle.script.specs.Numerals.{keptDigits}
@@ -45,12 +39,14 @@ pub decimal-hundreds : (value : ℕ) → 0 < value / 100 → value / 100 < 10000
 decimal-hundreds value some few =
     let h : ℕ = value / 100 in
     let tenth : value / 10 / 10 ≡ h = omega arith in
-    let count : digitCount 19 value ≡ suc (suc (digitCount 19 h)) =
-    count-more 18 value (omega arith)
-    ∙ ap suc (count-more 17 (value / 10) (omega arith))
-    ∙ ap (λ (x : ℕ). suc (suc (digitCount 17 x))) tenth
-    ∙ ap (λ (x : ℕ). suc (suc x)) (sym (count-steady 18 h (omega arith) ∙ count-steady 17 h (omega arith))) in
-    ap (λ (n : ℕ). digitsOf 10 n value) count ∙ digits-behind (digitCount 19 h) value
+    let count : digitCount 19 value ≡ suc (suc (digitCount 19 h)) = cc (
+      count-more 18 value (omega arith),
+      count-more 17 (value / 10) (omega arith),
+      tenth,
+      count-steady 18 h (omega arith),
+      count-steady 17 h (omega arith),
+    ) in
+    cc (count, digits-behind (digitCount 19 h) value)
 
 -- ---- the digits that are kept
 

@@ -4,18 +4,14 @@
 -- In order: a part of a part, by its length; the block after i bytes have moved (each is read where none was
 -- stored yet); the whole part moved; a line that was cut is unreadable, as it is whole.
 -- Assumes nothing.
-use mathlib.Core.Path.{_≡_, refl, ap, sym, _∙_}
-use mathlib.Core.Bool.{Bool, true, false, _&&_}
-use mathlib.Core.List.{List, _∷_, _++_}
-use Prim.Native.Nat.{ℕ, suc, _+_, _-_, _≤_, _<_, min}
+use Rattle.basics.proofs.Prelude.{_≡_, refl, sym, ap, _∙_, Bool, true, false, _&&_, List, _++_, length, getD}
+use Rattle.basics.proofs.Prelude.{set, take, drop, length-append, length-drop, length-take-le, ℕ, suc, _+_}
+use Rattle.basics.proofs.Prelude.{_-_, _≤_, _<_, add-one, arith, leb, leb-true, leb-false, lt-leb}
+use Prim.Native.Nat.{min}
 use native.Mathlib.Nat.{add-comm, min-eq-left, min-eq-right}
-use native.Mathlib.Numerals.{add-one}
-use native.Mathlib.Omega.{arith}
-use lib.Dec.{leb}
-use lib.ListN.{length, take, drop, set, getD, length-append, length-take, length-drop}
-use lib.Seq.{length-take-le, take-take, take-all, take-length, take-suc}
+use lib.ListN.{length-take}
+use lib.Seq.{take-take, take-all, take-length, take-suc}
 use lib.Seq.{drop-cons, set-at, append-snoc, getD-append-add, getD-drop}
-use borrow.Author.Tests.{leb-true, leb-false, lt-leb}
 use Rattle.basics.proofs.Cases.{by-test}
 use Rattle.script.specs.declared.parse.Line.the-variants.{Unread}
 use Rattle.script.specs.Grammar.{lineOf}
@@ -50,11 +46,13 @@ kept-take : (text : List ℕ) (at end n : ℕ) → n ≡ min (min end (length te
 kept-take text at end n e =
     let l : List ℕ = drop at text in
     let wide : length l ≡ length text - at = length-drop at text in
-    let m : n ≡ min (min most (end - at)) (length l) =
-    e ∙ ap (λ (k : ℕ). min k most) (sub-least end (length text) at)
-    ∙ least-swap (end - at) (length text - at) most
-    ∙ ap (λ (k : ℕ). min (min most (end - at)) k) (sym wide) in
-    ap (λ (k : ℕ). take k l) m ∙ sym (take-both most (end - at) l ∙ take-within (min most (end - at)) l)
+    let m : n ≡ min (min most (end - at)) (length l) = cc (
+      e,
+      sub-least end (length text) at,
+      least-swap (end - at) (length text - at) most,
+      wide,
+    ) in
+    cc (m, take-both most (end - at) l, take-within (min most (end - at)) l)
 
 -- ---- byte by byte
 
@@ -73,9 +71,13 @@ module _ (text : List ℕ) (at i : ℕ) (h : at + i ≤ length text) where
   -- behind what was stored the block is as it was
   pub moved-read : getD (moved text at i) (at + i) 0 ≡ getD text (at + i) 0
   moved-read =
-      ap (λ (n : ℕ). getD (moved text at i) n 0) (add-comm at i ∙ ap (λ (n : ℕ). n + at) (sym front))
-      ∙ getD-append-add (take i (drop at text)) (drop i text) at 0 ∙ getD-drop i text at 0
-      ∙ ap (λ (n : ℕ). getD text n 0) (add-comm i at)
+      cc (
+        add-comm at i,
+        front,
+        getD-append-add (take i (drop at text)) (drop i text) at 0,
+        getD-drop i text at 0,
+        add-comm i at,
+      )
 
 pub moved-more : (text : List ℕ) (at i : ℕ) → at + i < length text
     → set (moved text at i) i (getD text (at + i) 0) ≡ moved text at (i + 1)
@@ -83,12 +85,14 @@ moved-more text at i h =
     let x : List ℕ = take i (drop at text) in
     let b : ℕ = getD (drop at text) i 0 in
     let inside : i < length (drop at text) = rw (length-drop at text) (omega arith) in
-    ap (λ (l : List ℕ). set (x ++ l) i (getD text (at + i) 0)) (drop-cons text i 0 (omega arith))
-    ∙ set-at x (getD text i 0) (drop (suc i) text) (getD text (at + i) 0) i (front text at i (omega arith))
-    ∙ ap (λ (n : ℕ). x ++ n ∷ drop (suc i) text) (sym (getD-drop at text i 0))
-    ∙ sym (append-snoc x b (drop (suc i) text))
-    ∙ ap (λ (l : List ℕ). l ++ drop (suc i) text) (sym (take-suc (drop at text) i 0 inside))
-    ∙ ap (λ (n : ℕ). moved text at n) (sym (add-one i))
+    cc (
+      drop-cons text i 0 (omega arith),
+      set-at x (getD text i 0) (drop (suc i) text) (getD text (at + i) 0) i (front text at i (omega arith)),
+      getD-drop at text i 0,
+      append-snoc x b (drop (suc i) text),
+      take-suc (drop at text) i 0 inside,
+      add-one i,
+    )
 
 -- ---- the whole part
 

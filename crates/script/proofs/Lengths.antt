@@ -2,10 +2,7 @@
 -- and the line's end. Counting 20 digits for every number is enough. And how short it can be: 5 bytes behind
 -- the number.
 -- Assumes nothing.
-use mathlib.Core.List.{[], _∷_, _++_}
-use Prim.Native.Nat.{ℕ, _≤_}
-use native.Mathlib.Omega.{arith}
-use lib.ListN.{length, length-append}
+use Rattle.basics.proofs.Prelude.{[], _∷_, _++_, length, length-append, ℕ, _≤_, arith}
 use Rattle.message.specs.declared.Pair.{Pair}
 use Rattle.message.specs.Pair.{counter, client, entry}
 use Rattle.refusal.specs.Numbers.{numberOf}
@@ -13,9 +10,9 @@ use Rattle.register.specs.declared.Answer.{Answer}
 use Rattle.register.specs.declared.Answer.the-variants.{Went, Read, Wrote, Spent, Refused}
 use Rattle.script.specs.declared.print.Output.{Output}
 use Rattle.script.specs.declared.print.Output.the-variants.{Set, Unread, Answered}
-use Rattle.script.specs.Spelt.{spelt}
 use Rattle.script.specs.Numbers.{decimal, hexEntry}
-use Rattle.script.specs.Printed.{spaced, pairText, answerText, outputText, behindNumber, printed}
+use Rattle.script.specs.Printed.{spaced, pairText, answerText, outputText}
+use Rattle.script.specs.Printed.{behindNumber, printed, longest}
 use Rattle.script.proofs.Digits.{decimal-short, digits-length}
 
 -- a blank and a number
@@ -33,7 +30,6 @@ pair-short p =
 
 -- a word and what it adds have 3 to 58 bytes
 answer-size : (a : Answer) → (3 ≤ length (answerText a)) × (length (answerText a) ≤ 58)
-unfolding spelt
 answer-size Went = (omega arith, omega arith)
 answer-size (Read p) = (omega arith, omega (arith, pair-short p))
 answer-size (Wrote p) = (omega arith, omega (arith, pair-short p))
@@ -41,13 +37,12 @@ answer-size Spent = (omega arith, omega arith)
 answer-size (Refused r) = (omega arith, omega (arith, spaced-short (numberOf r)))
 
 output-size : (o : Output) → (3 ≤ length (outputText o)) × (length (outputText o) ≤ 58)
-unfolding spelt
 output-size Set = (omega arith, omega arith)
 output-size Unread = (omega arith, omega arith)
 output-size (Answered a) = answer-size a
 
--- no line is longer than 80 bytes
-pub printed-short : (n : ℕ) (o : Output) → length (printed n o) ≤ 80
+-- no line is longer
+pub printed-short : (n : ℕ) (o : Output) → length (printed n o) ≤ longest
 unfolding printed
 printed-short n o =
     rw (length-append (decimal n) (behindNumber o), length-append (32 ∷ outputText o) (10 ∷ []))

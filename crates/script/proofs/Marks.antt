@@ -1,15 +1,9 @@
 -- Marks, read from the last to the first: each is one bit below those behind it.
 -- Assumes nothing.
-use mathlib.Core.Path.{_≡_, ap}
-use mathlib.Core.Bool.{true}
-use mathlib.Core.List.{List}
-use Prim.Native.Nat.{ℕ, suc, _+_, _-_, _*_, _^_, _≤_, _<_}
-use native.Mathlib.Omega.{arith}
-use lib.Dec.{eqb}
-use lib.ListN.{length, getD, drop}
+use Rattle.basics.proofs.Prelude.{_≡_, ap, true, List, length, getD, drop, ℕ, suc, _+_, _-_, _*_, _^_, _≤_}
+use Rattle.basics.proofs.Prelude.{_<_, arith, eqb, eqb-true}
 use lib.Pow.{pow-add}
 use lib.Seq.{drop-cons}
-use borrow.Author.Tests.{eqb-true}
 use Rattle.basics.proofs.Cases.{by-test}
 use Rattle.script.specs.Numbers.{allBytes}
 use Rattle.script.specs.Grammar.{isMark, markBits}

@@ -4,17 +4,16 @@
 -- the end of those that are kept, make them the number's (`Hundreds`), and at most five of the zeros are left
 -- behind it.
 -- Assumes nothing.
-use mathlib.Core.Path.{_≡_, refl, ap, sym, _∙_}
-use mathlib.Core.List.{List, _++_, append-assoc}
-use Prim.Native.Nat.{ℕ, _+_, _-_, _/_, _%_, _≤_, _<_}
-use native.Mathlib.Omega.{arith}
-use lib.ListN.{length, set, drop, replicate, length-append, length-drop}
+use Rattle.basics.proofs.Prelude.{_≡_, refl, sym, ap, _∙_, List, _++_, append-assoc, length, set, drop}
+use Rattle.basics.proofs.Prelude.{replicate, length-append, length-drop, ℕ, _+_, _-_, _/_, _%_, _≤_, _<_}
+use Rattle.basics.proofs.Prelude.{arith}
 use Rattle.script.specs.declared.print.Numeral.{Numeral}
 use Rattle.script.specs.Numbers.{hexDigit, decimal}
 use Rattle.script.specs.Numerals.{keptDigits, numeralOf}
 use Rattle.script.specs.Writing.{written, Written, Begun}
 use Rattle.script.proofs.Writing.{length-written, keeps, named}
 use Rattle.script.proofs.Hundreds.{lastTwo, kept-few, kept-digits}
+use Rattle.script.proofs.Digits.{last-one, last-ten}
 use Rattle.script.proofs.Over.{two-written, over}
 
 pub number-is : (n : ℕ) → numeralOf n .number ≡ n
@@ -36,6 +35,10 @@ module _ (q : Numeral) (own : q ≡ numeralOf (q .number)) where
   kept-is : q .kept ≡ length digits
   unfolding numeralOf
   kept-is = ap (λ (x : Numeral). x .kept) own
+
+  pub last-two : q .«last_two» ≡ q .number % 100
+  unfolding numeralOf
+  last-two = ap (λ (x : Numeral). x .«last_two») own
 
   pub few-kept : q .kept ≤ 6
   few-kept = omega (arith, kept-is, kept-few (q .number / 100))
@@ -65,7 +68,8 @@ module _ (q : Numeral) (own : q ≡ numeralOf (q .number)) where
     pub numeral-begun : {m : ℕ} {before mid after : List ℕ} → 8 ≤ length before
         → Written (q .text) before 0 m mid
         → after
-        ≡ set (set mid (q .kept + 1) (hexDigit (q .number % 10))) (q .kept) (hexDigit (q .number / 10 % 10))
+        ≡ set (set mid (q .kept + 1) (hexDigit (q .«last_two» % 10))) (q .kept)
+        (hexDigit (q .«last_two» / 10))
         → Begun (decimal (q .number)) before (q .kept + 2) after
     numeral-begun {m} {before} {mid} {after} wide w is =
         let v : ℕ = q .number in
@@ -77,7 +81,7 @@ module _ (q : Numeral) (own : q ≡ numeralOf (q .number)) where
           fits =
               free;
           ends = refl;
-          holds = is
+          holds = (rw (last-two, last-one v, last-ten v) at is)
               ∙ two-written mid k (hexDigit (v / 10 % 10)) (hexDigit (v % 10)) free;
         } in
         let same : digits ++ (lastTwo v ++ rest) ≡ decimal v ++ rest =

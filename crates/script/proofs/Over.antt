@@ -4,12 +4,11 @@
 -- stand behind a text, and what is written over them is as long, nothing is left, as if they had never been
 -- written (`then-over`).
 -- Assumes nothing.
-use mathlib.Core.Path.{_≡_, ap, sym, _∙_}
-use mathlib.Core.List.{List, [], _∷_, _++_, append-assoc, append-nil}
-use Prim.Native.Nat.{ℕ, zero, suc, _+_, _-_, _≤_}
-use native.Mathlib.Omega.{arith}
-use lib.ListN.{length, take, drop, set, length-append, length-drop, drop-of-length-le}
-use lib.Seq.{length-take-le, take-at, drop-append-add, drop-drop}
+use Rattle.basics.proofs.Prelude.{_≡_, sym, ap, _∙_, List, [], _∷_, _++_, append-assoc, append-nil, length}
+use Rattle.basics.proofs.Prelude.{set, take, drop, length-append, length-drop, length-take-le, ℕ, zero, suc}
+use Rattle.basics.proofs.Prelude.{_+_, _-_, _≤_, arith}
+use lib.ListN.{drop-of-length-le}
+use lib.Seq.{take-at, drop-append-add, drop-drop}
 use Rattle.script.specs.Writing.{written, Written, Begun}
 use Rattle.script.proofs.Writing.{written-none, written-then, written-front, length-written, keeps}
 
@@ -24,9 +23,10 @@ pub two-written : (out : List ℕ) (at a b : ℕ) → at + 2 ≤ length out
     → set (set out (at + 1) b) at a ≡ written out at (a ∷ b ∷ [])
 two-written out at a b h =
     let next : at + 1 ≡ suc at = omega arith in
-    let one : set out (suc at) b ≡ written out (suc at) (b ∷ []) =
-    ap (λ (l : List ℕ). set l (suc at) b) (written-none out (suc (suc at)))
-    ∙ written-front out (suc at) [] b (omega arith) in
+    let one : set out (suc at) b ≡ written out (suc at) (b ∷ []) = cc (
+      written-none out (suc (suc at)),
+      written-front out (suc at) [] b (omega arith),
+    ) in
     rw (next, one) (written-front out at (b ∷ []) a (omega arith))
 
 module _ (out : List ℕ) (p : ℕ) (t u : List ℕ) (h : p + length t ≤ length out) where
@@ -57,12 +57,13 @@ module _ (out : List ℕ) (p : ℕ) (t u : List ℕ) (h : p + length t ≤ lengt
   written-over =
       let q : List ℕ = drop (p + length t) out in
       let q′ : List ℕ = drop (p + length (u ++ rest)) out in
-      ap (λ (l : List ℕ). take p l ++ u ++ drop (p + length u) (written out p t)) (append-assoc head t q)
-      ∙ ap (λ (l : List ℕ). l ++ u ++ drop (p + length u) (written out p t))
-      (take-at head (t ++ q) p head-length)
-      ∙ ap (λ (l : List ℕ). head ++ u ++ l) behind
-      ∙ sym (append-assoc (head ++ u) rest q′)
-      ∙ ap (λ (l : List ℕ). l ++ q′) (append-assoc head u rest)
+      cc (
+        append-assoc head t q,
+        take-at head (t ++ q) p head-length,
+        behind,
+        append-assoc (head ++ u) rest q′,
+        append-assoc head u rest,
+      )
 
 -- a text written from the end of s on, over t
 pub over : (s t : List ℕ) {u before : List ℕ} {n m r : ℕ} {mid after : List ℕ}
@@ -74,11 +75,14 @@ over s t {u} {before} {n} {m} w e v =
     let base : List ℕ = written before 0 s in
     let wide : length base ≡ length before = length-written before 0 s (omega arith) in
     let at : m ≡ 0 + length s = omega arith in
-    v .holds
-    ∙ ap (λ (l : List ℕ). written l m u) (w .holds ∙ sym (written-then before 0 s (omega arith) t))
-    ∙ ap (λ (k : ℕ). written (written base (0 + length s) t) k u) at
-    ∙ written-over base (0 + length s) t u (omega arith)
-    ∙ written-then before 0 s (omega arith) (u ++ drop (length u) t)
+    cc (
+      v .holds,
+      w .holds,
+      written-then before 0 s (omega arith) t,
+      at,
+      written-over base (0 + length s) t u (omega arith),
+      written-then before 0 s (omega arith) (u ++ drop (length u) t),
+    )
 
 -- five bytes or more behind a text that was begun: nothing else has changed
 module _ {text before : List ℕ} {m : ℕ} {mid : List ℕ} (b : Begun text before m mid) where

@@ -3,16 +3,12 @@
 -- In order: a search goes on where m is not (`pass`, `pass-all`), and stops where it is (`found`); the bytes
 -- up to there and behind it.
 -- Assumes nothing.
-use mathlib.Core.Path.{_≡_, refl, ap}
-use mathlib.Core.Bool.{true, not}
-use mathlib.Core.List.{List, [], _∷_}
-use mathlib.Core.Option.{none, some}
-use Prim.Native.Nat.{ℕ, zero, suc, _+_, _≤_, suc-le-suc, _<_}
-use native.Mathlib.Nat.{not-suc-le-zero, le-of-suc-le-suc}
-use native.Mathlib.Omega.{arith}
-use lib.Dec.{eqb}
-use lib.ListN.{length, getD, take, drop, length-take}
-use borrow.Author.Tests.{eqb-false, eq-eqb, ne-eqb, not-true}
+use Rattle.basics.proofs.Prelude.{_≡_, refl, ap, true, not, List, [], _∷_, none, some, length, getD, take}
+use Rattle.basics.proofs.Prelude.{drop, ℕ, zero, suc, _+_, _≤_, _<_, not-suc-le-zero, arith, eqb, eqb-false}
+use Rattle.basics.proofs.Prelude.{eq-eqb, ne-eqb, not-true}
+use Prim.Native.Nat.{suc-le-suc}
+use native.Mathlib.Nat.{le-of-suc-le-suc}
+use lib.ListN.{length-take}
 use Rattle.basics.specs.Tests.{allBelow}
 use Rattle.basics.proofs.Cases.{by-test, both}
 use Rattle.script.specs.Lines.{upTo, behind}

@@ -3,18 +3,12 @@
 -- Why: behind the letter and the blank, and behind the number and its blank, the line goes on as from there
 -- (`Rest`). So it ends where its rest does, and its letter says what the number and the rest mean.
 -- Assumes nothing.
-use mathlib.Core.Path.{_≡_, refl, ap, _∙_}
-use mathlib.Core.Bool.{false}
-use mathlib.Core.List.{List, _∷_}
-use Prim.Native.Nat.{ℕ, _+_, _-_, _≤_}
-use native.Mathlib.Omega.{arith}
-use lib.Dec.{eqb}
-use lib.ListN.{length, getD, drop}
-use borrow.Author.Tests.{le-leb}
+use Rattle.basics.proofs.Prelude.{_≡_, refl, ap, _∙_, false, List, _∷_, length, getD, drop, ℕ, _+_, _-_, _≤_}
+use Rattle.basics.proofs.Prelude.{arith, eqb, le-leb}
 use Rattle.register.specs.declared.Step.the-variants.{K, D}
 use Rattle.script.specs.declared.next.Quick.{Quick}
 use Rattle.script.specs.declared.parse.Line.{Line}
-use Rattle.script.specs.declared.parse.Line.the-variants.{Take}
+use Rattle.script.specs.declared.parse.Line.the-variants.{Do}
 use Rattle.script.specs.Lines.{upTo, part, lineEnd}
 use Rattle.script.specs.Grammar.{numberThen, numbersThen, numberLine, numberAfter}
 use Rattle.script.specs.Grammar.{messageAfter, argumentsOf, lineOf}
@@ -41,11 +35,12 @@ module _
     unfolding upTo
     line differs =
         let two : at + 1 + 1 ≡ at + 2 = omega arith in
-        let text : drop at s ≡ letter ∷ 32 ∷ drop (at + 2) s =
-        one-byte s at (omega arith)
-        ∙ ap (λ (l : List ℕ). letter ∷ l) (one-byte s (at + 1) (omega arith))
-        ∙ ap (λ (n : ℕ). letter ∷ n ∷ drop (at + 1 + 1) s) blank
-        ∙ ap (λ (n : ℕ). letter ∷ 32 ∷ drop n s) two in
+        let text : drop at s ≡ letter ∷ 32 ∷ drop (at + 2) s = cc (
+          one-byte s at (omega arith),
+          one-byte s (at + 1) (omega arith),
+          blank,
+          two,
+        ) in
         rw (text, differs) refl
 
     found : eqb letter 10 ≡ false → (end : ℕ) (l : Line) → lineEnd s next ≡ end → end ≤ next + 25
@@ -73,17 +68,17 @@ module _
           (omega (arith, last-few second))
           (rw e (says ∙ then-number first (numberAfter l) ∙ rw (last-number second) refl))
 
-      pub found-k : letter ≡ 75 → foundAt s at ≡ record { end = last - 1; line = Take (K x y) }
+      pub found-k : letter ≡ 75 → foundAt s at ≡ record { end = last - 1; line = Do (K x y) }
       unfolding argumentsOf numbersThen
       found-k e = found-two 75 e refl refl
 
-      pub found-d : letter ≡ 68 → foundAt s at ≡ record { end = last - 1; line = Take (D x y) }
+      pub found-d : letter ≡ 68 → foundAt s at ≡ record { end = last - 1; line = Do (D x y) }
       unfolding argumentsOf numbersThen
       found-d e = found-two 68 e refl refl
 
     pub found-l : letter ≡ 76 → (r : Quick) → IsLie r s x next → IsQuick r s at
     unfolding argumentsOf numbersThen
     found-l e (Quick.Is y end) h =
-        found (rw e refl) end (Take y) (h .ends) (h .few)
+        found (rw e refl) end (Do y) (h .ends) (h .few)
         (rw e (then-number first (λ k s. numberThen s (messageAfter k)) ∙ h .says))
     found-l e Quick.No h = tt

@@ -2,12 +2,9 @@
 --
 -- A reader answers a value or that there is none; the definition of a line goes by the same cases.
 -- Assumes nothing.
-use mathlib.Core.Path.{_≡_, refl, sym, _∙_, ap, subst}
-use mathlib.Core.List.{List}
-use mathlib.Core.Option.{Option, some}
-use Prim.Native.Nat.{ℕ, zero, suc, _+_, _-_, _<_, _≤_}
-use native.Mathlib.Numerals.{add-one}
-use native.Mathlib.Omega.{arith}
+use Rattle.basics.proofs.Prelude.{_≡_, refl, sym, ap, _∙_, subst, List, Option, some, length, take, drop}
+use Rattle.basics.proofs.Prelude.{length-drop, ℕ, zero, suc, _+_, _-_, _≤_, _<_, le-refl, not-suc-le-zero}
+use Rattle.basics.proofs.Prelude.{add-one, arith}
 use Rattle.script.specs.declared.parse.Line.{Line}
 use Rattle.script.specs.declared.parse.Number.{Number}
 use Rattle.script.specs.declared.parse.Number.the-variants as number
@@ -17,9 +14,7 @@ use Rattle.script.specs.Numbers.{numberIn}
 use Rattle.script.specs.Lines.{upTo, behind}
 use Rattle.script.specs.Grammar.{numberIs, onNumber, onFirst, startOf, numberThen, numbersThen, Cut}
 use Rattle.script.proofs.Places.{up-to-take, behind-some, behind-none}
-use lib.ListN.{length, take, drop, length-drop}
 use lib.Seq.{take-all}
-use native.Mathlib.Nat.{le-refl, not-suc-le-zero}
 
 -- a reader answered a, which is what it read by the definition
 pub read : {A : Type 0} (is : A → Option ℕ) (f : ℕ → Line) (o : Option ℕ) {r : A} → is r ≡ o → {a : A} → r ≡ a
@@ -34,17 +29,18 @@ rest-is text at =
 -- ---- the numbers before the last argument
 
 module _ (x y : ℕ) (text : List ℕ) (f : ℕ → ℕ → List ℕ → Line) where
-  -- none is left
-  pub none-left : (left : ℕ) → left ≡ 0 → f x y text ≡ numbersThen left x y text f
+  -- none is ahead
+  pub none-ahead : (numbers : ℕ) → numbers ≡ 0 → f x y text ≡ numbersThen numbers x y text f
   unfolding numbersThen
-  none-left left e = rw e refl
+  none-ahead numbers e = rw e refl
 
   -- one is read, and the others behind it
-  some-left : (left : ℕ) → 0 < left
-      → numbersThen left x y text f ≡ numberThen text (λ value rest. numbersThen (left - 1) y value rest f)
+  one-ahead : (numbers : ℕ) → 0 < numbers
+      → numbersThen numbers x y text f
+      ≡ numberThen text (λ value rest. numbersThen (numbers - 1) y value rest f)
   unfolding numbersThen
-  some-left zero h = absurd (not-suc-le-zero h)
-  some-left (suc n) h =
+  one-ahead zero h = absurd (not-suc-le-zero h)
+  one-ahead (suc n) h =
       let one-less : n ≡ suc n - 1 = omega arith in
       ap (λ (m : ℕ). numberThen text (λ value rest. numbersThen m y value rest f)) one-less
 
@@ -66,12 +62,12 @@ module _
         let long = length-drop at text in
         omega arith
 
-    pub number-read : (left x y : ℕ) (f : ℕ → ℕ → List ℕ → Line) → 0 < left
-        → onFirst a (drop at text) (λ value rest. numbersThen (left - 1) y value rest f)
-        ≡ numbersThen left x y (drop at text) f
-    number-read left x y f h =
-        there .means (λ value rest. numbersThen (left - 1) y value rest f)
-        ∙ sym (some-left x y (drop at text) f left h)
+    pub number-read : (numbers x y : ℕ) (f : ℕ → ℕ → List ℕ → Line) → 0 < numbers
+        → onFirst a (drop at text) (λ value rest. numbersThen (numbers - 1) y value rest f)
+        ≡ numbersThen numbers x y (drop at text) f
+    number-read numbers x y f h =
+        there .means (λ value rest. numbersThen (numbers - 1) y value rest f)
+        ∙ sym (one-ahead x y (drop at text) f numbers h)
 
 -- the first word of a text ends at e
 module _ (text : List ℕ) (e : ℕ) (ends : e ≡ length (upTo 32 text)) where

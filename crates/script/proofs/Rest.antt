@@ -4,20 +4,15 @@
 -- line's end is among them (`past`, `behind-past`). So behind a number and its blank the line goes on as from
 -- there (`then-number`), and it ends where the byte 10 stands behind a last number or a message.
 -- Assumes nothing.
-use mathlib.Core.Path.{_≡_, refl, sym, ap, _∙_}
-use mathlib.Core.Bool.{Bool, true, false, _&&_}
-use mathlib.Core.List.{List, [], _∷_, _++_, append-nil}
-use mathlib.Core.Option.{some}
-use Prim.Native.Nat.{ℕ, _+_, _-_, _≤_, _<_}
-use native.Mathlib.Omega.{arith}
-use lib.Dec.{leb, eqb}
-use lib.ListN.{length, getD, drop, length-append, take-append-drop}
+use Rattle.basics.proofs.Prelude.{_≡_, refl, ap, _∙_, Bool, true, false, _&&_, List, [], _∷_, _++_}
+use Rattle.basics.proofs.Prelude.{append-nil, some, length, getD, drop, length-append, ℕ, _+_, _-_, _≤_, _<_}
+use Rattle.basics.proofs.Prelude.{arith, eqb, leb, eq-eqb, ne-eqb}
+use lib.ListN.{take-append-drop}
 use lib.Seq.{drop-drop}
-use borrow.Author.Tests.{eq-eqb, ne-eqb}
 use Rattle.basics.proofs.Cases.{by-test, by-option, both, true-or-false, clash}
 use Rattle.register.specs.declared.Step.{Step}
 use Rattle.script.specs.declared.parse.Line.{Line}
-use Rattle.script.specs.declared.parse.Line.the-variants.{Take}
+use Rattle.script.specs.declared.parse.Line.the-variants.{Do}
 use Rattle.script.specs.Numbers.{isDigit, isHexDigit, allBytes, numberIn, hexIn}
 use Rattle.script.specs.Lines.{upTo, behind, part, lineEnd}
 use Rattle.script.specs.Grammar.{numberThen, messageAfter}
@@ -102,7 +97,7 @@ module _
     (x : Step)
     (room : at + 22 < length text)
     (mark : getD text (at + 22) 0 ≡ 10)
-    (is : messageAfter k d (part text at (at + 22)) ≡ Take x)
+    (is : messageAfter k d (part text at (at + 22)) ≡ Do x)
   where
     abbrev word : List ℕ
     word = part text at (at + 22)
@@ -116,11 +111,14 @@ module _
     message-is =
         let far : at + (at + 22 - at) ≡ at + 22 = omega arith in
         let bytes : drop at text ≡ word ++ 10 ∷ drop (at + 22 + 1) text =
-        sym (take-append-drop (at + 22 - at) (drop at text))
-        ∙ ap (λ (l : List ℕ). word ++ l)
-        (drop-drop (at + 22 - at) at text ∙ ap (λ (n : ℕ). drop n text) far ∙ one-byte text (at + 22) room
-        ∙ ap (λ (n : ℕ). n ∷ drop (at + 22 + 1) text) mark) in
-        ap (upTo 10) bytes ∙ up-to-mark isHexDigit 10 refl word (drop (at + 22 + 1) text) (hexadecimal .1)
+        cc (
+          take-append-drop (at + 22 - at) (drop at text),
+          drop-drop (at + 22 - at) at text,
+          far,
+          one-byte text (at + 22) room,
+          mark,
+        ) in
+        cc (bytes, up-to-mark isHexDigit 10 refl word (drop (at + 22 + 1) text) (hexadecimal .1))
 
     message-ends : lineEnd text at ≡ at + 22
     message-ends = ap (λ (n : ℕ). at + n) (ap length message-is ∙ hexadecimal .0)

@@ -6,17 +6,13 @@
 -- at most 7 below 10 ^ 7 (`count-few`). No zero stands before a number: its first digit counts
 -- (`count-exact`).
 -- Assumes nothing.
-use mathlib.Core.Path.{_≡_, refl, ap, _∙_}
-use mathlib.Core.Bool.{Bool, true, false}
-use mathlib.Core.Option.{some}
-use Prim.Native.Nat.{ℕ, zero, suc, _+_, _-_, _*_, _/_, _%_, _^_, _≤_, _<_}
-use native.Mathlib.Nat.{pow-zero, pow-suc, pow-succ', mod-lt, mod-eq-of-lt, zero-mul, zero-add, add-mul}
+use Rattle.basics.proofs.Prelude.{_≡_, refl, ap, _∙_, Bool, true, false, some, length, ℕ, zero, suc, _+_, _-_}
+use Rattle.basics.proofs.Prelude.{_*_, _/_, _%_, _^_, _≤_, _<_, zero-add, arith, ltb, eq-eqb, le-leb, lt-leb}
+use Rattle.basics.proofs.Prelude.{ltb-true, ltb-false, lt-ltb}
+use native.Mathlib.Nat.{pow-zero, pow-suc, pow-succ', mod-lt, mod-eq-of-lt, zero-mul, add-mul}
 use native.Mathlib.Nat.{mul-assoc, add-assoc, lt-of-lt-of-le, mul-pos}
-use native.Mathlib.Omega.{arith}
 use lib.Arith.{mod-mul}
-use lib.Dec.{ltb, lit≤}
-use lib.ListN.{length}
-use borrow.Author.Tests.{lt-ltb, ltb-true, ltb-false, le-leb, lt-leb, eq-eqb}
+use lib.Dec.{lit≤}
 use Rattle.basics.proofs.Cases.{by-test, both-of}
 use Rattle.script.specs.Numbers.{isDigit, isHexDigit, digitValue, hexValue, hexDigit, allBytes}
 use Rattle.script.specs.Numbers.{valueFrom, numberIn, hexIn, digitsOf, digitCount, decimal, hexEntry}

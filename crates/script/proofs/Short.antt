@@ -3,14 +3,8 @@
 -- In order: the number of one or two digits; the word, the mark and the place behind it; what the reader
 -- answered.
 -- Assumes nothing.
-use mathlib.Core.Path.{_≡_, refl, sym, ap, _∙_}
-use mathlib.Core.Bool.{Bool, true, false}
-use mathlib.Core.List.{List, _∷_, _++_}
-use mathlib.Core.Option.{some}
-use Prim.Native.Nat.{ℕ, _+_, _≤_, _<_}
-use native.Mathlib.Numerals.{add-one}
-use native.Mathlib.Omega.{arith}
-use lib.ListN.{length, getD, drop}
+use Rattle.basics.proofs.Prelude.{_≡_, refl, sym, ap, _∙_, Bool, true, false, List, _∷_, _++_, some, length}
+use Rattle.basics.proofs.Prelude.{getD, drop, ℕ, _+_, _≤_, _<_, add-one, arith}
 use lib.Seq.{drop-cons}
 use mir.Val.{boolByte}
 use Rattle.basics.proofs.Cases.{by-test}

@@ -3,15 +3,9 @@
 -- Why: what stands behind a digit is below the digit's weight (`digits-below`), so dividing by the weight
 -- leaves the digit, and each digit is that of its value (`digit-of-value`).
 -- Assumes nothing.
-use mathlib.Core.Path.{_≡_, refl, ap, _∙_}
-use mathlib.Core.Bool.{true}
-use mathlib.Core.List.{List, [], _∷_}
-use mathlib.Core.Option.{some}
-use Prim.Native.Nat.{ℕ, _+_, _-_, _*_, _/_, _%_, _^_}
-use native.Mathlib.Omega.{arith}
+use Rattle.basics.proofs.Prelude.{_≡_, refl, true, List, [], _∷_, some, length, ℕ, _+_, _-_, _*_, _/_, _%_}
+use Rattle.basics.proofs.Prelude.{_^_, arith, lt-ltb, le-ltb}
 use lib.Arith.{digits-div, digits-mod}
-use lib.ListN.{length}
-use borrow.Author.Tests.{lt-ltb, le-ltb}
 use Rattle.basics.proofs.Cases.{by-test, both}
 use Rattle.script.specs.Numbers.{isDigit, isHexDigit, hexValue, hexDigit, allBytes, valueFrom, hexIn}
 use Rattle.script.specs.Numbers.{digitsOf}
@@ -34,13 +28,15 @@ digits-back a (byte ∷ text) e =
     let p = both (isHexDigit byte) (allBytes isHexDigit text) e in
     let value : ℕ = valueFrom hexValue 16 (a * 16 + hexValue byte) text in
     let q : value / 16 ^ length text ≡ a * 16 + hexValue byte =
-    ap (λ (n : ℕ). n / 16 ^ length text) (value-behind hexValue 16 (a * 16 + hexValue byte) text)
-    ∙ digits-div (a * 16 + hexValue byte) (digits-below text (p .1)) in
-    let d : value / 16 ^ length text % 16 ≡ hexValue byte =
-    ap (λ (n : ℕ). n % 16) q ∙ digits-mod a (hex-lt byte (p .0)) in
-    ap (λ (x : ℕ). hexDigit x ∷ digitsOf 16 (length text) value) d
-    ∙ ap (λ (x : ℕ). x ∷ digitsOf 16 (length text) value) (digit-of-value byte (p .0))
-    ∙ ap (λ (l : List ℕ). byte ∷ l) (digits-back (a * 16 + hexValue byte) text (p .1))
+    cc (
+      value-behind hexValue 16 (a * 16 + hexValue byte) text,
+      digits-div (a * 16 + hexValue byte) (digits-below text (p .1)),
+    ) in
+    let d : value / 16 ^ length text % 16 ≡ hexValue byte = cc (
+      q,
+      digits-mod a (hex-lt byte (p .0)),
+    ) in
+    cc (d, digit-of-value byte (p .0), digits-back (a * 16 + hexValue byte) text (p .1))
 
 -- n hexadecimal digits that are the number v are its digits
 pub hex-spelt : (n : ℕ) (text : List ℕ) (value : ℕ) → hexIn n text ≡ some value → digitsOf 16 n value ≡ text

@@ -2,12 +2,7 @@
 -- those of what stands behind it; where there is no line end, what is left is the last line, and there is no
 -- whole one.
 -- Assumes nothing.
-use mathlib.Core.Path.{_≡_, refl, ap}
-use mathlib.Core.Bool.{Bool, true, false}
-use mathlib.Core.List.{List, [], _∷_}
-use mathlib.Core.Option.{none, some}
-use Prim.Native.Nat.{ℕ}
-use lib.Dec.{eqb}
+use Rattle.basics.proofs.Prelude.{_≡_, refl, ap, Bool, true, false, List, [], _∷_, none, some, ℕ, eqb}
 use Rattle.basics.proofs.Cases.{by-test, clash}
 use Rattle.script.specs.Lines.{upTo, behind, inFront, linesBy, linesOf, wholeLines}
 

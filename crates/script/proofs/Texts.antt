@@ -3,18 +3,13 @@
 -- In order: a test of all bytes, and the value of digits, of two texts joined and with one byte more; how
 -- large a value of digits is; a hexadecimal digit's value, and how a byte is read.
 -- Assumes nothing.
-use mathlib.Core.Path.{_≡_, refl, ap, sym, _∙_}
-use mathlib.Core.Bool.{Bool, true, false, cond, _&&_, and-assoc, and-true}
-use mathlib.Core.List.{List, [], _∷_, _++_}
-use Prim.Native.Nat.{ℕ, zero, suc, _+_, _*_, _%_, _^_, _≤_, _<_}
-use native.Mathlib.Nat.{not-suc-le-zero, le-of-suc-le-suc, lt-of-lt-of-le, mul-le-mul-left, mul-add}
+use Rattle.basics.proofs.Prelude.{_≡_, refl, ap, _∙_, Bool, true, false, cond, _&&_, List, [], _∷_, _++_}
+use Rattle.basics.proofs.Prelude.{length, getD, take, ℕ, zero, suc, _+_, _*_, _%_, _^_, _≤_, _<_}
+use Rattle.basics.proofs.Prelude.{not-suc-le-zero, add-one, arith, leb, ltb, leb-true, le-leb, lt-ltb}
+use mathlib.Core.Bool.{and-assoc, and-true}
+use native.Mathlib.Nat.{le-of-suc-le-suc, lt-of-lt-of-le, mul-le-mul-left, mul-add}
 use lib.Pow.{pow-add, pow-mono}
-use native.Mathlib.Numerals.{add-one}
-use native.Mathlib.Omega.{arith}
-use lib.Dec.{leb, ltb}
-use lib.ListN.{length, getD, take}
 use lib.Seq.{take-suc}
-use borrow.Author.Tests.{leb-true, lt-ltb}
 use Rattle.basics.proofs.Cases.{by-test, both, true-or-false}
 use Rattle.script.specs.Numbers.{allBytes, valueFrom, isDigit, isHexDigit, hexValue}
 
@@ -22,8 +17,7 @@ pub all-append : (p : ℕ → Bool) (xs ys : List ℕ) → allBytes p (xs ++ ys)
 unfolding allBytes
 all-append p [] ys = refl
 all-append p (byte ∷ xs) ys =
-    ap (λ (t : Bool). p byte && t) (all-append p xs ys)
-    ∙ sym (and-assoc (p byte) (allBytes p xs) (allBytes p ys))
+    cc (all-append p xs ys, and-assoc (p byte) (allBytes p xs) (allBytes p ys))
 
 pub value-append : (digit : ℕ → ℕ) (base a : ℕ) (xs ys : List ℕ)
     → valueFrom digit base a (xs ++ ys) ≡ valueFrom digit base (valueFrom digit base a xs) ys
@@ -54,9 +48,7 @@ module _ (text : List ℕ) (i : ℕ) (h : i < length text) where
       → value * base + digit (getD text i 0) ≡ valueFrom digit base 0 (take (i + 1) text)
   unfolding valueFrom
   value-longer digit base value e =
-      ap (λ (n : ℕ). n * base + digit (getD text i 0)) e
-      ∙ sym (value-append digit base 0 (take i text) (getD text i 0 ∷ []))
-      ∙ ap (λ (l : List ℕ). valueFrom digit base 0 l) (sym longer)
+      cc (e, value-append digit base 0 (take i text) (getD text i 0 ∷ []), longer)
 
 -- digits to a base of at most 16: i of them are a number below 2 ^ 4i
 pub digits-lt : (value base d i : ℕ) → value < 2 ^ (4 * i) → base ≤ 16 → d < 16
@@ -78,6 +70,11 @@ all-fails p [] i h e = absurd (not-suc-le-zero h)
 all-fails p (byte ∷ text) zero h e = rw e refl
 all-fails p (byte ∷ text) (suc i) h e =
     by-test (p byte) (λ t. rw t (all-fails p text i (le-of-suc-le-suc h) e)) (λ t. rw t refl)
+
+-- a text of 1 to n bytes
+pub sized : (text : List ℕ) (n : ℕ) → 1 ≤ length text → length text ≤ n
+    → leb 1 (length text) && leb (length text) n ≡ true
+sized text n some few = rw (le-leb 1 (length text) some, le-leb (length text) n few)
 
 -- a byte of a range
 pub range : (low high byte : ℕ) → leb low byte && leb byte high ≡ true → (low ≤ byte) × (byte ≤ high)

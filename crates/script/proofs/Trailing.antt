@@ -3,21 +3,18 @@
 -- In order: what holds when the digits behind place i are written; none of them; one more; two more, to base
 -- ten; all of them.
 -- Assumes nothing.
-use mathlib.Core.Path.{_≡_, refl, ap, sym, _∙_}
-use mathlib.Core.List.{List, _∷_}
-use Prim.Native.Nat.{ℕ, suc, _+_, _-_, _/_, _%_, _^_, _≤_, _<_}
+use Rattle.basics.proofs.Prelude.{_≡_, refl, ap, _∙_, List, length, set, ℕ, suc, _+_, _-_, _/_, _%_, _^_, _≤_}
+use Rattle.basics.proofs.Prelude.{_<_, arith}
 use native.Mathlib.Nat.{pow-zero, pow-suc, div-div-eq-div-mul}
-use native.Mathlib.Omega.{arith}
-use lib.ListN.{length, set}
 use Rattle.script.specs.Numbers.{hexDigit, digitsOf}
 use Rattle.script.specs.Writing.{written, Written}
-use Rattle.script.proofs.Digits.{digits-length}
+use Rattle.script.proofs.Digits.{digits-length, last-one, last-ten}
 use Rattle.script.proofs.Writing.{written-none, written-front, length-written}
 
 -- of n digits those behind place i are written, and the number is divided by the base as often
-pub record Trailing (base : ℕ) (before : List ℕ) (at n value : ℕ) (out : List ℕ) (left i : ℕ) : Type 0 where
+pub record Trailing (base : ℕ) (before : List ℕ) (at n value : ℕ) (out : List ℕ) (rest i : ℕ) : Type 0 where
   pub most : i ≤ n
-  pub divided : left ≡ value / base ^ (n - i)
+  pub divided : rest ≡ value / base ^ (n - i)
   pub holds : out ≡ written before (at + i) (digitsOf base (n - i) value)
 
 pub none-yet : (base : ℕ) (before : List ℕ) (at n value : ℕ) → Trailing base before at n value before value n
@@ -31,61 +28,58 @@ none-yet base before at n value =
     }
 
 -- a number divided once more by the base
-divided-more : (base j value left : ℕ) → left ≡ value / base ^ j → left / base ≡ value / base ^ suc j
-divided-more base j value left e =
-    ap (λ (x : ℕ). x / base) e ∙ div-div-eq-div-mul value (base ^ j) base
-    ∙ ap (λ (x : ℕ). value / x) (sym (pow-suc base j))
+divided-more : (base j value rest : ℕ) → rest ≡ value / base ^ j → rest / base ≡ value / base ^ suc j
+divided-more base j value rest e = cc (e, div-div-eq-div-mul value (base ^ j) base, pow-suc base j)
 
 -- the next digit, written before the last j
-digit-more : (before : List ℕ) (p base j value left : ℕ) → p < length before → left ≡ value / base ^ j
-    → set (written before (suc p) (digitsOf base j value)) p (hexDigit (left % base))
+digit-more : (before : List ℕ) (p base j value rest : ℕ) → p < length before → rest ≡ value / base ^ j
+    → set (written before (suc p) (digitsOf base j value)) p (hexDigit (rest % base))
     ≡ written before p (digitsOf base (suc j) value)
 unfolding digitsOf
-digit-more before p base j value left h e =
-    written-front before p (digitsOf base j value) (hexDigit (left % base)) h
-    ∙ ap (λ (x : ℕ). written before p (hexDigit (x % base) ∷ digitsOf base j value)) e
+digit-more before p base j value rest h e =
+    cc (written-front before p (digitsOf base j value) (hexDigit (rest % base)) h, e)
 
 module _ {base : ℕ} {before : List ℕ} {at n value : ℕ} (room : at + n ≤ length before) where
   -- the buffer has its length
-  pub wide : {out : List ℕ} {left i : ℕ} → Trailing base before at n value out left i
+  pub wide : {out : List ℕ} {rest i : ℕ} → Trailing base before at n value out rest i
       → length out ≡ length before
-  wide {out} {left} {i} t =
+  wide {out} {rest} {i} t =
       let m : length (digitsOf base (n - i) value) ≡ n - i = digits-length base (n - i) value in
       ap length (t .holds) ∙ length-written before (at + i) (digitsOf base (n - i) value) (rw m (omega arith))
 
-  pub one-more : {out after : List ℕ} {left i : ℕ} (j : ℕ) → i ≡ suc j
-      → after ≡ set out (at + j) (hexDigit (left % base))
-      → Trailing base before at n value out left i → Trailing base before at n value after (left / base) j
-  one-more {out} {after} {left} {i} j e is t =
+  pub one-more : {out after : List ℕ} {rest i : ℕ} (j : ℕ) → i ≡ suc j
+      → after ≡ set out (at + j) (hexDigit (rest % base))
+      → Trailing base before at n value out rest i → Trailing base before at n value after (rest / base) j
+  one-more {out} {after} {rest} {i} j e is t =
       let most : i ≤ n = t .most in
       let more : n - j ≡ suc (n - i) = omega arith in
       let here : at + i ≡ suc (at + j) = omega arith in
       record {
         most = omega arith;
-        divided = rw more (divided-more base (n - i) value left (t .divided));
+        divided = rw more (divided-more base (n - i) value rest (t .divided));
         holds =
             is ∙ rw (t .holds, here, more)
-            (digit-more before (at + j) base (n - i) value left (omega arith) (t .divided));
+            (digit-more before (at + j) base (n - i) value rest (omega arith) (t .divided));
       }
 
-  pub all-written : {out after : List ℕ} {left i : ℕ} → i ≡ 0 → after ≡ out
-      → Trailing base before at n value out left i
+  pub all-written : {out after : List ℕ} {rest i : ℕ} → i ≡ 0 → after ≡ out
+      → Trailing base before at n value out rest i
       → Written (digitsOf base n value) before at (at + n) after
-  all-written {out} {after} {left} {i} e is t =
+  all-written {out} {after} {rest} {i} e is t =
       let m : length (digitsOf base n value) ≡ n = digits-length base n value in
       let here : at + i ≡ at = omega arith in
       let all : n - i ≡ n = omega arith in
       record { fits = rw m room; ends = rw m; holds = is ∙ (rw (here, all) at (t .holds)) }
 
 -- two decimal digits at once
-pub two-more : {before : List ℕ} {at n value : ℕ} {out after : List ℕ} {left i : ℕ} (j : ℕ)
+pub two-more : {before : List ℕ} {at n value : ℕ} {out after : List ℕ} {rest i : ℕ} (j : ℕ)
     → at + n ≤ length before
     → i ≡ suc (suc j)
-    → after ≡ set (set out (at + j + 1) (hexDigit (left % 10))) (at + j) (hexDigit (left / 10 % 10))
-    → Trailing 10 before at n value out left i → Trailing 10 before at n value after (left / 100) j
-two-more {at} {out} {left} j room e is t =
+    → after ≡ set (set out (at + j + 1) (hexDigit (rest % 100 % 10))) (at + j) (hexDigit (rest % 100 / 10))
+    → Trailing 10 before at n value out rest i → Trailing 10 before at n value after (rest / 100) j
+two-more {at} {out} {rest} j room e is t =
     let one = one-more room (suc j) e refl t in
     let here : at + suc j ≡ at + j + 1 = omega arith in
-    let two = one-more room j refl is (rw here at one) in
-    let tens : left / 10 / 10 ≡ left / 100 = omega arith in
+    let two = one-more room j refl (rw (last-one rest, last-ten rest) at is) (rw here at one) in
+    let tens : rest / 10 / 10 ≡ rest / 100 = omega arith in
     rw tens at two

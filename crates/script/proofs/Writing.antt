@@ -4,13 +4,11 @@
 -- texts written one behind the other are their join written at once (`then`); a byte stored right before a
 -- text makes it longer (`written-front`).
 -- Assumes nothing.
-use mathlib.Core.Path.{_≡_, ap, sym, subst, _∙_}
-use mathlib.Core.List.{List, [], _∷_, _++_, append-assoc}
-use Prim.Native.Nat.{ℕ, suc, _+_, _≤_, _<_}
+use Rattle.basics.proofs.Prelude.{_≡_, sym, ap, _∙_, subst, List, [], _∷_, _++_, append-assoc, length, getD}
+use Rattle.basics.proofs.Prelude.{set, take, drop, length-append, length-drop, length-take-le, ℕ, suc, _+_}
+use Rattle.basics.proofs.Prelude.{_≤_, _<_, arith}
 use native.Mathlib.Nat.{add-assoc, add-suc, suc-add}
-use native.Mathlib.Omega.{arith}
-use lib.ListN.{length, take, drop, set, getD, length-append, length-drop}
-use lib.Seq.{length-take-le, take-at, drop-append-add, drop-drop, take-suc, set-at, paste-zero}
+use lib.Seq.{take-at, drop-append-add, drop-drop, take-suc, set-at, paste-zero}
 use Rattle.script.specs.Writing.{written, Written}
 
 -- nothing written
@@ -33,14 +31,15 @@ module _ (out : List ℕ) (at : ℕ) (s : List ℕ) (h : at + length s ≤ lengt
   written-then t =
       let h : List ℕ = take at out ++ s in
       let q : List ℕ = drop (at + length s) out in
-      ap (λ (l : List ℕ). l ++ t ++ drop (at + length s + length t) (h ++ q))
-      (take-at h q (at + length s) head-length)
-      ∙ ap (λ (n : ℕ). h ++ t ++ drop (n + length t) (h ++ q)) (sym head-length)
-      ∙ ap (λ (l : List ℕ). h ++ t ++ l)
-      (drop-append-add h q (length t) ∙ drop-drop (length t) (at + length s) out)
-      ∙ ap (λ (l : List ℕ). l ++ drop (at + length s + length t) out) (append-assoc (take at out) s t)
-      ∙ ap (λ (n : ℕ). take at out ++ (s ++ t) ++ drop n out)
-      (add-assoc at (length s) (length t) ∙ ap (λ (n : ℕ). at + n) (sym (length-append s t)))
+      cc (
+        take-at h q (at + length s) head-length,
+        head-length,
+        drop-append-add h q (length t),
+        drop-drop (length t) (at + length s) out,
+        append-assoc (take at out) s t,
+        add-assoc at (length s) (length t),
+        length-append s t,
+      )
 
 -- a byte right before it
 pub written-front : (out : List ℕ) (at : ℕ) (t : List ℕ) (d : ℕ) → at < length out
@@ -49,14 +48,18 @@ written-front out at t d h =
     let q : List ℕ = drop (suc at + length t) out in
     let b : ℕ = getD out at 0 in
     let split : take (suc at) out ++ t ++ q ≡ take at out ++ b ∷ (t ++ q) =
-    append-assoc (take (suc at) out) t q
-    ∙ ap (λ (l : List ℕ). l ++ (t ++ q)) (take-suc out at 0 h)
-    ∙ append-assoc (take at out) (b ∷ []) (t ++ q) in
-    ap (λ (l : List ℕ). set l at d) split
-    ∙ set-at (take at out) b (t ++ q) d at (length-take-le at out (omega arith))
-    ∙ sym (append-assoc (take at out) (d ∷ t) q)
-    ∙ ap (λ (n : ℕ). take at out ++ (d ∷ t) ++ drop n out)
-    (suc-add at (length t) ∙ sym (add-suc at (length t)))
+    cc (
+      append-assoc (take (suc at) out) t q,
+      take-suc out at 0 h,
+      append-assoc (take at out) (b ∷ []) (t ++ q),
+    ) in
+    cc (
+      split,
+      set-at (take at out) b (t ++ q) d at (length-take-le at out (omega arith)),
+      append-assoc (take at out) (d ∷ t) q,
+      suc-add at (length t),
+      add-suc at (length t),
+    )
 
 module _ {s before : List ℕ} {at m : ℕ} {mid : List ℕ} (w : Written s before at m mid) where
   pub keeps : length mid ≡ length before

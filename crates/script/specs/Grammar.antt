@@ -15,11 +15,11 @@ use lib.ListN.{length, getD, drop}
 use Rattle.message.specs.Layout.{words}
 use Rattle.register.specs.declared.Step.the-variants.{R, W, K, D, C, L}
 use Rattle.script.specs.declared.parse.Line.{Line}
-use Rattle.script.specs.declared.parse.Line.the-variants.{Setup, Take, Unread}
+use Rattle.script.specs.declared.parse.Line.the-variants.{Setup, Do, Unread}
 use Rattle.script.specs.declared.parse.Number.{Number}
 use Rattle.script.specs.declared.parse.Hex.{Hex}
 use Rattle.script.specs.declared.parse.First.{First}
-use Rattle.script.specs.Lines.{upTo, behind}
+use Rattle.script.specs.Lines.{upTo, behind, lineBytes}
 use Rattle.script.specs.Numbers.{digitValue, allBytes, numberIn, hexIn}
 
 -- a text that is one number, and what follows from its value
@@ -57,20 +57,20 @@ marksIn text =
 -- the last argument, and what the line says: a number, behind earlier if there is a number before it
 abbrev pub numberLine : ℕ → ℕ → ℕ → Line
 numberLine letter earlier value =
-    cond (eqb letter (code "R")) (Take (R value))
-    (cond (eqb letter (code "C")) (Take (C value))
-    (cond (eqb letter (code "K")) (Take (K earlier value))
-    (cond (eqb letter (code "D")) (Take (D earlier value)) Unread)))
+    cond (eqb letter (code "R")) (Do (R value))
+    (cond (eqb letter (code "C")) (Do (C value))
+    (cond (eqb letter (code "K")) (Do (K earlier value))
+    (cond (eqb letter (code "D")) (Do (D earlier value)) Unread)))
 
 abbrev pub numberAfter : ℕ → ℕ → List ℕ → Line
 numberAfter letter earlier text = onNumber (numberIn text) (numberLine letter earlier)
 
 -- an entry behind a client, a message behind a server and a client, marks behind f and the number of clients
 abbrev pub entryAfter : ℕ → List ℕ → Line
-entryAfter d text = onNumber (hexIn 10 text) (λ value. Take (W d (record { 0 = value })))
+entryAfter d text = onNumber (hexIn 10 text) (λ value. Do (W d (record { 0 = value })))
 
 abbrev pub messageAfter : ℕ → ℕ → List ℕ → Line
-messageAfter k d text = onNumber (hexIn 22 text) (λ value. Take (L k d (words value)))
+messageAfter k d text = onNumber (hexIn 22 text) (λ value. Do (L k d (words value)))
 
 abbrev pub marksAfter : ℕ → ℕ → List ℕ → Line
 marksAfter f clients text = onNumber (marksIn text) (Setup f clients)
@@ -92,10 +92,10 @@ lastOf letter earlier later text =
 unfoldable pub argumentsOf : ℕ → List ℕ → Line
 argumentsOf letter text = numbersThen (leadingOf letter) 0 0 text (lastOf letter)
 
--- a line of at most 64 bytes: a letter, a blank and arguments
+-- a line that is not too long: a letter, a blank and arguments
 unfoldable pub lineOf : List ℕ → Line
 lineOf line =
-    cond (leb 3 (length line) && leb (length line) 64 && eqb (getD line 1 0) (code " "))
+    cond (leb 3 (length line) && leb (length line) lineBytes && eqb (getD line 1 0) (code " "))
     (argumentsOf (getD line 0 0) (drop 2 line)) Unread
 
 -- what the readers of the code answer

@@ -11,14 +11,14 @@ use mathlib.Core.Option.{Option, none, some}
 use lib.Dec.{eqb}
 use lib.ListN.{length, take, drop}
 
--- the bytes before the first mark, and those behind it, if there is one
+-- the bytes before the first stop, and those behind it, if there is one
 unfoldable pub upTo : ℕ → List ℕ → List ℕ
-upTo mark [] = []
-upTo mark (byte ∷ rest) = cond (eqb byte mark) [] (byte ∷ upTo mark rest)
+upTo stop [] = []
+upTo stop (byte ∷ rest) = cond (eqb byte stop) [] (byte ∷ upTo stop rest)
 
 unfoldable pub behind : ℕ → List ℕ → Option (List ℕ)
-behind mark [] = none
-behind mark (byte ∷ rest) = cond (eqb byte mark) (some rest) (behind mark rest)
+behind stop [] = none
+behind stop (byte ∷ rest) = cond (eqb byte stop) (some rest) (behind stop rest)
 
 -- where the line that begins at a place ends, or the text does
 abbrev pub lineEnd : List ℕ → ℕ → ℕ
@@ -43,9 +43,13 @@ linesOf text = linesBy true text
 abbrev pub wholeLines : List ℕ → List (List ℕ)
 wholeLines text = linesBy false text
 
+-- no line of more bytes can be read (01: 'lines of at most 64 bytes')
+abbrev pub lineBytes : ℕ
+lineBytes = 64
+
 -- a line with so many bytes is unreadable, however it goes on: no more need be kept of one that is cut
 abbrev pub most : ℕ
-most = 65
+most = lineBytes + 1
 
 -- the bytes of a block from `at` up to `end`, and what is kept of them
 abbrev pub part : List ℕ → ℕ → ℕ → List ℕ

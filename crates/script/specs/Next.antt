@@ -14,7 +14,7 @@ use Rattle.register.specs.declared.Step.{Step}
 use Rattle.script.specs.declared.next.Found.{Found}
 use Rattle.script.specs.declared.next.Quick.{Quick}
 use Rattle.script.specs.declared.parse.First.{First}
-use Rattle.script.specs.declared.parse.Line.the-variants.{Take}
+use Rattle.script.specs.declared.parse.Line.the-variants.{Do}
 use Rattle.script.specs.Grammar.{numberThen, messageAfter, lineOf}
 use Rattle.script.specs.Lines.{upTo, part, lineEnd}
 use Rattle.script.specs.Numbers.{isDigit, digitValue, valueFrom, numberIn}
@@ -34,30 +34,30 @@ shortWord first second = cond (isDigit second) (first ∷ second ∷ []) (first 
 abbrev pub shortValue : ℕ → ℕ → ℕ
 shortValue first second = valueFrom digitValue 10 0 (shortWord first second)
 
--- from a place on stand one or two digits, whose number is the value, and a mark; `next` is the place behind
+-- from a place on stand one or two digits, whose number is the value, and a stop; `next` is the place behind
 -- it
-pub record Short (text : List ℕ) (at mark value next : ℕ) : Type 0 where
+pub record Short (text : List ℕ) (at stop value next : ℕ) : Type 0 where
   pub word : List ℕ
   pub few : length word ≤ 2
   pub number : numberIn word ≡ some value
-  pub bytes : drop at text ≡ word ++ mark ∷ drop next text
+  pub bytes : drop at text ≡ word ++ stop ∷ drop next text
   pub behind : next ≡ at + length word + 1
 
 -- from a place on up to the line's end stand a client and a message, with which server k's lie is a step
 pub record Lie (text : List ℕ) (k at : ℕ) (step : Step) (end : ℕ) : Type 0 where
   pub ends : lineEnd text at ≡ end
   pub few : end ≤ at + 25
-  pub says : numberThen (restAt text at) (messageAfter k) ≡ Take step
+  pub says : numberThen (restAt text at) (messageAfter k) ≡ Do step
 
 -- what the quick readers answer, if they answer
 abbrev pub IsShort : First → List ℕ → ℕ → ℕ → Type 0
-IsShort (First.Is value next) text at mark = Short text at mark value next
-IsShort First.No text at mark = Unit {0}
+IsShort (First.Is value next) text at stop = Short text at stop value next
+IsShort First.No text at stop = Unit {0}
 
 abbrev pub IsLie : Quick → List ℕ → ℕ → ℕ → Type 0
 IsLie (Quick.Is step end) text k at = Lie text k at step end
 IsLie Quick.No text k at = Unit {0}
 
 abbrev pub IsQuick : Quick → List ℕ → ℕ → Type 0
-IsQuick (Quick.Is step end) text at = foundAt text at ≡ record { end = end; line = Take step }
+IsQuick (Quick.Is step end) text at = foundAt text at ≡ record { end = end; line = Do step }
 IsQuick Quick.No text at = Unit {0}

@@ -2,7 +2,7 @@
 --
 -- In order: the next number; the digits that are kept; the numeral of a number.
 -- Assumes nothing.
-use Prim.Native.Nat.{ℕ, _+_, _-_, _/_, _^_}
+use Prim.Native.Nat.{ℕ, _+_, _-_, _/_, _%_, _^_}
 use mathlib.Core.Bool.{cond, _&&_}
 use mathlib.Core.List.{List, []}
 use lib.Dec.{ltb}
@@ -19,10 +19,12 @@ nextNumber n = cond (ltb n (2 ^ 64 - 1)) (n + 1) n
 unfoldable pub keptDigits : ℕ → List ℕ
 keptDigits h = cond (ltb 0 h && ltb h 1000000) (decimal h) []
 
--- the numeral of a number: the digits of its hundreds at the start of eight bytes, and how many they are
+-- the numeral of a number: the digits of its hundreds at the start of eight bytes, how many they are, and the
+-- number of its last two
 unfoldable pub numeralOf : ℕ → Numeral
 numeralOf n = record {
   number = n;
   text = written (replicate 8 0) 0 (keptDigits (n / 100));
   kept = length (keptDigits (n / 100));
+  «last_two» = n % 100;
 }

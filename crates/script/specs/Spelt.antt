@@ -6,6 +6,6 @@ use Prim.Native.Char.{code}
 use Prim.Native.String as string
 
 -- of letters, digits, blanks and line ends, each of one byte
-unfoldable pub spelt : string.String → List ℕ
+abbrev pub spelt : string.String → List ℕ
 spelt string.[] = []
 spelt (string._∷_ letter rest) = code letter ∷ spelt rest

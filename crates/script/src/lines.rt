@@ -8,48 +8,49 @@ ghost use lib.ListN.{length, getD};
 ghost use Rattle.basics.specs.Tests.{allBelow};
 ghost use Rattle.script.specs.Lines.{upTo, kept};
 ghost use Rattle.script.specs.Writing.{Written};
+use crate::parse::LINE_BYTES;
 use basics::least;
 
 // A line with so many bytes is unreadable, however it goes on.
-const KEPT: usize = 65;
+const KEPT: usize = LINE_BYTES + 1;
 
 // Bytes that are searched at once.
 const BLOCK: usize = 16;
 
-// Whether none of the 16 bytes from `at` on is the mark. All of them are looked at, so that the loop becomes
+// Whether none of the 16 bytes from `at` on is the stop. All of them are looked at, so that the loop becomes
 // vector code.
-fn lacks(mark: u8, text: &[u8], at: usize) -> bool
+fn lacks(stop: u8, text: &[u8], at: usize) -> bool
     requires { ⌜ at + 16 ≤ length (now text) ⌝ }
-    ensures { λ r. ⌜ r ≡ allBelow (λ j. not (eqb (getD (now (text .entry)) (at + j) 0) mark)) 16 ⌝ }
+    ensures { λ r. ⌜ r ≡ allBelow (λ j. not (eqb (getD (now (text .entry)) (at + j) 0) stop)) 16 ⌝ }
 {
     let mut clear = true;
     let mut j = 0;
     while j < BLOCK {
-        clear = clear & (text[at + j] != mark);
+        clear = clear & (text[at + j] != stop);
         j += 1;
     }
     clear
 }
 
-// The bytes before the first block that has the mark or is not whole.
-fn passed(mark: u8, text: &[u8]) -> usize
-    ensures { λ r. ⌜ r ≤ length (upTo mark (now (text .entry))) ⌝ }
+// The bytes before the first block that has the stop or is not whole.
+fn passed(stop: u8, text: &[u8]) -> usize
+    ensures { λ r. ⌜ r ≤ length (upTo stop (now (text .entry))) ⌝ }
 {
     let mut i = 0;
-    while BLOCK <= text.len() - i && lacks(mark, text, i) {
+    while BLOCK <= text.len() - i && lacks(stop, text, i) {
         i += BLOCK;
     }
     i
 }
 
-// The place of the first byte that equals mark, or the text's length. Blocks without the mark are passed
+// The place of the first byte that equals stop, or the text's length. Blocks without the stop are passed
 // whole.
-pub fn place_of(mark: u8, text: &[u8]) -> usize
-    ensures { λ r. ⌜ r ≡ length (upTo mark (now (text .entry))) ⌝ }
+pub fn place_of(stop: u8, text: &[u8]) -> usize
+    ensures { λ r. ⌜ r ≡ length (upTo stop (now (text .entry))) ⌝ }
 {
-    let mut i = passed(mark, text);
+    let mut i = passed(stop, text);
     while i < text.len() {
-        if text[i] == mark {
+        if text[i] == stop {
             return i;
         }
         i += 1;

@@ -9,6 +9,7 @@ ghost use Rattle.script.specs.Next.{foundAt, shortValue, IsShort, IsLie,
 use crate::lines::place_of;
 use crate::parse::First;
 use crate::parse::Line;
+use crate::parse::MESSAGE_DIGITS;
 use crate::parse::is_digit;
 use crate::parse::message_after;
 use crate::parse::parse;
@@ -19,9 +20,6 @@ const LINE_END: u8 = 10;
 
 // The longest K or D line of the quick reader, with its end.
 const QUICK: usize = 8;
-
-// The digits of a message.
-const MESSAGE: usize = 22;
 
 // Where a line ends, and what it says.
 pub struct Found {
@@ -48,10 +46,10 @@ fn short_value(first: u8, second: u8) -> u32
     }
 }
 
-// A number of one or two digits with a mark behind it, and where the text behind the mark begins.
-fn short_at(text: &[u8], at: usize, mark: u8) -> First
+// A number of one or two digits with a stop behind it, and where the text behind the stop begins.
+fn short_at(text: &[u8], at: usize, stop: u8) -> First
     requires { ⌜ at + 3 ≤ length (now text) ⌝ }
-    ensures { λ r. ⌜ IsShort r (now (text .entry)) at mark ⌝ }
+    ensures { λ r. ⌜ IsShort r (now (text .entry)) at stop ⌝ }
 {
     let first = text[at];
     let second = text[at + 1];
@@ -59,7 +57,7 @@ fn short_at(text: &[u8], at: usize, mark: u8) -> First
         return First::No;
     }
     let end = at + 1 + is_digit(second) as usize;
-    if text[end] != mark {
+    if text[end] != stop {
         return First::No;
     }
     First::Is(short_value(first, second), end + 1)
@@ -73,15 +71,15 @@ fn quick_lie(text: &[u8], k: u32, at: usize) -> Quick
     let First::Is(d, next) = short_at(text, at, b' ') else {
         return Quick::No;
     };
-    if text.len() - next <= MESSAGE {
+    if text.len() - next <= MESSAGE_DIGITS {
         return Quick::No;
     }
-    let end = next + MESSAGE;
+    let end = next + MESSAGE_DIGITS;
     if text[end] != LINE_END {
         return Quick::No;
     }
     match message_after(k, d, &text[next..end]) {
-        Line::Take(step) => Quick::Is(step, end),
+        Line::Do(step) => Quick::Is(step, end),
         _ => Quick::No,
     }
 }
@@ -129,7 +127,7 @@ pub fn next(text: &[u8], at: usize) -> Found
         if let Quick::Is(step, end) = quick_step(text, at) {
             return Found {
                 end: end,
-                line: Line::Take(step),
+                line: Line::Do(step),
             };
         }
     }

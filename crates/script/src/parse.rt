@@ -12,9 +12,25 @@ use message::Entry;
 use message::Words;
 use register::Step;
 
+// No line of more bytes can be read.
+pub const LINE_BYTES: usize = 64;
+
+// The digits of a number, at most.
+const NUMBER_DIGITS: usize = 7;
+
+// The hexadecimal digits of an entry, of a message, and of a message's high 24 bits.
+const ENTRY_DIGITS: usize = 10;
+
+pub const MESSAGE_DIGITS: usize = 22;
+
+const HIGH_DIGITS: usize = 6;
+
+// The marks of an S, at most.
+const MARKS: usize = 13;
+
 pub enum Line {
     Setup(u32, u32, u32),
-    Take(Step),
+    Do(Step),
     Unread,
 }
 
@@ -68,7 +84,7 @@ fn number_in(text: &[u8]) -> Number
     if text.len() < 1 {
         return Number::No;
     }
-    if 7 < text.len() {
+    if NUMBER_DIGITS < text.len() {
         return Number::No;
     }
     let mut value: u32 = 0;
@@ -109,7 +125,7 @@ fn marks_in(text: &[u8]) -> Number
     if text.len() < 1 {
         return Number::No;
     }
-    if 13 < text.len() {
+    if MARKS < text.len() {
         return Number::No;
     }
     let mut value: u32 = 0;
@@ -147,10 +163,10 @@ fn number_after(letter: u8, earlier: u32, text: &[u8]) -> Line
         return Line::Unread;
     };
     match letter {
-        b'R' => Line::Take(Step::R(value)),
-        b'C' => Line::Take(Step::C(value)),
-        b'K' => Line::Take(Step::K(earlier, value)),
-        b'D' => Line::Take(Step::D(earlier, value)),
+        b'R' => Line::Do(Step::R(value)),
+        b'C' => Line::Do(Step::C(value)),
+        b'K' => Line::Do(Step::K(earlier, value)),
+        b'D' => Line::Do(Step::D(earlier, value)),
         _ => Line::Unread,
     }
 }
@@ -159,11 +175,11 @@ fn number_after(letter: u8, earlier: u32, text: &[u8]) -> Line
 fn entry_after(d: u32, text: &[u8]) -> Line
     ensures { λ r. ⌜ r ≡ entryAfter d (now (text .entry)) ⌝ }
 {
-    if text.len() != 10 {
+    if text.len() != ENTRY_DIGITS {
         return Line::Unread;
     }
     match hex_in(text) {
-        Hex::Is(value) => Line::Take(Step::W(d, Entry(value))),
+        Hex::Is(value) => Line::Do(Step::W(d, Entry(value))),
         Hex::No => Line::Unread,
     }
 }
@@ -172,16 +188,16 @@ fn entry_after(d: u32, text: &[u8]) -> Line
 pub fn message_after(k: u32, d: u32, text: &[u8]) -> Line
     ensures { λ r. ⌜ r ≡ messageAfter k d (now (text .entry)) ⌝ }
 {
-    if text.len() != 22 {
+    if text.len() != MESSAGE_DIGITS {
         return Line::Unread;
     }
-    let Hex::Is(high) = hex_in(&text[..6]) else {
+    let Hex::Is(high) = hex_in(&text[..HIGH_DIGITS]) else {
         return Line::Unread;
     };
-    let Hex::Is(low) = hex_in(&text[6..]) else {
+    let Hex::Is(low) = hex_in(&text[HIGH_DIGITS..]) else {
         return Line::Unread;
     };
-    Line::Take(Step::L(k, d, Words((high % 0x1_0000_0000) as u32, low)))
+    Line::Do(Step::L(k, d, Words((high % 0x1_0000_0000) as u32, low)))
 }
 
 // Marks behind f and the number of clients.
@@ -224,18 +240,18 @@ fn last_argument(letter: u8, earlier: u32, later: u32, text: &[u8]) -> Line
 fn arguments(letter: u8, text: &[u8]) -> Line
     ensures { λ r. ⌜ r ≡ argumentsOf letter (now (text .entry)) ⌝ }
 {
-    let mut left = leading(letter);
+    let mut numbers = leading(letter);
     let mut earlier = 0;
     let mut later = 0;
     let mut at = 0;
-    while 0 < left {
+    while 0 < numbers {
         let First::Is(value, next) = first_number(&text[at..]) else {
             return Line::Unread;
         };
         earlier = later;
         later = value;
         at += next;
-        left -= 1;
+        numbers -= 1;
     }
     last_argument(letter, earlier, later, &text[at..])
 }
@@ -247,7 +263,7 @@ pub fn parse(text: &[u8]) -> Line
     if text.len() < 3 {
         return Line::Unread;
     }
-    if 64 < text.len() {
+    if LINE_BYTES < text.len() {
         return Line::Unread;
     }
     if text[1] != b' ' {

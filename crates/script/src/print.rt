@@ -20,8 +20,8 @@ pub enum Output {
     Answered(Answer),
 }
 
-// No line is longer.
-const LONGEST: usize = 80;
+// No printed line is longer.
+pub const PRINTED_BYTES: usize = 80;
 
 // The least number of seven digits.
 const SEVEN_DIGITS: u64 = 1000000;
@@ -54,30 +54,29 @@ fn digit(value: u64) -> u8
     }
 }
 
-// The last n hexadecimal digits of a number, the last one first.
+// The last `count` hexadecimal digits of a number, the last one first.
 fn put_digits(out: &mut [u8], at: usize, count: usize, value: u64) -> usize
     requires { ⌜ at + count ≤ length (now out) ⌝ }
     ensures { λ r. ⌜ Written (digitsOf 16 count value) (now (out .entry)) at r (now (out .exit)) ⌝ }
 {
-    let mut left = value;
+    let mut rest = value;
     let mut i = count;
     while 0 < i {
         i -= 1;
-        out[at + i] = digit(left % 16);
-        left = left / 16;
+        out[at + i] = digit(rest % 16);
+        rest = rest / 16;
     }
     at + count
 }
 
-// The last two decimal digits of a number, the last one first.
-fn put_two(out: &mut [u8], at: usize, value: u64)
-    requires { ⌜ at + 2 ≤ length (now out) ⌝ }
+// The two decimal digits of a number below 100, the last one first.
+fn put_two(out: &mut [u8], at: usize, two: u8)
+    requires { ⌜ (at + 2 ≤ length (now out)) × (two < 100) ⌝ }
     ensures { λ _. ⌜ now (out .exit)
-        ≡ set (set (now (out .entry)) (at + 1) (hexDigit (value % 10))) at (hexDigit (value / 10 % 10)) ⌝ }
+        ≡ set (set (now (out .entry)) (at + 1) (hexDigit (two % 10))) at (hexDigit (two / 10)) ⌝ }
 {
-    let two = value % 100;
-    out[at + 1] = b'0' + (two % 10) as u8;
-    out[at] = b'0' + (two / 10) as u8;
+    out[at + 1] = b'0' + two % 10;
+    out[at] = b'0' + two / 10;
 }
 
 // Two digits at a time, the last ones first; the first digit stands alone where their number is odd.
@@ -86,15 +85,15 @@ fn put_decimal(out: &mut [u8], at: usize, value: u64) -> usize
     ensures { λ r. ⌜ Written (decimal value) (now (out .entry)) at r (now (out .exit)) ⌝ }
 {
     let count = digit_count(value);
-    let mut left = value;
+    let mut rest = value;
     let mut i = count;
     while 1 < i {
         i -= 2;
-        put_two(out, at + i, left);
-        left = left / 100;
+        put_two(out, at + i, (rest % 100) as u8);
+        rest = rest / 100;
     }
     if i == 1 {
-        out[at] = b'0' + (left % 10) as u8;
+        out[at] = b'0' + (rest % 10) as u8;
     }
     at + count
 }
@@ -175,17 +174,19 @@ fn put_output(out: &mut [u8], at: usize, what: Output) -> usize
 // ---- the line's number, with its text kept from one line to the next
 
 // A number of 3 to 8 digits with the digits of its hundreds, number / 100, and how many they are. Of another
-// number none are kept.
+// number none are kept. The last two digits, number % 100, are kept as a number: to divide costs more.
 pub struct Numeral {
     pub number: u64,
     pub text: [u8; 8],
     pub kept: usize,
+    pub last_two: u8,
 }
 
 pub fn numeral_of(value: u64) -> Numeral
     ensures { λ r. ⌜ r ≡ numeralOf value ⌝ }
 {
     let hundreds = value / 100;
+    let last_two = (value % 100) as u8;
     let mut text = [0u8; 8];
     let mut kept = 0;
     if 0 < hundreds && hundreds < SEVEN_DIGITS {
@@ -195,6 +196,7 @@ pub fn numeral_of(value: u64) -> Numeral
         number: value,
         text: text,
         kept: kept,
+        last_two: last_two,
     }
 }
 
@@ -207,7 +209,7 @@ pub fn next_numeral(numeral: Numeral) -> Numeral
         return numeral;
     }
     let number = numeral.number + 1;
-    if number % 100 == 0 {
+    if 99 <= numeral.last_two {
         return numeral_of(number);
     }
     let text = numeral.text;
@@ -215,6 +217,7 @@ pub fn next_numeral(numeral: Numeral) -> Numeral
         number: number,
         text: text,
         kept: numeral.kept,
+        last_two: numeral.last_two + 1,
     }
 }
 
@@ -228,7 +231,7 @@ fn put_numeral(out: &mut [u8], numeral: Numeral) -> usize
     }
     let text = numeral.text;
     put_text(out, 0, &text);
-    put_two(out, numeral.kept, numeral.number);
+    put_two(out, numeral.kept, numeral.last_two);
     numeral.kept + 2
 }
 
@@ -238,7 +241,7 @@ pub fn print_numbered(out: &mut [u8], numeral: Numeral, what: Output) -> usize
     requires { ⌜ numeral ≡ numeralOf (numeral .number) ⌝ }
     ensures { λ r. ⌜ Shown (printed (numeral .number) what) (now (out .entry)) r (now (out .exit)) ⌝ }
 {
-    if out.len() < LONGEST {
+    if out.len() < PRINTED_BYTES {
         return 0;
     }
     let number_end = put_numeral(out, numeral);

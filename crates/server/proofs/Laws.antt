@@ -1,18 +1,12 @@
 -- What a user of a server may rely on.
 --
--- A taken message makes it the model's next server (`view-after`); what it sends is in the contract itself.
+-- A message served makes it the model's next server (`view-after`); what it sends is in the contract itself.
 -- Whatever bytes come from whomever, sound memory stays sound (`sound-kept`) and the timestamp in it never
 -- falls (`stamp-kept`): a refusal leaves it as it was, what is stored is sound, and WRITE_INFO replaces the
 -- pair only by one of a higher timestamp.
 -- Assumes nothing.
-use mathlib.Core.Path.{_≡_, refl, ap, _∙_}
-use mathlib.Core.Bool.{true}
-use mathlib.Core.List.{List}
-use Prim.Native.Nat.{ℕ, _≤_}
-use native.Mathlib.Nat.{le-refl}
-use native.Mathlib.Omega.{arith}
-use lib.Dec.{leb, ltb}
-use borrow.Author.Tests.{leb-true, leb-false, ltb-true}
+use Rattle.basics.proofs.Prelude.{_≡_, refl, ap, _∙_, true, List, ℕ, _≤_, le-refl, arith, leb, ltb, leb-true}
+use Rattle.basics.proofs.Prelude.{leb-false, ltb-true}
 use Rattle.basics.proofs.Cases.{by-test}
 use Rattle.message.specs.declared.Message.{Message}
 use Rattle.message.specs.declared.Message.the-variants.{GetInfo, Info, Done, WriteInfo, Fwd, WriteAck}
@@ -22,28 +16,28 @@ use Rattle.message.specs.declared.Unpacked.the-variants.{Good, Refused}
 use Rattle.message.specs.Layout.{unpackOf}
 use Rattle.message.specs.Pair.{stamp}
 use Rattle.register.specs.Server as model
-use Rattle.register.specs.Server.{newServer, stored, serverAfter}
+use Rattle.register.specs.Server.{stored, nextServer}
 use Rattle.server.specs.declared.Served.{Served}
 use Rattle.server.specs.declared.Server.{Server}
 use Rattle.server.specs.State as state
 use Rattle.server.specs.State.{sound}
 use Rattle.server.specs.Memory.{loaded, numbersOf, view, store, isSound}
-use Rattle.server.specs.Taking.{sentBy, After, afterOf, servedOf, servedIn, isRequest, messages}
-use Rattle.server.specs.Taking.{became, takenOf}
-use Rattle.server.proofs.Memory.{store-sound, view-store}
+use Rattle.server.specs.Serving.{sentBy, After, afterOf, servedOf, servedIn, isRequest, messages}
+use Rattle.server.specs.Serving.{became, bytesServed}
+use Rattle.server.proofs.Memory.{store-sound}
 use Rattle.server.proofs.Views as views
-use Rattle.server.proofs.Views.{after-formed, new-formed}
-use Rattle.server.proofs.Outcomes.{unsound, no-process-low, no-process-high, malformed, taken}
+use Rattle.server.proofs.Views.{after-formed}
+use Rattle.server.proofs.Outcomes.{unsound, no-process-low, no-process-high, malformed, served}
 
--- ---- a message taken
+-- ---- a message served
 
 pub view-after : (s : Server) (d : ℕ) (m : Message) → sound s ≡ true → 1 ≤ d → d ≤ 6
-    → state.view (servedOf s d m .server) ≡ serverAfter (state.view s) d m
+    → state.view (servedOf s d m .server) ≡ nextServer (state.view s) d m
 view-after s d m h low top =
-    views.view-store (serverAfter (state.view s) d m)
+    views.view-store (nextServer (state.view s) d m)
     (after-formed (state.view s) d m (views.view-formed s h) low top)
 
--- the same in memory, where r is taken by value and n are the numbers stored
+-- the same in memory, where r is served by value and n are the numbers stored
 pub served-in : (m : List ℕ) (d : ℕ) (x : Message) (r : Served) (n : List ℕ)
     → afterOf d r ≡ servedOf (loaded m) d x
     → n ≡ numbersOf (r .server) → became (messages (r .sends) (sentBy d (r .sends))) n ≡ servedIn m d x
@@ -59,8 +53,8 @@ stored-stamp old new =
     (λ e. rw e (let l = ltb-true (stamp old) (stamp new) e in omega arith))
     (λ e. rw e (le-refl (stamp old)))
 
-pub after-stamp : (s : model.Server) (d : ℕ) (m : Message) → stamp (s .pair) ≤ stamp (serverAfter s d m .pair)
-unfolding serverAfter
+pub after-stamp : (s : model.Server) (d : ℕ) (m : Message) → stamp (s .pair) ≤ stamp (nextServer s d m .pair)
+unfolding nextServer
 after-stamp s d (GetInfo n) = le-refl (stamp (s .pair))
 after-stamp s d Done = le-refl (stamp (s .pair))
 after-stamp s d (WriteInfo p) = stored-stamp (s .pair) p
@@ -68,20 +62,20 @@ after-stamp s d (Info n p) = le-refl (stamp (s .pair))
 after-stamp s d (Fwd p) = le-refl (stamp (s .pair))
 after-stamp s d (WriteAck c) = le-refl (stamp (s .pair))
 
--- ---- bytes taken or refused
+-- ---- bytes served or refused
 
 -- what holds of memory before and after each message holds after any bytes
 module _ (P : List ℕ → Type 0) (m : List ℕ) (d : ℕ) (bytes : List ℕ) (same : P m)
-    (next : (x : Message) → P (store (serverAfter (view m) d x))) where
+    (next : (x : Message) → P (store (nextServer (view m) d x))) where
   by-message : isSound m ≡ true → 1 ≤ d → d ≤ 6 → (u : Unpacked) → unpackOf bytes ≡ u
-      → P (takenOf m d bytes .memory)
+      → P (bytesServed m d bytes .memory)
   unfolding isRequest
   by-message h low top (Refused r) e = rw (malformed m d bytes h low top (ap isRequest e)) same
   by-message h low top (Good x) e =
-      by-test (isRequest (Good x)) (λ good. rw (taken m d bytes h low top x e good) (next x))
+      by-test (isRequest (Good x)) (λ good. rw (served m d bytes h low top x e good) (next x))
       (λ bad. rw (malformed m d bytes h low top (ap isRequest e ∙ bad)) same)
 
-  by-outcome : P (takenOf m d bytes .memory)
+  by-outcome : P (bytesServed m d bytes .memory)
   by-outcome =
       by-test (isSound m)
       (λ h. by-test (leb 1 d)
@@ -92,18 +86,13 @@ module _ (P : List ℕ → Type 0) (m : List ℕ) (d : ℕ) (bytes : List ℕ) (
       (λ no. rw (unsound m d bytes no) same)
 
 pub sound-kept : (m : List ℕ) (d : ℕ) (bytes : List ℕ) → isSound m ≡ true
-    → isSound (takenOf m d bytes .memory) ≡ true
+    → isSound (bytesServed m d bytes .memory) ≡ true
 sound-kept m d bytes h =
-    by-outcome (λ n. isSound n ≡ true) m d bytes h (λ x. store-sound (serverAfter (view m) d x))
+    by-outcome (λ n. isSound n ≡ true) m d bytes h (λ x. store-sound (nextServer (view m) d x))
 
 pub stamp-kept : (m : List ℕ) (d : ℕ) (bytes : List ℕ)
-    → stamp (view m .pair) ≤ stamp (view (takenOf m d bytes .memory) .pair)
+    → stamp (view m .pair) ≤ stamp (view (bytesServed m d bytes .memory) .pair)
 unfolding view store loaded numbersOf state.view state.store
 stamp-kept m d bytes =
     by-outcome (λ n. stamp (view m .pair) ≤ stamp (view n .pair)) m d bytes (le-refl (stamp (view m .pair)))
     (λ x. after-stamp (view m) d x)
-
--- ---- at setup
-
-pub new-view : view (store newServer) ≡ newServer
-new-view = view-store newServer new-formed

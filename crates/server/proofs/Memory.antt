@@ -2,19 +2,13 @@
 -- no reader but clients 1 to 6: `view-store`, `store-view`.
 --
 -- Why: a list of two numbers is its two numbers, and readers below 2 ^ 8 are their own low byte, so that
--- loading and taking the numbers undo each other (`loaded-numbers`, `numbers-loaded`); the rest is the same
+-- loading and listing the numbers undo each other (`loaded-numbers`, `numbers-loaded`); the rest is the same
 -- fact of servers by value (`Views`). What is stored is sound (`store-sound`), and what is loaded from sound
 -- memory is sound (`loaded-sound`).
 -- Assumes nothing.
-use mathlib.Core.Path.{_≡_, refl, sym, ap}
-use mathlib.Core.Bool.{true}
-use mathlib.Core.List.{List, [], _∷_}
-use Prim.Native.Nat.{ℕ, _%_, _^_, _<_}
+use Rattle.basics.proofs.Prelude.{_≡_, refl, sym, ap, true, List, [], _∷_, length, getD, set, ℕ, _%_, _^_}
+use Rattle.basics.proofs.Prelude.{_<_, arith, eqb, eqb-true, ltb-true, lt-ltb}
 use native.Mathlib.Nat.{mod-eq-of-lt}
-use native.Mathlib.Omega.{arith}
-use lib.Dec.{eqb, ltb}
-use lib.ListN.{length, getD, set}
-use borrow.Author.Tests.{eqb-true, lt-ltb, ltb-true}
 use Rattle.basics.proofs.Cases.{both}
 use Rattle.register.specs.Server as model
 use Rattle.register.specs.Server.{newServer}

@@ -4,18 +4,14 @@
 -- remainder by 2 ^ k. That the code's `|` and `&` add and remove a client is tested at all 64 sets and 6
 -- clients by one computation (`adds`, `removes`). A bit of the set of a test is the test's answer (`set-of`).
 -- Assumes nothing.
-use mathlib.Core.Path.{_≡_, refl, ap, _∙_}
-use mathlib.Core.Bool.{Bool, true, false}
-use mathlib.Core.List.{List, [], _∷_}
-use Prim.Native.Nat.{ℕ, zero, suc, _+_, _-_, _*_, _/_, _%_, _^_, _≤_, _<_}
-use native.Mathlib.Nat.{mod-lt, mod-eq-of-lt, mul-assoc, not-suc-le-zero, div-eq-of-lt, pow-succ'}
+use Rattle.basics.proofs.Prelude.{_≡_, refl, ap, _∙_, Bool, true, false, List, [], _∷_, ℕ, zero, suc, _+_}
+use Rattle.basics.proofs.Prelude.{_-_, _*_, _/_, _%_, _^_, _≤_, _<_, not-suc-le-zero, arith, eqb, ltb}
+use Rattle.basics.proofs.Prelude.{eqb-true, eqb-false, ltb-true}
+use native.Mathlib.Nat.{mod-lt, mod-eq-of-lt, mul-assoc, div-eq-of-lt, pow-succ'}
 use native.Mathlib.Nat.{mul-add-div-right, mul-add-mod-self-right}
-use native.Mathlib.Omega.{arith}
 use lib.Bits.{bitAnd, bitOr}
-use lib.Dec.{eqb, ltb}
 use lib.Pow.{pow-pos, pow-add, pow-mono, mod-pow-add, high}
 use mir.Val.{boolByte}
-use borrow.Author.Tests.{eqb-true, eqb-false, ltb-true}
 use Rattle.basics.specs.Tests.{allPass, allBelow}
 use Rattle.basics.specs.Update.{update}
 use Rattle.basics.proofs.Cases.{by-test}

@@ -2,22 +2,18 @@
 -- reader but clients 1 to 6: storing the view of one gives it back (`store-view`), and so does viewing what
 -- is stored (`view-store`).
 --
--- What is stored is sound (`store-sound`), what is viewed is formed (`view-formed`), and taking a message
+-- What is stored is sound (`store-sound`), what is viewed is formed (`view-formed`), and serving a message
 -- keeps a server formed (`after-formed`).
 -- Assumes nothing.
-use mathlib.Core.Path.{_≡_, refl, sym, _∙_}
-use mathlib.Core.Bool.{Bool, true, false}
-use Prim.Native.Nat.{ℕ, zero, suc, _≤_, _<_}
-use native.Mathlib.Omega.{arith}
-use lib.Dec.{ltb}
-use borrow.Author.Tests.{lt-ltb, ltb-true, ltb-false}
+use Rattle.basics.proofs.Prelude.{_≡_, refl, sym, _∙_, Bool, true, false, ℕ, zero, suc, _≤_, _<_, arith, ltb}
+use Rattle.basics.proofs.Prelude.{ltb-true, ltb-false, lt-ltb}
 use Rattle.basics.specs.Update.{update}
 use Rattle.basics.proofs.Cases.{by-test}
 use Rattle.basics.proofs.Update.{update-at}
 use Rattle.message.specs.declared.Message.{Message}
 use Rattle.message.specs.declared.Message.the-variants.{GetInfo, Info, Done, WriteInfo, Fwd, WriteAck}
 use Rattle.register.specs.Server as model
-use Rattle.register.specs.Server.{newServer, serverAfter}
+use Rattle.register.specs.Server.{newServer, nextServer}
 use Rattle.server.specs.declared.Server.{Server}
 use Rattle.server.specs.State.{contains, setOf, view, store, sound}
 use Rattle.server.proofs.Sets.{set-back, set-lt, set-of, set-above}
@@ -71,8 +67,8 @@ update-formed x d b f low top =
     }
 
 pub after-formed : (x : model.Server) (d : ℕ) (m : Message) → Formed x → 1 ≤ d → d ≤ 6
-    → Formed (serverAfter x d m)
-unfolding serverAfter
+    → Formed (nextServer x d m)
+unfolding nextServer
 after-formed x d (GetInfo n) f low top = update-formed x d true f low top
 after-formed x d Done f low top = update-formed x d false f low top
 after-formed x d (WriteInfo p) f low top = record { none = f .none; above = f .above }

@@ -1,3 +1,3 @@
 pub mod State
 pub mod Memory
-pub mod Taking
+pub mod Serving

@@ -27,11 +27,12 @@ words = 2
 
 -- the server that stands in memory; of the readers the low byte, so that any numbers are a server
 unfoldable pub loaded : List ℕ → Server
-loaded m = record { pair = record { 0 = getD m pairAt 0 }; readers = getD m readersAt 0 % 2 ^ 8 }
+loaded memory =
+    record { pair = record { 0 = getD memory pairAt 0 }; readers = getD memory readersAt 0 % 2 ^ 8 }
 
 -- its numbers
 unfoldable pub numbersOf : Server → List ℕ
-numbersOf s = s .pair .0 ∷ s .readers ∷ []
+numbersOf server = server .pair .0 ∷ server .readers ∷ []
 
 -- the model's server
 unfoldable pub view : List ℕ → model.Server
@@ -44,4 +45,4 @@ store x = numbersOf (state.store x)
 -- two numbers, and no reader but clients 1 to 6 (01: 'unused places are zero'); every pair of 64 bits is in
 -- range
 unfoldable pub isSound : List ℕ → Bool
-isSound m = eqb (length m) words && ltb (getD m readersAt 0) (2 ^ mostClients)
+isSound memory = eqb (length memory) words && ltb (getD memory readersAt 0) (2 ^ mostClients)

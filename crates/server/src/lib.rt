@@ -6,10 +6,11 @@ ghost use mathlib.Core.Bool.{true};
 ghost use Prim.Native.Nat.{ℕ, _≤_};
 ghost use lib.ListN.{length};
 ghost use Rattle.register.specs.Server.{stored};
-ghost use Rattle.server.specs.Memory.{loaded, numbersOf, isSound};
+ghost use Rattle.register.specs.Settings.{mostClients};
+ghost use Rattle.server.specs.Memory.{words, loaded, numbersOf, isSound};
 ghost use Rattle.server.specs.State.{sound};
-ghost use Rattle.server.specs.Taking.{sentBy, afterOf, servedOf, servedIn, isRequest, messages};
-ghost use Rattle.server.specs.Taking.{resultOf, became, takenOf};
+ghost use Rattle.server.specs.Serving.{sentBy, afterOf, servedOf, servedIn, messages};
+ghost use Rattle.server.specs.Serving.{resultOf, became, bytesServed};
 use message::Message;
 use message::Pair;
 use message::ReadNumber;
@@ -30,13 +31,13 @@ pub enum Sends {
     Forward(u8, Pair),
 }
 
-// A message taken: the next server, and what it sends.
+// A message served: the next server, and what it sends.
 pub struct Served {
     pub server: Server,
     pub sends: Sends,
 }
 
-// What taking bytes comes to.
+// What serving bytes answers.
 pub enum Outcome {
     Sent(Sends),
     Refused(Refusal),
@@ -52,28 +53,30 @@ pub const WORDS: usize = 2;
 // The clients from 1 on.
 const MOST_CLIENTS: u32 = 6;
 
-// The first number that is no set of clients.
+// The set of all clients, and the first number that is no set of clients.
+const ALL_CLIENTS: u8 = 63;
+
 const OVER_SETS: u64 = 64;
 
 // The server that stands in memory.
-pub fn load(m: &[u64]) -> Server
-    requires { ⌜ length (now m) ≡ 2 ⌝ }
-    ensures { λ s. ⌜ s ≡ loaded (now (m .entry)) ⌝ }
+pub fn load(memory: &[u64]) -> Server
+    requires { ⌜ length (now memory) ≡ words ⌝ }
+    ensures { λ s. ⌜ s ≡ loaded (now (memory .entry)) ⌝ }
 {
     Server {
-        pair: Pair(m[PAIR_AT]),
-        readers: (m[READERS_AT] % 256) as u8,
+        pair: Pair(memory[PAIR_AT]),
+        readers: (memory[READERS_AT] % 256) as u8,
     }
 }
 
 // Puts it back.
-pub fn store(m: &mut [u64], s: Server)
-    requires { ⌜ length (now m) ≡ 2 ⌝ }
-    ensures { λ r. ⌜ now (m .exit) ≡ numbersOf s ⌝ }
+pub fn store(memory: &mut [u64], server: Server)
+    requires { ⌜ length (now memory) ≡ words ⌝ }
+    ensures { λ r. ⌜ now (memory .exit) ≡ numbersOf server ⌝ }
 {
-    let pair = s.pair;
-    m[PAIR_AT] = pair.0;
-    m[READERS_AT] = s.readers as u64;
+    let pair = server.pair;
+    memory[PAIR_AT] = pair.0;
+    memory[READERS_AT] = server.readers as u64;
 }
 
 // The pair of the higher timestamp; the old one where both are the same.
@@ -85,33 +88,33 @@ fn higher(old: Pair, new: Pair) -> Pair
 }
 
 // GET_INFO: client d reads now, and gets INFO with its tag and the pair.
-fn added(s: Server, d: u8, n: ReadNumber) -> Served
-    requires { ⌜ (sound s ≡ true) × (1 ≤ d) × (d ≤ 6) ⌝ }
-    ensures { λ r. ⌜ afterOf d r ≡ servedOf s d (Message.GetInfo n) ⌝ }
+fn added(server: Server, d: u8, tag: ReadNumber) -> Served
+    requires { ⌜ (sound server ≡ true) × (1 ≤ d) × (d ≤ mostClients) ⌝ }
+    ensures { λ r. ⌜ afterOf d r ≡ servedOf server d (Message.GetInfo tag) ⌝ }
 {
-    let pair = s.pair;
+    let pair = server.pair;
     let bit: u8 = 1 << (d - 1);
     Served {
         server: Server {
             pair: pair,
-            readers: s.readers | bit,
+            readers: server.readers | bit,
         },
-        sends: Sends::Info(n, pair),
+        sends: Sends::Info(tag, pair),
     }
 }
 
 // DONE: client d reads no more.
-fn removed(s: Server, d: u8) -> Served
-    requires { ⌜ (sound s ≡ true) × (1 ≤ d) × (d ≤ 6) ⌝ }
-    ensures { λ r. ⌜ afterOf d r ≡ servedOf s d Message.Done ⌝ }
+fn removed(server: Server, d: u8) -> Served
+    requires { ⌜ (sound server ≡ true) × (1 ≤ d) × (d ≤ mostClients) ⌝ }
+    ensures { λ r. ⌜ afterOf d r ≡ servedOf server d Message.Done ⌝ }
 {
-    let pair = s.pair;
+    let pair = server.pair;
     let bit: u8 = 1 << (d - 1);
-    let others = 63 - bit;
+    let others = ALL_CLIENTS - bit;
     Served {
         server: Server {
             pair: pair,
-            readers: s.readers & others,
+            readers: server.readers & others,
         },
         sends: Sends::Nothing,
     }
@@ -119,86 +122,70 @@ fn removed(s: Server, d: u8) -> Served
 
 // WRITE_INFO: the pair of the higher timestamp stays, the message's goes to the readers, WRITE_ACK to the
 // sender.
-fn replaced(s: Server, p: Pair) -> Served
-    requires { ⌜ sound s ≡ true ⌝ }
-    ensures { λ r. ⌜ ((d : ℕ) → afterOf d r ≡ servedOf s d (Message.WriteInfo p)) ⌝ }
+fn replaced(server: Server, pair: Pair) -> Served
+    requires { ⌜ sound server ≡ true ⌝ }
+    ensures { λ r. ⌜ ((d : ℕ) → afterOf d r ≡ servedOf server d (Message.WriteInfo pair)) ⌝ }
 {
-    let readers = s.readers;
-    let kept = higher(s.pair, p);
+    let readers = server.readers;
+    let kept = higher(server.pair, pair);
     Served {
         server: Server {
             pair: kept,
             readers: readers,
         },
-        sends: Sends::Forward(readers, p),
+        sends: Sends::Forward(readers, pair),
     }
 }
 
-// Takes message m of client d. A kind that a server does not take is dropped.
-pub fn after(s: Server, d: u8, m: Message) -> Served
-    requires { ⌜ (sound s ≡ true) × (1 ≤ d) × (d ≤ 6) ⌝ }
-    ensures { λ r. ⌜ afterOf d r ≡ servedOf s d m ⌝ }
+// Serves a message of client d. A reply is dropped: no client sends one.
+pub fn after(server: Server, d: u8, message: Message) -> Served
+    requires { ⌜ (sound server ≡ true) × (1 ≤ d) × (d ≤ mostClients) ⌝ }
+    ensures { λ r. ⌜ afterOf d r ≡ servedOf server d message ⌝ }
 {
-    if let Message::GetInfo(n) = m {
-        return added(s, d, n);
+    if let Message::GetInfo(tag) = message {
+        return added(server, d, tag);
     }
-    if let Message::Done = m {
-        return removed(s, d);
+    if let Message::Done = message {
+        return removed(server, d);
     }
-    let Message::WriteInfo(p) = m else {
+    let Message::WriteInfo(pair) = message else {
         return Served {
-            server: s,
+            server: server,
             sends: Sends::Nothing,
         };
     };
-    replaced(s, p)
-}
-
-// Whether a server takes messages of this kind.
-fn is_taken(m: Message) -> bool
-    ensures { λ r. ⌜ r ≡ isRequest (Unpacked.Good m) ⌝ }
-{
-    if let Message::GetInfo(_) = m {
-        return true;
-    }
-    if let Message::Done = m {
-        return true;
-    }
-    let Message::WriteInfo(_) = m else {
-        return false;
-    };
-    true
+    replaced(server, pair)
 }
 
 // Two numbers, and no reader but clients 1 to 6.
-fn is_sound(m: &[u64]) -> bool
-    ensures { λ r. ⌜ r ≡ isSound (now (m .entry)) ⌝ }
+fn is_sound(memory: &[u64]) -> bool
+    ensures { λ r. ⌜ r ≡ isSound (now (memory .entry)) ⌝ }
 {
-    if m.len() != WORDS {
+    if memory.len() != WORDS {
         return false;
     }
-    m[READERS_AT] < OVER_SETS
+    memory[READERS_AT] < OVER_SETS
 }
 
-// Takes message x of client d, in memory.
-fn serve(d: u8, x: Message, m: &mut [u64]) -> Sends
-    requires { ⌜ (isSound (now m) ≡ true) × (1 ≤ d) × (d ≤ 6) ⌝ }
-    ensures { λ r. ⌜ became (messages r (sentBy d r)) (now (m .exit)) ≡ servedIn (now (m .entry)) d x ⌝ }
+// Serves a message of client d, in memory.
+fn serve_message(d: u8, message: Message, memory: &mut [u64]) -> Sends
+    requires { ⌜ (isSound (now memory) ≡ true) × (1 ≤ d) × (d ≤ mostClients) ⌝ }
+    ensures { λ r. ⌜ became (messages r (sentBy d r)) (now (memory .exit))
+        ≡ servedIn (now (memory .entry)) d message ⌝ }
 {
-    let served = after(load(m), d, x);
+    let served = after(load(memory), d, message);
     let sends = served.sends;
-    store(m, served.server);
+    store(memory, served.server);
     sends
 }
 
-// Takes the bytes that sender d sent to the server in memory m. Refuses (3, 4, 9, the lowest first) unsound
-// memory, a sender that is not 1 to 6, and bytes that are no message or one that a server does not take; the
-// memory stays as it was.
-pub fn take(d: u32, bytes: &[u8], m: &mut [u64]) -> Outcome
-    ensures { λ r. ⌜ became (resultOf d r) (now (m .exit))
-        ≡ takenOf (now (m .entry)) d (now (bytes .entry)) ⌝ }
+// Serves the bytes that sender d sent to the server in memory. Refuses (3, 4, 9, the lowest first) unsound
+// memory, a sender that is not 1 to 6, and bytes that are no message or a reply; the memory stays as it was.
+pub fn serve(d: u32, bytes: &[u8], memory: &mut [u64]) -> Outcome
+    ensures { λ r. ⌜ became (resultOf d r) (now (memory .exit))
+        ≡ bytesServed (now (memory .entry)) d (now (bytes .entry)) ⌝ }
 {
-    if !is_sound(m) {
+    if !is_sound(memory) {
         return Outcome::Refused(Refusal::Unsound);
     }
     if d < 1 || MOST_CLIENTS < d {
@@ -207,8 +194,8 @@ pub fn take(d: u32, bytes: &[u8], m: &mut [u64]) -> Outcome
     let Unpacked::Good(message) = message::unpack(bytes) else {
         return Outcome::Refused(Refusal::Malformed);
     };
-    if !is_taken(message) {
+    if message::is_reply(message) {
         return Outcome::Refused(Refusal::Malformed);
     }
-    Outcome::Sent(serve(d as u8, message, m))
+    Outcome::Sent(serve_message(d as u8, message, memory))
 }

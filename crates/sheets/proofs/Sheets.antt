@@ -1,7 +1,8 @@
 -- The marked sheets hold: each is computed from the definitions.
 -- Assumes nothing.
 use mathlib.Core.Path.{refl}
-use Rattle.calendar.specs.Calendar.{leap, yearLength, firstDay, monthLength, daysBefore, isDate, dayOf, dayNumber}
+use Rattle.calendar.specs.Calendar.{leap, yearLength, firstDay, monthLength}
+use Rattle.calendar.specs.Calendar.{daysBefore, isDate, dayOf, dayNumber}
 use Rattle.licence.specs.Entry.{isLicensed, isLicence, kindOf, joinedOf}
 use Rattle.licence.specs.Renewal.{span, keptDay, later, isRenewable, renewedOf}
 use Rattle.licence.specs.Verdict.{daysLeft, verdictBy, verdictOf}
@@ -14,11 +15,13 @@ use Rattle.register.specs.Client.{isAtMost, notOld, valid, counts}
 use Rattle.sheets.specs.Sheets.{Entries, Days, Messages, Counting, Sheets}
 
 entries : Entries
-unfolding leap monthLength isDate isLicensed isLicence kindOf joinedOf span keptDay later isRenewable renewedOf
+unfolding leap monthLength isDate isLicensed isLicence kindOf joinedOf
+    span keptDay later isRenewable renewedOf
 entries = record { packed = refl; other-year = refl; renewed-by-1 = refl; renewed-by-4 = refl }
 
 days : Days
-unfolding leap yearLength firstDay monthLength daysBefore isDate dayOf dayNumber isLicensed isLicence daysLeft verdictBy verdictOf
+unfolding leap yearLength firstDay monthLength daysBefore isDate dayOf dayNumber
+    isLicensed isLicence daysLeft verdictBy verdictOf
 days = record { leap-day = refl; last-day = refl; left-after = refl; verdict-after = refl }
 
 messages : Messages

@@ -10,32 +10,32 @@ use Rattle.sheets.specs.Digest.{mixed, inTurn}
 use Rattle.sheets.specs.Licences.{withRenewals, withEnd}
 
 -- an entry that ends on a date, with copies that change from date to date
-unfoldable pub entryOf : ℕ → ℕ → ℕ → ℕ → ℕ
+abbrev pub entryOf : ℕ → ℕ → ℕ → ℕ → ℕ
 entryOf year month day state = ((year * 16 + month) * 32 + day) * 524288 + (month * 4000 + day) * 8 + state
 
 abbrev pub numberIn : DayNumber → ℕ → ℕ
-numberIn (DayNumber.Day a) h = mixed a (mixed 0 h)
-numberIn (DayNumber.Refused r) h = mixed (numberOf r) h
+numberIn (DayNumber.Day number) digest = mixed number (mixed 0 digest)
+numberIn (DayNumber.Refused why) digest = mixed (numberOf why) digest
 
 unfoldable pub withNumber : ℕ → ℕ → ℕ → ℕ → ℕ
-withNumber year month day h = numberIn (dayNumber year month day) h
+withNumber year month day digest = numberIn (dayNumber year month day) digest
 
 -- entries of the states 0 to 4
-unfoldable pub withStates : ℕ → ℕ → ℕ → ℕ → ℕ
-withStates year month day h =
-    inTurn (λ (state : ℕ). withEnd (entryOf year month day state) year month day) 5 h
+abbrev pub withStates : ℕ → ℕ → ℕ → ℕ → ℕ
+withStates year month day digest =
+    inTurn (λ (state : ℕ). withEnd (entryOf year month day state) year month day) 5 digest
 
-unfoldable pub withDate : ℕ → ℕ → ℕ → Digests → Digests
-withDate year month day d =
+abbrev pub withDate : ℕ → ℕ → ℕ → Digests → Digests
+withDate year month day digests =
     record {
-      numbers = withNumber year month day (d .numbers);
-      renewals = withRenewals (entryOf year month day 1) (d .renewals);
-      verdicts = withStates year month day (d .verdicts);
+      numbers = withNumber year month day (digests .numbers);
+      renewals = withRenewals (entryOf year month day 1) (digests .renewals);
+      verdicts = withStates year month day (digests .verdicts);
     }
 
--- the k-th pattern: months 0 to 15, days 0 to 31
+-- the i-th pattern: months 0 to 15, days 0 to 31
 abbrev pub withPattern : ℕ → ℕ → Digests → Digests
-withPattern year k = withDate year (k / 32) (k % 32)
+withPattern year i = withDate year (i / 32) (i % 32)
 
-unfoldable pub yearDigests : ℕ → Digests
+abbrev pub yearDigests : ℕ → Digests
 yearDigests year = inTurn (withPattern year) 512 (record { numbers = 0; renewals = 0; verdicts = 0 })

@@ -4,9 +4,9 @@
 use Prim.Native.Nat.{ℕ, zero, suc, _+_, _-_, _*_, _%_}
 use lib.IntN.{ℤ, pos, negsuc}
 
--- the digest h with the number x behind it
+-- a digest with a number behind it
 unfoldable pub mixed : ℕ → ℕ → ℕ
-mixed x h = (h % 4294967291 * 1000003 + x % 4294967291) % 4294967291
+mixed number digest = (digest % 4294967291 * 1000003 + number % 4294967291) % 4294967291
 
 -- a signed number of 32 bits moved up, so that none is below 0
 abbrev pub raised : ℤ → ℕ

@@ -1,4 +1,5 @@
--- The digests of what `licence` answers about one entry: a number for each answer, and the refusal's number where it refuses.
+-- The digests of what `licence` answers about one entry: a number for each answer, and the refusal's number
+-- where it refuses.
 --
 -- In order: renewals by each length; days left and verdict on one day; on the days around an end.
 -- A reader of the public contracts needs none of it.
@@ -15,55 +16,58 @@ use Rattle.licence.specs.Verdict.{daysLeft, verdictOf}
 use Rattle.sheets.specs.Digest.{mixed, raised, inTurn}
 
 abbrev pub renewalIn : Renewal → ℕ → ℕ
-renewalIn (Renewal.Entry x) h = mixed x (mixed 0 h)
-renewalIn (Renewal.Refused r) h = mixed (numberOf r) h
+renewalIn (Renewal.Entry renewed) digest = mixed renewed (mixed 0 digest)
+renewalIn (Renewal.Refused why) digest = mixed (numberOf why) digest
 
 unfoldable pub withRenewal : ℕ → ℕ → ℕ → ℕ
-withRenewal e years h = renewalIn (renewedOf e years) h
+withRenewal entry years digest = renewalIn (renewedOf entry years) digest
 
 -- by 0 to 10 years, and by one too many
-unfoldable pub withRenewals : ℕ → ℕ → ℕ
-withRenewals e h = inTurn (withRenewal e) 12 h
+abbrev pub withRenewals : ℕ → ℕ → ℕ
+withRenewals entry digest = inTurn (withRenewal entry) 12 digest
 
 abbrev pub daysIn : DaysLeft → ℕ → ℕ
-daysIn (DaysLeft.Days left) h = mixed (raised left) (mixed 0 h)
-daysIn (DaysLeft.Refused r) h = mixed (numberOf r) h
+daysIn (DaysLeft.Days days) digest = mixed (raised days) (mixed 0 digest)
+daysIn (DaysLeft.Refused why) digest = mixed (numberOf why) digest
 
 unfoldable pub withDays : ℕ → ℕ → ℕ → ℕ → ℕ → ℕ
-withDays e year month day h = daysIn (daysLeft e year month day) h
+withDays entry year month day digest = daysIn (daysLeft entry year month day) digest
 
 abbrev pub verdictIn : Verdict → ℕ → ℕ
-verdictIn Verdict.Pulp h = mixed 20 h
-verdictIn Verdict.Hold h = mixed 21 h
-verdictIn Verdict.Print h = mixed 22 h
-verdictIn (Verdict.Refused r) h = mixed (numberOf r) h
+verdictIn Verdict.Pulp digest = mixed 20 digest
+verdictIn Verdict.Hold digest = mixed 21 digest
+verdictIn Verdict.Print digest = mixed 22 digest
+verdictIn (Verdict.Refused why) digest = mixed (numberOf why) digest
 
 unfoldable pub withVerdict : ℕ → ℕ → ℕ → ℕ → ℕ → ℕ
-withVerdict e year month day h = verdictIn (verdictOf e year month day) h
+withVerdict entry year month day digest = verdictIn (verdictOf entry year month day) digest
 
-unfoldable pub withDay : ℕ → ℕ → ℕ → ℕ → ℕ → ℕ
-withDay e year month day h = withVerdict e year month day (withDays e year month day h)
+abbrev pub withDay : ℕ → ℕ → ℕ → ℕ → ℕ → ℕ
+withDay entry year month day digest = withVerdict entry year month day (withDays entry year month day digest)
 
 -- one less, where there is one
-unfoldable pub dayBefore : ℕ → ℕ
-dayBefore x = cond (eqb x 0) 0 (x - 1)
+abbrev pub dayBefore : ℕ → ℕ
+dayBefore number = cond (eqb number 0) 0 (number - 1)
 
 -- a day and its neighbours in the month
-unfoldable pub near : ℕ → ℕ → ℕ → ℕ → ℕ → ℕ
-near e year month day h =
-    withDay e year month (day + 1) (withDay e year month day (withDay e year month (dayBefore day) h))
+abbrev pub near : ℕ → ℕ → ℕ → ℕ → ℕ → ℕ
+near entry year month day digest =
+    withDay entry year month (day + 1)
+    (withDay entry year month day (withDay entry year month (dayBefore day) digest))
 
 -- the last days of the month before, some of which are none
-unfoldable pub monthBefore : ℕ → ℕ → ℕ → ℕ → ℕ
-monthBefore e year month h =
+abbrev pub monthBefore : ℕ → ℕ → ℕ → ℕ → ℕ
+monthBefore entry year month digest =
     let last = dayBefore month in
-    withDay e year last 31 (withDay e year last 30 (withDay e year last 29 (withDay e year last 28 h)))
+    withDay entry year last 31 (withDay entry year last 30
+    (withDay entry year last 29 (withDay entry year last 28 digest)))
 
 -- the first of the next month, the last day of the year before, the first of the year after
-unfoldable pub yearsBeside : ℕ → ℕ → ℕ → ℕ → ℕ
-yearsBeside e year month h =
-    withDay e (year + 1) 1 1 (withDay e (year - 1) 12 31 (withDay e year (month + 1) 1 h))
+abbrev pub yearsBeside : ℕ → ℕ → ℕ → ℕ → ℕ
+yearsBeside entry year month digest =
+    withDay entry (year + 1) 1 1 (withDay entry (year - 1) 12 31 (withDay entry year (month + 1) 1 digest))
 
 -- around the end of an entry
-unfoldable pub withEnd : ℕ → ℕ → ℕ → ℕ → ℕ → ℕ
-withEnd e year month day h = yearsBeside e year month (monthBefore e year month (near e year month day h))
+abbrev pub withEnd : ℕ → ℕ → ℕ → ℕ → ℕ → ℕ
+withEnd entry year month day digest =
+    yearsBeside entry year month (monthBefore entry year month (near entry year month day digest))

@@ -1,4 +1,5 @@
--- The marked proof sheets of 01 as one table, `Sheets`, whose proof is computed from the definitions (proofs/Sheets.antt).
+-- The marked proof sheets of 01 as one table, `Sheets`, whose proof is computed from the definitions
+-- (proofs/Sheets.antt).
 --
 -- In order: entries; days; messages; what counts, and what a set keeps; all of them.
 -- Assumes nothing.
@@ -32,7 +33,7 @@ use Rattle.register.specs.Client.{Client, counts, setLimit}
 
 -- an open licence of 40 copies that ends on a date
 abbrev pub ending : ℕ → ℕ → ℕ → Fields
-ending y m d = record { year = y; month = m; day = d; copies = 40; state = opened }
+ending year month day = record { year = year; month = month; day = day; copies = 40; state = opened }
 
 -- entries and renewals
 pub record Entries : Type 0 where
@@ -61,31 +62,31 @@ pub record Messages : Type 0 where
 
 -- the pair of a counter, a client and the entry of these sheets; pairs of client 1
 abbrev pub pairBy : ℕ → ℕ → Pair
-pairBy c d = pairOf (record { 0 = c }) d (record { 0 = 0x7E82E80141 })
+pairBy counter d = pairOf (record { 0 = counter }) d (record { 0 = 0x7E82E80141 })
 
 abbrev pub pairs : List ℕ → List Pair
-pairs l = map (λ c. pairBy c 1) l
+pairs counters = map (λ counter. pairBy counter 1) counters
 
--- a client that reads, with the timestamps of these pairs noted of the servers 1, 2 and 3, and the pair (1, 1) in the sets of the
--- servers 1 to m
-abbrev pub heard : Pair → Pair → Pair → ℕ → Client
-heard p q r m =
+-- a client that reads, with the timestamps of these pairs noted of the servers 1, 2 and 3, and the pair
+-- (1, 1) in the sets of the first so many servers
+abbrev pub noting : Pair → Pair → Pair → ℕ → Client
+noting first second third many =
     record {
       phase = Reading;
       reads = record { 0 = 1 };
-      noted = λ k. getD (none ∷ some (stamp p) ∷ some (stamp q) ∷ some (stamp r) ∷ []) k none;
-      sets = λ k. cond (leb k m) (pairs (1 ∷ [])) [];
+      noted = λ k. getD (none ∷ some (stamp first) ∷ some (stamp second) ∷ some (stamp third) ∷ []) k none;
+      sets = λ k. cond (leb k many) (pairs (1 ∷ [])) [];
       acks = λ k. false;
     }
 
 -- what counts at f = 1, and what a set keeps
 pub record Counting : Type 0 where
   -- noted (1,1), (1,1), (0,0), pair (1,1) in two sets: counts
-  pub two-sets : counts (size 1) 1 1 (heard (pairBy 1 1) (pairBy 1 1) (pairBy 0 0) 2) (pairBy 1 1) ≡ true
+  pub two-sets : counts (size 1) 1 1 (noting (pairBy 1 1) (pairBy 1 1) (pairBy 0 0) 2) (pairBy 1 1) ≡ true
   -- noted (2,2), (1,1), (0,0): it does not
-  pub newer-noted : counts (size 1) 1 1 (heard (pairBy 2 2) (pairBy 1 1) (pairBy 0 0) 2) (pairBy 1 1) ≡ false
+  pub newer-noted : counts (size 1) 1 1 (noting (pairBy 2 2) (pairBy 1 1) (pairBy 0 0) 2) (pairBy 1 1) ≡ false
   -- in one set only: it does not
-  pub one-set : counts (size 1) 1 1 (heard (pairBy 1 1) (pairBy 1 1) (pairBy 0 0) 1) (pairBy 1 1) ≡ false
+  pub one-set : counts (size 1) 1 1 (noting (pairBy 1 1) (pairBy 1 1) (pairBy 0 0) 1) (pairBy 1 1) ≡ false
   -- set with counters 3, 5, 6, 9 of client 1: adding 4 drops 3; adding 2 changes nothing
   pub adding-4 : add setLimit (pairBy 4 1) (pairs (3 ∷ 5 ∷ 6 ∷ 9 ∷ [])) ≡ pairs (4 ∷ 5 ∷ 6 ∷ 9 ∷ [])
   pub adding-2 : add setLimit (pairBy 2 1) (pairs (3 ∷ 5 ∷ 6 ∷ 9 ∷ [])) ≡ pairs (3 ∷ 5 ∷ 6 ∷ 9 ∷ [])

@@ -29,42 +29,42 @@ fn entry(year: u16, month: u8, day: u8, state: u8) -> u64
     end * 524288 + copies * 8 + state as u64
 }
 
-fn with_number(h: u64, year: u16, month: u8, day: u8) -> u64
-    ensures { λ r. ⌜ r ≡ withNumber year month day h ⌝ }
+fn with_number(digest: u64, year: u16, month: u8, day: u8) -> u64
+    ensures { λ r. ⌜ r ≡ withNumber year month day digest ⌝ }
 {
     match calendar::day_number(year, month, day) {
-        DayNumber::Day(a) => mix(mix(h, 0), a as u64),
-        DayNumber::Refused(r) => mix(h, refusal::number(r) as u64),
+        DayNumber::Day(number) => mix(mix(digest, 0), number as u64),
+        DayNumber::Refused(why) => mix(digest, refusal::number(why) as u64),
     }
 }
 
-fn with_states(h: u64, year: u16, month: u8, day: u8) -> u64
+fn with_states(start: u64, year: u16, month: u8, day: u8) -> u64
     requires { ⌜ 1 ≤ year ⌝ }
     requires { ⌜ year < 65535 ⌝ }
     requires { ⌜ month < 16 ⌝ }
     requires { ⌜ day < 32 ⌝ }
-    ensures { λ r. ⌜ r ≡ withStates year month day h ⌝ }
+    ensures { λ r. ⌜ r ≡ withStates year month day start ⌝ }
 {
-    let mut d = h;
+    let mut digest = start;
     let mut state: u8 = 0;
     while state < STATES {
-        d = with_end(d, entry(year, month, day, state), year, month, day);
+        digest = with_end(digest, entry(year, month, day, state), year, month, day);
         state += 1;
     }
-    d
+    digest
 }
 
-fn with_date(d: Digests, year: u16, month: u8, day: u8) -> Digests
+fn with_date(digests: Digests, year: u16, month: u8, day: u8) -> Digests
     requires { ⌜ 1 ≤ year ⌝ }
     requires { ⌜ year < 65535 ⌝ }
     requires { ⌜ month < 16 ⌝ }
     requires { ⌜ day < 32 ⌝ }
-    ensures { λ r. ⌜ r ≡ withDate year month day d ⌝ }
+    ensures { λ r. ⌜ r ≡ withDate year month day digests ⌝ }
 {
     Digests {
-        numbers: with_number(d.numbers, year, month, day),
-        renewals: with_renewals(d.renewals, entry(year, month, day, 1)),
-        verdicts: with_states(d.verdicts, year, month, day),
+        numbers: with_number(digests.numbers, year, month, day),
+        renewals: with_renewals(digests.renewals, entry(year, month, day, 1)),
+        verdicts: with_states(digests.verdicts, year, month, day),
     }
 }
 
@@ -73,15 +73,15 @@ pub fn of_year(year: u16) -> Digests
     requires { ⌜ year < 65535 ⌝ }
     ensures { λ r. ⌜ r ≡ yearDigests year ⌝ }
 {
-    let mut d = Digests {
+    let mut digests = Digests {
         numbers: 0,
         renewals: 0,
         verdicts: 0,
     };
-    let mut k: u16 = 0;
-    while k < PATTERNS {
-        d = with_date(d, year, (k / 32) as u8, (k % 32) as u8);
-        k += 1;
+    let mut i: u16 = 0;
+    while i < PATTERNS {
+        digests = with_date(digests, year, (i / 32) as u8, (i % 32) as u8);
+        i += 1;
     }
-    d
+    digests
 }

@@ -7,16 +7,16 @@ const MODULUS: u64 = 4294967291;
 
 const FACTOR: u64 = 1000003;
 
-// The digest h with one number more.
-pub fn mix(h: u64, x: u64) -> u64
-    ensures { λ r. ⌜ r ≡ mixed x h ⌝ }
+// The digest with one number more.
+pub fn mix(digest: u64, number: u64) -> u64
+    ensures { λ r. ⌜ r ≡ mixed number digest ⌝ }
 {
-    ((h % MODULUS) * FACTOR + x % MODULUS) % MODULUS
+    ((digest % MODULUS) * FACTOR + number % MODULUS) % MODULUS
 }
 
 // A signed number moved up, so that none is below 0.
-pub fn raise(z: i32) -> u64
-    ensures { λ r. ⌜ r ≡ raised z ⌝ }
+pub fn raise(number: i32) -> u64
+    ensures { λ r. ⌜ r ≡ raised number ⌝ }
 {
-    (z as i64 + 2147483648) as u64
+    (number as i64 + 2147483648) as u64
 }

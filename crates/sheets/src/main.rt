@@ -1,4 +1,5 @@
-// Runs the calendar and the licences over every date, and the messages at the edges of their fields, and prints digests.
+// Runs the calendar and the licences over every date, and the messages at the edges of their fields, and
+// prints digests.
 //
 // `tests/sheets_oracle.py` computes the same lines another way, and `stdout` is what it wrote.
 ghost use Prim.Native.Nat.{_<_};
@@ -17,14 +18,14 @@ const END_YEAR: u16 = 2203;
 // All that four bits can say.
 const KINDS: u64 = 16;
 
-fn print_line(year: u16, d: Digests) {
+fn print_line(year: u16, digests: Digests) {
     io::print_decimal(1, year as u64);
     io::write_all(1, b" ");
-    io::print_decimal(1, d.numbers);
+    io::print_decimal(1, digests.numbers);
     io::write_all(1, b" ");
-    io::print_decimal(1, d.renewals);
+    io::print_decimal(1, digests.renewals);
     io::write_all(1, b" ");
-    io::print_decimal(1, d.verdicts);
+    io::print_decimal(1, digests.verdicts);
     io::write_all(1, b"\n");
 }
 

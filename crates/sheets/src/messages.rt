@@ -3,7 +3,8 @@ ghost use mathlib.Core.Path.{_≡_};
 ghost use Prim.Native.Nat.{_≤_, _<_};
 ghost use Rattle.message.specs.Packing.{packLeaves};
 ghost use Rattle.sheets.specs.Messages.{withPair, withMessage, withBytes, withUnpacked, withPacked};
-ghost use Rattle.sheets.specs.Messages.{withLengths, edgeOf, patternOf, kindDigest, sampleOf, withBuffers, packDigest};
+ghost use Rattle.sheets.specs.Messages.{withLengths, edgeOf, patternOf, kindDigest};
+ghost use Rattle.sheets.specs.Messages.{sampleOf, withBuffers, packDigest};
 use crate::digest::mix;
 use message::Message;
 use message::Packed;
@@ -21,7 +22,7 @@ const FORTY_BITS: u64 = 0xFF_FFFF_FFFF;
 const PATTERNS: u64 = 81;
 
 // Tags and counters, two of them over their width; pairs, each at an edge of a field.
-const NUMBERS: [u32; 5] = [0, 1, 0xF_FFFF, 0x10_0000, 0xFFFF_FFFF];
+const TAGS: [u32; 5] = [0, 1, 0xF_FFFF, 0x10_0000, 0xFFFF_FFFF];
 
 const PAIRS: [u64; 6] = [
     0,
@@ -36,102 +37,102 @@ const SAMPLES: usize = 30;
 
 const LENGTHS: usize = 14;
 
-fn with_pair(h: u64, p: Pair) -> u64
-    ensures { λ r. ⌜ r ≡ withPair p h ⌝ }
+fn with_pair(digest: u64, pair: Pair) -> u64
+    ensures { λ r. ⌜ r ≡ withPair pair digest ⌝ }
 {
-    let c = message::counter_of(p);
-    let e = message::entry_of(p);
+    let counter = message::counter_of(pair);
+    let entry = message::entry_of(pair);
     mix(
         mix(
-            mix(h, message::counter_word(c)),
-            message::client_of(p) as u64,
+            mix(digest, message::counter_word(counter)),
+            message::client_of(pair) as u64,
         ),
-        e.0,
+        entry.0,
     )
 }
 
 // A message's kind and fields.
-fn with_message(h: u64, m: Message) -> u64
-    ensures { λ r. ⌜ r ≡ withMessage m h ⌝ }
+fn with_message(digest: u64, message: Message) -> u64
+    ensures { λ r. ⌜ r ≡ withMessage message digest ⌝ }
 {
-    match m {
-        Message::GetInfo(n) => mix(mix(h, 1), message::read_word(n)),
-        Message::Info(n, p) => with_pair(mix(mix(h, 2), message::read_word(n)), p),
-        Message::Done => mix(h, 3),
-        Message::WriteInfo(p) => with_pair(mix(h, 4), p),
-        Message::Fwd(p) => with_pair(mix(h, 5), p),
-        Message::WriteAck(c) => mix(mix(h, 6), message::counter_word(c)),
+    match message {
+        Message::GetInfo(tag) => mix(mix(digest, 1), message::read_word(tag)),
+        Message::Info(tag, pair) => with_pair(mix(mix(digest, 2), message::read_word(tag)), pair),
+        Message::Done => mix(digest, 3),
+        Message::WriteInfo(pair) => with_pair(mix(digest, 4), pair),
+        Message::Fwd(pair) => with_pair(mix(digest, 5), pair),
+        Message::WriteAck(counter) => mix(mix(digest, 6), message::counter_word(counter)),
     }
 }
 
 // What the bytes are unpacked to.
-fn with_unpacked(h: u64, s: &[u8]) -> u64
-    ensures { λ r. ⌜ r ≡ withUnpacked (now (s .entry)) h ⌝ }
+fn with_unpacked(digest: u64, bytes: &[u8]) -> u64
+    ensures { λ r. ⌜ r ≡ withUnpacked (now (bytes .entry)) digest ⌝ }
 {
-    match message::unpack(s) {
-        Unpacked::Good(m) => with_message(mix(h, 0), m),
-        Unpacked::Refused(r) => mix(h, refusal::number(r) as u64),
+    match message::unpack(bytes) {
+        Unpacked::Good(message) => with_message(mix(digest, 0), message),
+        Unpacked::Refused(why) => mix(digest, refusal::number(why) as u64),
     }
 }
 
-fn with_bytes(h: u64, s: &[u8]) -> u64
-    ensures { λ r. ⌜ r ≡ withBytes (now (s .entry)) h ⌝ }
+fn with_bytes(start: u64, bytes: &[u8]) -> u64
+    ensures { λ r. ⌜ r ≡ withBytes (now (bytes .entry)) start ⌝ }
 {
-    let mut d = h;
+    let mut digest = start;
     let mut i: usize = 0;
-    while i < s.len() {
-        d = mix(d, basics::wide(s[i]));
+    while i < bytes.len() {
+        digest = mix(digest, basics::wide(bytes[i]));
         i += 1;
     }
-    d
+    digest
 }
 
 // What packing answers, and all that the buffer holds afterwards.
-fn with_packed(h: u64, m: Message, out: &mut [u8]) -> u64
-    ensures { λ r. ⌜ r ≡ withPacked m (now (out .entry)) h ⌝ }
-    ensures { λ r. ⌜ now (out .exit) ≡ packLeaves m (now (out .entry)) ⌝ }
+fn with_packed(digest: u64, message: Message, out: &mut [u8]) -> u64
+    ensures { λ r. ⌜ r ≡ withPacked message (now (out .entry)) digest ⌝ }
+    ensures { λ r. ⌜ now (out .exit) ≡ packLeaves message (now (out .entry)) ⌝ }
 {
-    match message::pack(m, out) {
-        Packed::Done => with_bytes(mix(h, 0), out),
-        Packed::Refused(r) => with_bytes(mix(h, refusal::number(r) as u64), out),
+    match message::pack(message, out) {
+        Packed::Done => with_bytes(mix(digest, 0), out),
+        Packed::Refused(why) => with_bytes(mix(digest, refusal::number(why) as u64), out),
     }
 }
 
 // Ten, eleven and twelve bytes that begin with a number's.
-fn with_lengths(h: u64, w: Words) -> u64
-    ensures { λ r. ⌜ r ≡ withLengths w h ⌝ }
+fn with_lengths(digest: u64, number: Words) -> u64
+    ensures { λ r. ⌜ r ≡ withLengths number digest ⌝ }
 {
     let mut space = [0u8; 12];
-    message::store(w, &mut space, 0);
-    let a = with_unpacked(h, &space[..10]);
-    let b = with_unpacked(a, &space[..11]);
-    with_unpacked(b, &space)
+    message::store(number, &mut space, 0);
+    let of_ten = with_unpacked(digest, &space[..10]);
+    let of_eleven = with_unpacked(of_ten, &space[..11]);
+    with_unpacked(of_eleven, &space)
 }
 
 // The lowest of a field, one more, and the highest.
-fn edge(highest: u64, k: u64) -> u64
+fn edge(highest: u64, i: u64) -> u64
     requires { ⌜ 1 ≤ highest ⌝ }
-    ensures { λ r. ⌜ r ≡ edgeOf highest k ⌝ }
+    ensures { λ r. ⌜ r ≡ edgeOf highest i ⌝ }
     ensures { λ r. ⌜ r ≤ highest ⌝ }
 {
-    if k == 0 {
+    if i == 0 {
         return 0;
     }
-    if k == 1 {
+    if i == 1 {
         return 1;
     }
     highest
 }
 
-// The k-th pattern of a kind: each field at each of its edges.
-fn pattern(kind: u64, k: u64) -> Words
+// The i-th pattern of a kind: each field at each of its edges.
+fn pattern(kind: u64, i: u64) -> Words
     requires { ⌜ kind < 16 ⌝ }
-    ensures { λ r. ⌜ r ≡ patternOf kind k ⌝ }
+    ensures { λ r. ⌜ r ≡ patternOf kind i ⌝ }
 {
-    let tag = edge(TWENTY_BITS, k / 27);
-    let counter = edge(TWENTY_BITS, k / 9 % 3);
-    let client = edge(FOUR_BITS, k / 3 % 3);
-    let entry = edge(FORTY_BITS, k % 3);
+    let tag = edge(TWENTY_BITS, i / 27);
+    let counter = edge(TWENTY_BITS, i / 9 % 3);
+    let client = edge(FOUR_BITS, i / 3 % 3);
+    let entry = edge(FORTY_BITS, i % 3);
     Words(
         (kind * 0x10_0000 + tag) as u32,
         counter * 0x1000_0000_0000 + client * 0x100_0000_0000 + entry,
@@ -143,13 +144,13 @@ pub fn of_kind(kind: u64) -> u64
     requires { ⌜ kind < 16 ⌝ }
     ensures { λ r. ⌜ r ≡ kindDigest kind ⌝ }
 {
-    let mut d: u64 = 0;
-    let mut k: u64 = 0;
-    while k < PATTERNS {
-        d = with_lengths(d, pattern(kind, k));
-        k += 1;
+    let mut digest: u64 = 0;
+    let mut i: u64 = 0;
+    while i < PATTERNS {
+        digest = with_lengths(digest, pattern(kind, i));
+        i += 1;
     }
-    d
+    digest
 }
 
 // A message of a kind, 6 where there is no other.
@@ -167,28 +168,28 @@ fn sample(kind: u64, number: u32, pair: u64) -> Message
 }
 
 // A message packed into buffers of 0 to 13 bytes.
-fn with_buffers(h: u64, m: Message) -> u64
-    ensures { λ r. ⌜ r ≡ withBuffers m h ⌝ }
+fn with_buffers(start: u64, message: Message) -> u64
+    ensures { λ r. ⌜ r ≡ withBuffers message start ⌝ }
 {
-    let mut d = h;
+    let mut digest = start;
     let mut n: usize = 0;
     while n < LENGTHS {
         let mut space = [0xA5u8; 13];
-        d = with_packed(d, m, &mut space[..n]);
+        digest = with_packed(digest, message, &mut space[..n]);
         n += 1;
     }
-    d
+    digest
 }
 
 // What messages of a kind are packed to.
 pub fn packed_kind(kind: u64) -> u64
     ensures { λ r. ⌜ r ≡ packDigest kind ⌝ }
 {
-    let mut d: u64 = 0;
-    let mut k: usize = 0;
-    while k < SAMPLES {
-        d = with_buffers(d, sample(kind, NUMBERS[k / 6], PAIRS[k % 6]));
-        k += 1;
+    let mut digest: u64 = 0;
+    let mut i: usize = 0;
+    while i < SAMPLES {
+        digest = with_buffers(digest, sample(kind, TAGS[i / 6], PAIRS[i % 6]));
+        i += 1;
     }
-    d
+    digest
 }

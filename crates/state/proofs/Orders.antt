@@ -1,15 +1,9 @@
 -- Sets of pairs in strict order: the test of neighbours says the same as the order of all, since the order is
 -- transitive. And a fact of every element of a list, by its place.
 -- Assumes nothing.
-use mathlib.Core.Path.{_≡_, refl}
-use mathlib.Core.Bool.{true}
-use mathlib.Core.Logic.{inl, inr}
-use mathlib.Core.List.{List, [], _∷_, _++_}
-use Prim.Native.Nat.{ℕ, zero, suc, _<_}
-use native.Mathlib.Nat.{lt-trans, not-suc-le-zero}
-use native.Mathlib.Omega.{arith}
-use lib.ListN.{length, getD}
-use borrow.Author.Tests.{ltb-true, lt-ltb}
+use Rattle.basics.proofs.Prelude.{_≡_, refl, true, inl, inr, List, [], _∷_, _++_, length, getD, ℕ, zero, suc}
+use Rattle.basics.proofs.Prelude.{_<_, not-suc-le-zero, arith, ltb-true, lt-ltb}
+use native.Mathlib.Nat.{lt-trans}
 use Rattle.basics.proofs.Cases.{both, both-of}
 use Rattle.basics.specs.Members.{Member}
 use Rattle.basics.proofs.Members.{Every}

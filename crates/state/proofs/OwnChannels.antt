@@ -1,20 +1,20 @@
 -- Each client and server have two channels of their own, one each way: no two of them are the same.
 -- Assumes nothing.
-use mathlib.Core.Path.{_≡_}
-use Prim.Native.Nat.{ℕ, _<_}
-use native.Mathlib.Omega.{arith}
+use Rattle.basics.proofs.Prelude.{_≡_, ℕ, _<_, arith}
+use Rattle.register.specs.Settings.{mostServers, mostClients}
+use Rattle.channel.specs.Memory.{upward, channels}
 use Rattle.state.specs.State.{upIndex, downIndex}
 
 -- the client at place i, the server at place j
-module _ (i j : ℕ) (client : i < 6) (server : j < 13) where
-  pub up-inside : upIndex i j < 78
+module _ (i j : ℕ) (client : i < mostClients) (server : j < mostServers) where
+  pub up-inside : upIndex i j < upward
   up-inside = omega arith
 
-  pub down-inside : downIndex i j < 156
+  pub down-inside : downIndex i j < channels
   down-inside = omega arith
 
   -- another client, another server
-  module _ (c k : ℕ) (client′ : c < 6) (server′ : k < 13) where
+  module _ (c k : ℕ) (client′ : c < mostClients) (server′ : k < mostServers) where
     pub up-own : upIndex i j ≡ upIndex c k → (i ≡ c) × (j ≡ k)
     up-own e = (omega arith, omega arith)
 

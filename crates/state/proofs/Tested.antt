@@ -1,42 +1,56 @@
--- What the tests of soundness stand on: a bit of a set; who is there, by places; allowed settings have at most six clients; a list
--- of tests with one that fails, and one whose last decides.
+-- What the tests of soundness stand on: a bit of a set; what the code finds of a number or of a channel; who
+-- is there, by places; allowed settings have at most six clients; the lengths.
 -- Assumes nothing.
-use mathlib.Core.Path.{_≡_, refl}
-use mathlib.Core.Bool.{Bool, true, false, not, _&&_}
-use mathlib.Core.List.{List, [], _∷_}
-use mathlib.Core.Option.{Option, none, some}
-use Prim.Native.Nat.{ℕ, zero, suc, _+_, _*_, _%_, _^_, _≤_}
+use Rattle.basics.proofs.Prelude.{_≡_, refl, Bool, true, false, not, _&&_, List, [], _∷_, Option, none, some}
+use Rattle.basics.proofs.Prelude.{length, getD, ℕ, zero, suc, _+_, _*_, _%_, _^_, _≤_, _<_, arith, ltb}
+use Rattle.basics.proofs.Prelude.{eqb-true, ne-eqb, le-leb, lt-ltb, le-ltb}
+use mathlib.Core.Bool.{and-true}
 use native.Mathlib.Nat.{mod-eq-of-lt}
-use native.Mathlib.Omega.{arith}
-use lib.Dec.{ltb}
-use lib.ListN.{getD}
 use lib.Pow.{pow-mono}
-use borrow.Author.Tests.{le-leb}
 use Rattle.basics.specs.Tests.{allPass}
 use Rattle.basics.proofs.Cases.{both, true-or-false}
-use Rattle.channel.proofs.Passing.{and-true}
+use Rattle.basics.proofs.Tests.{each}
+use Rattle.channel.specs.Memory.{slotsLength, countAt}
 use Rattle.refusal.specs.declared.Refusal.{Refusal}
-use Rattle.register.specs.Settings.{isServer, isHonest, setupRefusal}
+use Rattle.register.specs.Settings.{mostServers, mostClients, isServer, isHonest, setupRefusal}
 use Rattle.register.proofs.Bounds.{bounds}
 use Rattle.server.specs.State.{contains}
 use Rattle.state.specs.declared.Settings.{Settings}
-use Rattle.state.specs.State.{settingsOf}
-use Rattle.state.specs.Sound.{isNone, areAllowed}
+use Rattle.state.specs.State.{settingsOf, serversLength, clientsLength}
+use Rattle.state.specs.Sound.{isNone, areAllowed, lengthTests, areLong, emptyOr}
 use Rattle.state.proofs.Ranges.{and-false}
 
 -- a bit of the code does not wrap
-pub bit-is : (n : ℕ) → n ≤ 6 → 1 * 2 ^ n % 2 ^ 64 ≡ 2 ^ n
+pub bit-is : (n : ℕ) → n ≤ mostClients → 1 * 2 ^ n % 2 ^ 64 ≡ 2 ^ n
 bit-is n h =
-    let top : 2 ^ n ≤ 64 = pow-mono {i = n} {j = 6} h in
+    let top : 2 ^ n ≤ 64 = pow-mono {i = n} {j = mostClients} h in
     let e : 1 * 2 ^ n ≡ 2 ^ n = omega arith in
     rw e (mod-eq-of-lt {n = 2 ^ n} {m = 2 ^ 64} (omega arith))
 
-module _ (t : Settings) (j : ℕ) where
-  pub server-place : isServer (settingsOf t) (suc j) ≡ ltb j (3 * t .f + 1)
+-- a number m of the code that is n
+module _ {m n : ℕ} (e : m ≡ n) where
+  pub below-it : {j : ℕ} → j < m → ltb j n ≡ true
+  below-it {j} h = lt-ltb j n (omega arith)
+
+  pub not-below : {j : ℕ} → m ≤ j → ltb j n ≡ false
+  not-below {j} h = le-ltb j n (omega arith)
+
+-- channel c, whose count the code finds as n, at the place that it finds
+module _ (slots : List ℕ) {n place c : ℕ} (count : n ≡ countAt slots place) (at : place ≡ c)
+    (used : Bool) where
+  pub empty-channel : n ≡ 0 → true ≡ emptyOr used slots c
+  empty-channel h = rw (← at, ← count, h)
+
+  pub used-channel : {r : Bool} → (n ≡ 0 → ⊥) → r ≡ used → r ≡ emptyOr used slots c
+  used-channel h e = rw (← at, ← count, ne-eqb n 0 h) e
+
+module _ (settings : Settings) (j : ℕ) where
+  pub server-place : isServer (settingsOf settings) (suc j) ≡ ltb j (3 * settings .f + 1)
   unfolding isServer settingsOf
   server-place = rw (le-leb 1 (suc j) (omega arith))
 
-  pub honest-place : isHonest (settingsOf t) (suc j) ≡ ltb j (3 * t .f + 1) && not (contains (t .faulty) (suc j))
+  pub honest-place : isHonest (settingsOf settings) (suc j)
+      ≡ ltb j (3 * settings .f + 1) && not (contains (settings .faulty) (suc j))
   unfolding isHonest settingsOf
   honest-place = rw server-place
 
@@ -46,21 +60,21 @@ pub none-is : (o : Option Refusal) → isNone o ≡ true → o ≡ none
 none-is none h = refl
 none-is (some r) h = absurd (true-or-false false h refl)
 
-pub few-clients : (t : Settings) → areAllowed t ≡ true → t .clients ≤ 6
+pub few-clients : (settings : Settings) → areAllowed settings ≡ true → settings .clients ≤ mostClients
 unfolding areAllowed settingsOf
-few-clients t h =
-    let p = both (isNone (setupRefusal (settingsOf t))) (ltb (t .faulty) (2 ^ 13)) h in
-    bounds (settingsOf t) (none-is (setupRefusal (settingsOf t)) (p .0)) .sixClients
+few-clients settings h =
+    let p = both (isNone (setupRefusal (settingsOf settings))) (ltb (settings .faulty) (2 ^ mostServers)) h in
+    bounds (settingsOf settings) (none-is (setupRefusal (settingsOf settings)) (p .0)) .sixClients
 
--- ---- lists of tests
+-- ---- lengths
 
--- one that fails
-pub one-false : (bs : List Bool) (k : ℕ) → getD bs k true ≡ false → allPass bs ≡ false
-one-false [] k e = absurd (true-or-false true refl e)
-one-false (x ∷ bs) zero e = rw e
-one-false (x ∷ bs) (suc k) e = rw (one-false bs k e) (and-false x false refl)
-
--- five that pass before the last
-pub last-of-six : {a b c d e x : Bool} → a ≡ true → b ≡ true → c ≡ true → d ≡ true → e ≡ true
-    → allPass (a ∷ b ∷ c ∷ d ∷ e ∷ x ∷ []) ≡ x
-last-of-six {x = x} p q r s t = rw (p, q, r, s, t) (and-true x)
+module _ (servers clients slots : List ℕ) where
+  pub lengths : areLong servers clients slots ≡ true
+      → (length servers ≡ serversLength) × (length clients ≡ clientsLength) × (length slots ≡ slotsLength)
+  unfolding areLong
+  lengths h =
+      let p = each (lengthTests servers clients slots) h in (
+        eqb-true _ serversLength (p .0),
+        eqb-true _ clientsLength (p .1 .0),
+        eqb-true _ slotsLength (p .1 .1 .0),
+      )

@@ -1,8 +1,9 @@
 -- The state in memory, and the world that it stands for (01, 'Rehearsal').
 --
--- The settings go by value. All else stands in three lent arrays of numbers: the servers, two numbers each; the stopped clients as
--- bits, and behind them the clients, 95 numbers each; the slots of the channels. `store..` says how each part of a world stands in
--- memory, `view` which world a state stands for. All zero is the setup.
+-- The settings go by value. All else stands in three lent arrays of numbers: the servers, two numbers each;
+-- the stopped clients as bits, and behind them the clients, 95 numbers each; the slots of the channels.
+-- `store..` says how each part of a world stands in memory, `view` which world a state stands for. All zero
+-- is the setup.
 --
 -- In order: settings and steps; where each part stands; a world stored; the world of a state.
 -- Assumes nothing.
@@ -17,15 +18,15 @@ use Rattle.message.specs.declared.Message.{Message}
 use Rattle.message.specs.declared.Unpacked.{Unpacked}
 use Rattle.message.specs.declared.Words.{Words}
 use Rattle.message.specs.Layout.{messageBytes, messageOf, wordsNumber}
-use Rattle.channel.specs.Memory.{oldestOn}
+use Rattle.channel.specs.Memory.{upward, oldestOn}
 use Rattle.channel.specs.Layout.{layout}
 use Rattle.channel.specs.Sound.{messages}
 use Rattle.register.specs.declared.Step.{Step}
 use Rattle.register.specs.declared.Step.the-variants as code
 use Rattle.register.specs.Client.{newClient}
 use Rattle.register.specs.Server.{newServer}
-use Rattle.register.specs.Settings.{marks, mostClients}
-use Rattle.register.specs.Settings as settings
+use Rattle.register.specs.Settings.{mostServers, mostClients}
+use Rattle.register.specs.Settings as model
 use Rattle.register.specs.Steps as steps
 use Rattle.register.specs.World.{World}
 use Rattle.server.specs.State.{contains, setOf}
@@ -36,12 +37,13 @@ use Rattle.state.specs.declared.Settings.{Settings}
 -- ---- settings and steps
 
 -- the settings: server k is faulty where its bit is set
-unfoldable pub settingsOf : Settings → settings.Settings
-settingsOf t = record { f = t .f; clients = t .clients; faulty = contains (t .faulty) }
+unfoldable pub settingsOf : Settings → model.Settings
+settingsOf settings =
+    record { f = settings .f; clients = settings .clients; faulty = contains (settings .faulty) }
 
 -- the bytes that two words stand for: eleven, or none where the first has more than 24 bits
 unfoldable pub bytesIn : Words → List ℕ
-bytesIn w = cond (ltb (w .0) (2 ^ 24)) (bigEndian messageBytes (wordsNumber w)) []
+bytesIn words = cond (ltb (words .0) (2 ^ 24)) (bigEndian messageBytes (wordsNumber words)) []
 
 -- the step that a step of the code is
 unfoldable pub stepOf : Step → steps.Step
@@ -50,7 +52,7 @@ stepOf (code.W d e) = steps.W d e
 stepOf (code.K k d) = steps.K k d
 stepOf (code.D d k) = steps.D d k
 stepOf (code.C d) = steps.C d
-stepOf (code.L k d w) = steps.L k d (bytesIn w)
+stepOf (code.L k d words) = steps.L k d (bytesIn words)
 
 -- ---- where each part stands; places count from 0: client d is at place d - 1, server k at place k - 1
 
@@ -58,44 +60,52 @@ stepOf (code.L k d w) = steps.L k d (bytesIn w)
 abbrev pub serverStart : ℕ → ℕ
 serverStart j = j * server.words
 
+-- numbers of all servers
+abbrev pub serversLength : ℕ
+serversLength = serverStart mostServers
+
 abbrev pub serverAt : List ℕ → ℕ → List ℕ
-serverAt s j = partAt (serverStart j) server.words s
+serverAt servers j = partAt (serverStart j) server.words servers
 
 abbrev pub putServer : List ℕ → ℕ → List ℕ → List ℕ
-putServer s j m = putPart (serverStart j) server.words s m
+putServer servers j memory = putPart (serverStart j) server.words servers memory
 
 -- the stopped clients, as bits
 abbrev pub stoppedIn : List ℕ → ℕ
-stoppedIn c = getD c 0 0
+stoppedIn clients = getD clients 0 0
 
 abbrev pub putStopped : List ℕ → ℕ → List ℕ
-putStopped c z = set c 0 z
+putStopped clients stopped = set clients 0 stopped
 
 -- the memory of the client at place i
 abbrev pub clientStart : ℕ → ℕ
 clientStart i = 1 + i * client.words
 
+-- numbers of all clients, with the stopped ones
+abbrev pub clientsLength : ℕ
+clientsLength = clientStart mostClients
+
 abbrev pub clientAt : List ℕ → ℕ → List ℕ
-clientAt c i = partAt (clientStart i) client.words c
+clientAt clients i = partAt (clientStart i) client.words clients
 
 abbrev pub putClient : List ℕ → ℕ → List ℕ → List ℕ
-putClient c i m = putPart (clientStart i) client.words c m
+putClient clients i memory = putPart (clientStart i) client.words clients memory
 
 -- the channel from the client at place i to the server at place j, and the one back
 abbrev pub upIndex : ℕ → ℕ → ℕ
-upIndex i j = i * marks + j
+upIndex i j = i * mostServers + j
 
 abbrev pub downIndex : ℕ → ℕ → ℕ
-downIndex i j = mostClients * marks + upIndex i j
+downIndex i j = upward + upIndex i j
 
 -- what stands oldest on channel c
 abbrev pub messageAt : List ℕ → ℕ → Unpacked
-messageAt b c = messageOf (wordsNumber (oldestOn b c))
+messageAt slots c = messageOf (wordsNumber (oldestOn slots c))
 
 -- ---- a world stored
 
 unfoldable pub storeServers : World → List ℕ
-storeServers w = tabled (λ j. server.store (w .servers (suc j))) marks
+storeServers w = tabled (λ j. server.store (w .servers (suc j))) mostServers
 
 unfoldable pub storeStopped : World → ℕ
 storeStopped w = setOf (w .stopped) mostClients
@@ -104,11 +114,14 @@ unfoldable pub storeClients : World → List ℕ
 unfolding storeStopped
 storeClients w = storeStopped w ∷ tabled (λ i. client.store (w .clients (suc i))) mostClients
 
--- the messages of channel c
+-- the messages of channel c, of those up and those down
+abbrev pub tableAt : (ℕ → ℕ → List Message) → (ℕ → ℕ → List Message) → ℕ → List Message
+tableAt up down c =
+    cond (ltb c upward) (up (suc (c / mostServers)) (suc (c % mostServers)))
+    (down (suc ((c - upward) / mostServers)) (suc ((c - upward) % mostServers)))
+
 unfoldable pub channelOf : World → ℕ → List Message
-channelOf w c =
-    cond (ltb c (mostClients * marks)) (w .up (suc (c / marks)) (suc (c % marks)))
-    (w .down (suc ((c - mostClients * marks) / marks)) (suc ((c - mostClients * marks) % marks)))
+channelOf w c = tableAt (w .up) (w .down) c
 
 unfoldable pub storeSlots : World → List ℕ
 unfolding channelOf
@@ -122,11 +135,13 @@ isOf n d = leb 1 d && leb d n
 
 -- what stands at a place that there is, and otherwise what stands there at setup
 unfoldable pub view : List ℕ → List ℕ → List ℕ → World
-view s c b =
+view servers clients slots =
     record {
-      servers = λ k. cond (isOf marks k) (server.view (serverAt s (k - 1))) newServer;
-      clients = λ d. cond (isOf mostClients d) (client.view (clientAt c (d - 1))) newClient;
-      stopped = contains (stoppedIn c);
-      up = λ d k. cond (isOf mostClients d && isOf marks k) (messages b (upIndex (d - 1) (k - 1))) [];
-      down = λ d k. cond (isOf mostClients d && isOf marks k) (messages b (downIndex (d - 1) (k - 1))) [];
+      servers = λ k. cond (isOf mostServers k) (server.view (serverAt servers (k - 1))) newServer;
+      clients = λ d. cond (isOf mostClients d) (client.view (clientAt clients (d - 1))) newClient;
+      stopped = contains (stoppedIn clients);
+      up = λ d k. cond (isOf mostClients d && isOf mostServers k)
+          (messages slots (upIndex (d - 1) (k - 1))) [];
+      down = λ d k. cond (isOf mostClients d && isOf mostServers k)
+          (messages slots (downIndex (d - 1) (k - 1))) [];
     }

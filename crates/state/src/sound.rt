@@ -1,20 +1,23 @@
-// Whether a state is sound (01, 'Rehearsal': 'A state is sound when ..'), part by part, up to the first fault.
+// Whether a state is sound (01, 'Rehearsal': 'A state is sound when ..'), part by part, up to the first
+// fault.
 ghost use mathlib.Core.Path.{_≡_};
-ghost use mathlib.Core.Bool.{not, _||_};
 ghost use Prim.Native.Nat.{suc, _≤_, _<_, _^_};
-ghost use lib.Dec.{eqb, leb, ltb};
+ghost use lib.Dec.{ltb};
 ghost use lib.ListN.{length};
 ghost use Rattle.basics.specs.Tests.{allBelow};
-ghost use Rattle.channel.specs.Memory.{countAt};
-ghost use Rattle.register.specs.Settings.{inRange, isHonest};
-ghost use Rattle.register.specs.Thresholds.{size, counted};
+ghost use Rattle.client.specs.Memory as client;
+ghost use Rattle.register.specs.Settings.{mostServers, mostClients, inRange, isHonest};
+ghost use Rattle.register.specs.Thresholds.{counted};
 ghost use Rattle.server.specs.State.{contains};
-ghost use Rattle.state.specs.State.{settingsOf, upIndex, downIndex};
-ghost use Rattle.state.specs.Sound.{areAllowed, areLong, isServerSound, areServersSound, isClientSound, areClientsSound};
-ghost use Rattle.state.specs.Sound.{usesUp, usesDown, isLinkSound, areLinksSound, areChannelsSound, isSound};
+ghost use Rattle.state.specs.State.{settingsOf, serversLength, clientsLength, upIndex, downIndex};
+ghost use Rattle.state.specs.Sound.{areAllowed, isMarkFine, areLong, isServerSound, areServersSound};
+ghost use Rattle.state.specs.Sound.{isClientSound, areClientsSound, usesUp, usesDown, emptyOr};
+ghost use Rattle.state.specs.Sound.{isLinkSound, areLinksSound, areChannelsSound, isSound};
 use crate::CLIENTS;
+use crate::CLIENTS_LENGTH;
 use crate::Clients;
 use crate::SERVERS;
+use crate::SERVERS_LENGTH;
 use crate::STOPPED;
 use crate::Servers;
 use crate::Settings;
@@ -23,42 +26,36 @@ use crate::down;
 use crate::is_in;
 use crate::server_start;
 use crate::up;
+use channel::SLOTS_LENGTH;
 use channel::Slots;
 
 const MOST_FAULTY: u8 = 4;
 
-const MOST_CLIENTS: u8 = 6;
+const MOST_CLIENTS: u8 = CLIENTS as u8;
 
-// The first number with a mark beyond the 13.
-const OVER_MARKS: u16 = 8192;
-
-// The numbers of all servers, of all clients with the stopped ones, and of the slots.
-const ALL_SERVERS: usize = SERVERS * server::WORDS;
-
-const ALL_CLIENTS: usize = 1 + CLIENTS * client::WORDS;
-
-const ALL_SLOTS: usize = 2652;
+// The first number with a mark beyond the last server's.
+const OVER_MARKS: u16 = 1 << SERVERS;
 
 // ---- the settings
 
 // Whether the mark at place i is of a server that there is, or not set.
-fn is_mark_fine(t: Settings, i: usize) -> bool
-    requires { ⌜ i < 13 ⌝ }
-    ensures { λ r. ⌜ r ≡ (leb (suc i) (size (t .f)) || not (contains (t .faulty) (suc i))) ⌝ }
+fn is_mark_fine(settings: Settings, i: usize) -> bool
+    requires { ⌜ i < mostServers ⌝ }
+    ensures { λ r. ⌜ r ≡ isMarkFine settings i ⌝ }
 {
-    if i < register::servers(t.f) as usize {
+    if i < register::servers(settings.f) as usize {
         return true;
     }
-    !is_in(t.faulty as u64, i)
+    !is_in(settings.faulty as u64, i)
 }
 
 // Whether no server beyond n is marked.
-fn are_marks_fine(t: Settings) -> bool
-    ensures { λ r. ⌜ r ≡ allBelow (λ i. leb (suc i) (size (t .f)) || not (contains (t .faulty) (suc i))) 13 ⌝ }
+fn are_marks_fine(settings: Settings) -> bool
+    ensures { λ r. ⌜ r ≡ allBelow (isMarkFine settings) mostServers ⌝ }
 {
     let mut i = 0;
     while i < SERVERS {
-        if !is_mark_fine(t, i) {
+        if !is_mark_fine(settings, i) {
             return false;
         }
         i += 1;
@@ -67,26 +64,26 @@ fn are_marks_fine(t: Settings) -> bool
 }
 
 // Whether f and the number of clients are in range, and no server beyond n is marked.
-pub fn is_in_range(t: Settings) -> bool
-    ensures { λ r. ⌜ r ≡ inRange (settingsOf t) ⌝ }
+pub fn is_in_range(settings: Settings) -> bool
+    ensures { λ r. ⌜ r ≡ inRange (settingsOf settings) ⌝ }
 {
-    if MOST_FAULTY < t.f {
+    if MOST_FAULTY < settings.f {
         return false;
     }
-    if t.clients < 1 {
+    if settings.clients < 1 {
         return false;
     }
-    if MOST_CLIENTS < t.clients {
+    if MOST_CLIENTS < settings.clients {
         return false;
     }
-    are_marks_fine(t)
+    are_marks_fine(settings)
 }
 
 // How many servers are marked as faulty.
-pub fn count_faulty(t: Settings) -> u32
-    ensures { λ r. ⌜ r ≡ counted (contains (t .faulty)) 13 ⌝ }
+pub fn count_faulty(settings: Settings) -> u32
+    ensures { λ r. ⌜ r ≡ counted (contains (settings .faulty)) mostServers ⌝ }
 {
-    let faulty = t.faulty as u64;
+    let faulty = settings.faulty as u64;
     let mut i = 0;
     let mut n: u32 = 0;
     while i < SERVERS {
@@ -97,21 +94,21 @@ pub fn count_faulty(t: Settings) -> u32
 }
 
 // Whether the settings are allowed.
-pub fn is_allowed(t: Settings) -> bool
-    ensures { λ r. ⌜ r ≡ areAllowed t ⌝ }
+pub fn is_allowed(settings: Settings) -> bool
+    ensures { λ r. ⌜ r ≡ areAllowed settings ⌝ }
 {
-    if !is_in_range(t) {
+    if !is_in_range(settings) {
         return false;
     }
-    if (t.f as u32) < count_faulty(t) {
+    if (settings.f as u32) < count_faulty(settings) {
         return false;
     }
-    t.faulty < OVER_MARKS
+    settings.faulty < OVER_MARKS
 }
 
 // Whether a set has no member above n.
 fn is_within(set: u64, n: u8) -> bool
-    requires { ⌜ n ≤ 6 ⌝ }
+    requires { ⌜ n ≤ mostClients ⌝ }
     ensures { λ r. ⌜ r ≡ ltb set (2 ^ n) ⌝ }
 {
     set < 1 << n
@@ -120,23 +117,23 @@ fn is_within(set: u64, n: u8) -> bool
 // ---- servers
 
 // Whether the server at place j is there and honest.
-fn is_honest(t: Settings, j: usize) -> bool
-    requires { ⌜ j < 13 ⌝ }
-    ensures { λ r. ⌜ r ≡ isHonest (settingsOf t) (suc j) ⌝ }
+fn is_honest(settings: Settings, j: usize) -> bool
+    requires { ⌜ j < mostServers ⌝ }
+    ensures { λ r. ⌜ r ≡ isHonest (settingsOf settings) (suc j) ⌝ }
 {
-    if register::servers(t.f) as usize <= j {
+    if register::servers(settings.f) as usize <= j {
         return false;
     }
-    !is_in(t.faulty as u64, j)
+    !is_in(settings.faulty as u64, j)
 }
 
 // Whether the server at place j is sound: its pair, and its readers as bits.
-fn is_server_sound(t: Settings, j: usize, pair: u64, readers: u64) -> bool
-    requires { ⌜ (j < 13) × (t .clients ≤ 6) ⌝ }
-    ensures { λ r. ⌜ r ≡ isServerSound t j pair readers ⌝ }
+fn is_server_sound(settings: Settings, j: usize, pair: u64, readers: u64) -> bool
+    requires { ⌜ (j < mostServers) × (settings .clients ≤ mostClients) ⌝ }
+    ensures { λ r. ⌜ r ≡ isServerSound settings j pair readers ⌝ }
 {
-    if is_honest(t, j) {
-        return is_within(readers, t.clients);
+    if is_honest(settings, j) {
+        return is_within(readers, settings.clients);
     }
     if pair != 0 {
         return false;
@@ -144,14 +141,19 @@ fn is_server_sound(t: Settings, j: usize, pair: u64, readers: u64) -> bool
     readers == 0
 }
 
-fn are_servers_sound(t: Settings, s: &[u64]) -> bool
-    requires { ⌜ (t .clients ≤ 6) × (length (now s) ≡ 26) ⌝ }
-    ensures { λ r. ⌜ r ≡ areServersSound t (now (s .entry)) ⌝ }
+fn are_servers_sound(settings: Settings, servers: &[u64]) -> bool
+    requires { ⌜ (settings .clients ≤ mostClients) × (length (now servers) ≡ serversLength) ⌝ }
+    ensures { λ r. ⌜ r ≡ areServersSound settings (now (servers .entry)) ⌝ }
 {
     let mut j = 0;
     while j < SERVERS {
         let at = server_start(j);
-        if !is_server_sound(t, j, s[at + server::PAIR_AT], s[at + server::READERS_AT]) {
+        if !is_server_sound(
+            settings,
+            j,
+            servers[at + server::PAIR_AT],
+            servers[at + server::READERS_AT],
+        ) {
             return false;
         }
         j += 1;
@@ -162,31 +164,31 @@ fn are_servers_sound(t: Settings, s: &[u64]) -> bool
 // ---- clients
 
 // Whether the client at place i is sound; where there is none, it is as at setup.
-fn is_client_sound(t: Settings, i: usize, m: &[u64]) -> bool
-    requires { ⌜ length (now m) ≡ 95 ⌝ }
-    ensures { λ x. ⌜ x ≡ isClientSound t i (now (m .entry)) ⌝ }
+fn is_client_sound(settings: Settings, i: usize, memory: &[u64]) -> bool
+    requires { ⌜ length (now memory) ≡ client.words ⌝ }
+    ensures { λ r. ⌜ r ≡ isClientSound settings i (now (memory .entry)) ⌝ }
 {
-    if !client::is_sound(t.f, m) {
+    if !client::is_sound(settings.f, memory) {
         return false;
     }
-    if i < t.clients as usize {
+    if i < settings.clients as usize {
         return true;
     }
-    if m[client::READS] != 0 {
+    if memory[client::READS] != 0 {
         return false;
     }
-    m[client::PHASE] == 0
+    memory[client::PHASE] == 0
 }
 
-fn are_clients_sound(t: Settings, c: &[u64]) -> bool
-    requires { ⌜ length (now c) ≡ 571 ⌝ }
-    ensures { λ x. ⌜ x ≡ areClientsSound t (now (c .entry)) ⌝ }
+fn are_clients_sound(settings: Settings, clients: &[u64]) -> bool
+    requires { ⌜ length (now clients) ≡ clientsLength ⌝ }
+    ensures { λ r. ⌜ r ≡ areClientsSound settings (now (clients .entry)) ⌝ }
 {
     let mut i = 0;
     while i < CLIENTS {
         let at = client_start(i);
         let end = at + client::WORDS;
-        if !is_client_sound(t, i, &c[at..end]) {
+        if !is_client_sound(settings, i, &clients[at..end]) {
             return false;
         }
         i += 1;
@@ -197,67 +199,67 @@ fn are_clients_sound(t: Settings, c: &[u64]) -> bool
 // ---- channels
 
 // Whether the channel from a client to a server is used, and the one back.
-fn is_used_up(t: Settings, i: usize, j: usize) -> bool
-    requires { ⌜ (i < 6) × (j < 13) ⌝ }
-    ensures { λ r. ⌜ r ≡ usesUp t i j ⌝ }
+fn is_used_up(settings: Settings, i: usize, j: usize) -> bool
+    requires { ⌜ (i < mostClients) × (j < mostServers) ⌝ }
+    ensures { λ r. ⌜ r ≡ usesUp settings i j ⌝ }
 {
-    if t.clients as usize <= i {
+    if settings.clients as usize <= i {
         return false;
     }
-    is_honest(t, j)
+    is_honest(settings, j)
 }
 
-fn is_used_down(t: Settings, stopped: u64, i: usize, j: usize) -> bool
-    requires { ⌜ (i < 6) × (j < 13) ⌝ }
-    ensures { λ r. ⌜ r ≡ usesDown t stopped i j ⌝ }
+fn is_used_down(settings: Settings, stopped: u64, i: usize, j: usize) -> bool
+    requires { ⌜ (i < mostClients) × (j < mostServers) ⌝ }
+    ensures { λ r. ⌜ r ≡ usesDown settings stopped i j ⌝ }
 {
-    if t.clients as usize <= i {
+    if settings.clients as usize <= i {
         return false;
     }
-    if register::servers(t.f) as usize <= j {
+    if register::servers(settings.f) as usize <= j {
         return false;
     }
     !is_in(stopped, i)
 }
 
 // Whether the channel from a client to a server is empty or used, and the one back.
-fn is_up_sound(t: Settings, b: &Slots, i: usize, j: usize) -> bool
-    requires { ⌜ (i < 6) × (j < 13) ⌝ }
-    ensures { λ r. ⌜ r ≡ (eqb (countAt (now (b .entry)) (upIndex i j)) 0 || usesUp t i j) ⌝ }
+fn is_up_sound(settings: Settings, slots: &Slots, i: usize, j: usize) -> bool
+    requires { ⌜ (i < mostClients) × (j < mostServers) ⌝ }
+    ensures { λ r. ⌜ r ≡ emptyOr (usesUp settings i j) (now (slots .entry)) (upIndex i j) ⌝ }
 {
-    if channel::count(b, up(i, j)) == 0 {
+    if channel::count(slots, up(i, j)) == 0 {
         return true;
     }
-    is_used_up(t, i, j)
+    is_used_up(settings, i, j)
 }
 
-fn is_down_sound(t: Settings, stopped: u64, b: &Slots, i: usize, j: usize) -> bool
-    requires { ⌜ (i < 6) × (j < 13) ⌝ }
-    ensures { λ r. ⌜ r ≡ (eqb (countAt (now (b .entry)) (downIndex i j)) 0 || usesDown t stopped i j) ⌝ }
+fn is_down_sound(settings: Settings, stopped: u64, slots: &Slots, i: usize, j: usize) -> bool
+    requires { ⌜ (i < mostClients) × (j < mostServers) ⌝ }
+    ensures { λ r. ⌜ r ≡ emptyOr (usesDown settings stopped i j) (now (slots .entry)) (downIndex i j) ⌝ }
 {
-    if channel::count(b, down(i, j)) == 0 {
+    if channel::count(slots, down(i, j)) == 0 {
         return true;
     }
-    is_used_down(t, stopped, i, j)
+    is_used_down(settings, stopped, i, j)
 }
 
-fn is_link_sound(t: Settings, stopped: u64, b: &Slots, i: usize, j: usize) -> bool
-    requires { ⌜ (i < 6) × (j < 13) ⌝ }
-    ensures { λ r. ⌜ r ≡ isLinkSound t stopped (now (b .entry)) i j ⌝ }
+fn is_link_sound(settings: Settings, stopped: u64, slots: &Slots, i: usize, j: usize) -> bool
+    requires { ⌜ (i < mostClients) × (j < mostServers) ⌝ }
+    ensures { λ r. ⌜ r ≡ isLinkSound settings stopped (now (slots .entry)) i j ⌝ }
 {
-    if !is_up_sound(t, b, i, j) {
+    if !is_up_sound(settings, slots, i, j) {
         return false;
     }
-    is_down_sound(t, stopped, b, i, j)
+    is_down_sound(settings, stopped, slots, i, j)
 }
 
-fn are_links_sound(t: Settings, stopped: u64, b: &Slots, i: usize) -> bool
-    requires { ⌜ i < 6 ⌝ }
-    ensures { λ r. ⌜ r ≡ areLinksSound t stopped (now (b .entry)) i ⌝ }
+fn are_links_sound(settings: Settings, stopped: u64, slots: &Slots, i: usize) -> bool
+    requires { ⌜ i < mostClients ⌝ }
+    ensures { λ r. ⌜ r ≡ areLinksSound settings stopped (now (slots .entry)) i ⌝ }
 {
     let mut j = 0;
     while j < SERVERS {
-        if !is_link_sound(t, stopped, b, i, j) {
+        if !is_link_sound(settings, stopped, slots, i, j) {
             return false;
         }
         j += 1;
@@ -265,53 +267,54 @@ fn are_links_sound(t: Settings, stopped: u64, b: &Slots, i: usize) -> bool
     true
 }
 
-fn are_channels_sound(t: Settings, stopped: u64, b: &Slots) -> bool
-    ensures { λ r. ⌜ r ≡ areChannelsSound t stopped (now (b .entry)) ⌝ }
+fn are_channels_sound(settings: Settings, stopped: u64, slots: &Slots) -> bool
+    ensures { λ r. ⌜ r ≡ areChannelsSound settings stopped (now (slots .entry)) ⌝ }
 {
     let mut i = 0;
     while i < CLIENTS {
-        if !are_links_sound(t, stopped, b, i) {
+        if !are_links_sound(settings, stopped, slots, i) {
             return false;
         }
         i += 1;
     }
-    channel::is_sound(b)
+    channel::is_sound(slots)
 }
 
 // ---- a state
 
 // Whether the lent memory has its length.
-fn is_long(s: &[u64], c: &[u64], b: &[u64]) -> bool
-    ensures { λ x. ⌜ x ≡ areLong (now (s .entry)) (now (c .entry)) (now (b .entry)) ⌝ }
+fn is_long(servers: &[u64], clients: &[u64], slots: &[u64]) -> bool
+    ensures { λ r. ⌜ r ≡ areLong (now (servers .entry)) (now (clients .entry)) (now (slots .entry)) ⌝ }
 {
-    if s.len() != ALL_SERVERS {
+    if servers.len() != SERVERS_LENGTH {
         return false;
     }
-    if c.len() != ALL_CLIENTS {
+    if clients.len() != CLIENTS_LENGTH {
         return false;
     }
-    b.len() == ALL_SLOTS
+    slots.len() == SLOTS_LENGTH
 }
 
 // Whether a state is sound: its settings, servers, clients and slots.
-pub fn is_sound(t: Settings, s: &Servers, c: &Clients, b: &Slots) -> bool
-    ensures { λ x. ⌜ x ≡ isSound t (now (s .entry)) (now (c .entry)) (now (b .entry)) ⌝ }
+pub fn is_sound(settings: Settings, servers: &Servers, clients: &Clients, slots: &Slots) -> bool
+    ensures { λ r.
+        ⌜ r ≡ isSound settings (now (servers .entry)) (now (clients .entry)) (now (slots .entry)) ⌝ }
 {
-    if !is_allowed(t) {
+    if !is_allowed(settings) {
         return false;
     }
-    if !is_long(s, c, b) {
+    if !is_long(servers, clients, slots) {
         return false;
     }
-    let stopped = c[STOPPED];
-    if !is_within(stopped, t.clients) {
+    let stopped = clients[STOPPED];
+    if !is_within(stopped, settings.clients) {
         return false;
     }
-    if !are_servers_sound(t, s) {
+    if !are_servers_sound(settings, servers) {
         return false;
     }
-    if !are_clients_sound(t, c) {
+    if !are_clients_sound(settings, clients) {
         return false;
     }
-    are_channels_sound(t, stopped, b)
+    are_channels_sound(settings, stopped, slots)
 }

@@ -1,16 +1,12 @@
 -- The channels to a client emptied, server after server: the slots of the table that is empty there.
 -- Assumes nothing.
-use mathlib.Core.Path.{_≡_, refl, sym, ap, _∙_}
-use mathlib.Core.Bool.{Bool, true, false, cond, _&&_, _||_}
-use mathlib.Core.List.{List, []}
-use Prim.Native.Nat.{ℕ, zero, suc, _-_, _≤_}
-use native.Mathlib.Omega.{arith}
-use lib.Dec.{eqb}
+use Rattle.basics.proofs.Prelude.{_≡_, refl, sym, ap, _∙_, Bool, true, false, cond, _&&_, _||_, List, [], ℕ}
+use Rattle.basics.proofs.Prelude.{zero, suc, _-_, _≤_, arith, eqb}
 use Rattle.basics.proofs.Cases.{by-test}
 use Rattle.message.specs.declared.Message.{Message}
 use Rattle.channel.specs.Memory.{cleared}
 use Rattle.state.specs.State.{isOf, downIndex}
-use Rattle.steps.specs.Inner.{emptied}
+use Rattle.steps.specs.InMemory.{emptied}
 use Rattle.state.proofs.Channels.{Table, slotsOf, slots-same, changed, Short, down-clear}
 use Rattle.state.proofs.Ranges.{range-none, range-more}
 
@@ -20,10 +16,12 @@ without d n t e k = cond (eqb d e && isOf n k) [] (t e k)
 
 short-without : (d n : ℕ) (t : Table) → Short t → Short (without d n t)
 unfolding without
-short-without d n t short e k = by-test (eqb d e && isOf n k) (λ c. rw c (omega arith)) (λ c. rw c (short e k))
+short-without d n t short e k = by-test (eqb d e && isOf n k) (λ c. rw c (omega arith))
+    (λ c. rw c (short e k))
 
 -- one channel, by cases on the tests: a, it is the client's; b, it is the next server's; c, one before
-one-more : (a b c : Bool) (l : List Message) → cond (b && a) [] (cond (a && c) [] l) ≡ cond (a && (b || c)) [] l
+one-more : (a b c : Bool) (l : List Message)
+    → cond (b && a) [] (cond (a && c) [] l) ≡ cond (a && (b || c)) [] l
 one-more a false c l = refl
 one-more false true c l = refl
 one-more true true c l = refl

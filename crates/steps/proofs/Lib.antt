@@ -8,14 +8,14 @@ pub mod Serves
 pub mod Takes
 pub mod Stops
 pub mod Lies
-pub mod InnerIsModel
+pub mod MemoryIsModel
 pub mod Named
 pub mod Lent
 pub mod ReplyLengths
 pub mod Fitting
 pub mod Spare
+pub mod Ways
 pub mod SendLaws
-pub mod Starting
 pub mod Serving
 pub mod Receiving
 pub mod Stopping

@@ -1,8 +1,6 @@
 -- The clients and servers that a step may name have numbers from 1 to as many as the settings say.
 -- Assumes nothing.
-use mathlib.Core.Path.{_≡_}
-use mathlib.Core.Bool.{true, _&&_}
-use Prim.Native.Nat.{ℕ, _≤_}
+use Rattle.basics.proofs.Prelude.{_≡_, true, _&&_, ℕ, _≤_}
 use Rattle.basics.proofs.Cases.{both}
 use Rattle.register.specs.Settings.{isClient, isServer}
 use Rattle.register.specs.Thresholds.{size}
@@ -18,7 +16,8 @@ pub record There (t : Settings) (d k : ℕ) : Type 0 where
   pub client : (1 ≤ d) × (d ≤ t .clients)
   pub server : (1 ≤ k) × (k ≤ size (t .f))
 
-pub both-there : (t : Settings) (d k : ℕ) → isClient (settingsOf t) d && isServer (settingsOf t) k ≡ true → There t d k
+pub both-there : (t : Settings) (d k : ℕ) → isClient (settingsOf t) d && isServer (settingsOf t) k ≡ true
+    → There t d k
 unfolding settingsOf
 both-there t d k e =
     let p = both (isClient (settingsOf t) d) (isServer (settingsOf t) k) e in

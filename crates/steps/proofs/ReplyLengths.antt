@@ -1,12 +1,8 @@
--- How many messages a server's reply puts on one channel: one for a reader that it forwards to, one for the sender.
+-- How many messages a server's reply puts on one channel: one for a reader that it forwards to, one for the
+-- sender.
 -- Assumes nothing.
-use mathlib.Core.Path.{_≡_, refl}
-use mathlib.Core.Bool.{Bool, true, false, cond}
-use mathlib.Core.List.{[], _∷_, _++_}
-use Prim.Native.Nat.{ℕ, suc, _+_, _≤_, _<_}
-use native.Mathlib.Omega.{arith}
-use lib.Dec.{eqb}
-use lib.ListN.{length}
+use Rattle.basics.proofs.Prelude.{_≡_, refl, Bool, true, false, cond, [], _∷_, _++_, length, ℕ, suc, _+_, _≤_}
+use Rattle.basics.proofs.Prelude.{_<_, arith, eqb}
 use mir.Val.{boolByte}
 use Rattle.message.specs.declared.Message.{Message}
 use Rattle.message.specs.declared.Message.the-variants.{GetInfo, WriteInfo}
@@ -16,7 +12,7 @@ use Rattle.register.specs.Server.{Server, serverSends, sentTo}
 use Rattle.register.proofs.Sends.{direct, sent-direct}
 use Rattle.server.specs.declared.Sends.the-variants as sends
 use Rattle.server.specs.State.{contains}
-use Rattle.server.specs.Taking.{sentBy}
+use Rattle.server.specs.Serving.{sentBy}
 
 pub byte-le : (t : Bool) → boolByte t ≤ 1
 byte-le true = omega arith
@@ -47,11 +43,12 @@ pub forward-length : (d i set : ℕ) (p : Pair) → i < 6
 unfolding sentBy serverSends direct
 forward-length d i set p h =
     let s : Server = record { pair = p; readers = contains set } in
-    let e : sentTo (suc i) (serverSends s d (WriteInfo p)) ≡ direct s d (WriteInfo p) (suc i) = sent-direct s d
-    (WriteInfo p) (suc i) (omega arith) (omega arith) in
+    let e : sentTo (suc i) (serverSends s d (WriteInfo p)) ≡ direct s d (WriteInfo p) (suc i) =
+    sent-direct s d (WriteInfo p) (suc i) (omega arith) (omega arith) in
     rw e (sum (contains set (suc i)) (eqb d (suc i)) _ _)
   where
-    sum : (a b : Bool) (m n : Message) → boolByte a + boolByte b ≡ length (cond a (m ∷ []) [] ++ cond b (n ∷ []) [])
+    sum : (a b : Bool) (m n : Message)
+        → boolByte a + boolByte b ≡ length (cond a (m ∷ []) [] ++ cond b (n ∷ []) [])
     sum true true m n = refl
     sum true false m n = refl
     sum false true m n = refl

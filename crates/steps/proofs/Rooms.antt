@@ -3,14 +3,10 @@
 -- The counts are the lengths of the world's channels; a server among 1 to n that is not honest is faulty.
 -- In order: what is known of a stored world; room up; room down.
 -- Assumes nothing.
-use mathlib.Core.Path.{_≡_, refl, sym, ap, _∙_}
-use mathlib.Core.Bool.{Bool, true, false, not, _||_}
-use mathlib.Core.List.{List, [], _∷_}
-use Prim.Native.Nat.{ℕ, zero, suc, _+_, _-_, _≤_, _<_}
-use native.Mathlib.Omega.{arith}
-use lib.Dec.{eqb, leb, eqb·suc-zero}
-use lib.ListN.{length}
-use borrow.Author.Tests.{le-leb}
+use Rattle.basics.proofs.Prelude.{_≡_, refl, sym, ap, _∙_, Bool, true, false, not, _||_, List, [], _∷_}
+use Rattle.basics.proofs.Prelude.{length, ℕ, zero, suc, _+_, _-_, _≤_, _<_, arith, eqb, leb, le-leb}
+use mathlib.Core.Bool.{Bool·not-not}
+use lib.Dec.{eqb·suc-zero}
 use Rattle.basics.specs.Tests.{allBelow}
 use Rattle.basics.proofs.Cases.{by-test, both-of, true-or-false}
 use Rattle.message.specs.declared.Message.{Message}
@@ -29,7 +25,7 @@ use Rattle.state.specs.declared.Settings.{Settings}
 use Rattle.register.specs.Formats.{formats}
 use Rattle.register.specs.WellFormed.{FromClient, WellFormed}
 use Rattle.state.specs.State.{settingsOf, upIndex, downIndex, storeStopped, storeSlots}
-use Rattle.steps.specs.Inner.{roomUp, roomDown}
+use Rattle.steps.specs.InMemory.{roomUp, roomDown}
 use Rattle.state.proofs.Channels.{Short, Inside, store-slots, up-count, down-count}
 use Rattle.state.proofs.Ranges.{in-range}
 use Rattle.steps.proofs.SendingUp.{Room}
@@ -46,31 +42,34 @@ unfolding allBelow
 below-same p q zero h = refl
 below-same p q (suc n) h = rw (below-same p q n (λ i less. h i (omega arith)), h n (omega arith))
 
-not-not : (b : Bool) → not (not b) ≡ b
-not-not true = refl
-not-not false = refl
+-- a well-formed world under settings that are accepted
+pub record WellStored (t : Settings) (w : World) : Type 0 where
+  pub accepted : Accepted (settingsOf t)
+  pub well : WellFormed (settingsOf t) formats w
 
-module _ (t : Settings) (accepted : Accepted (settingsOf t)) (w : World) (well : WellFormed (settingsOf t) formats w) where
+module _ (t : Settings) (w : World) (good : WellStored t w) where
   -- ---- a stored world
 
   pub few-servers : size (t .f) ≤ 13
   unfolding settingsOf
-  few-servers = let b = bounds (settingsOf t) accepted in let f = b .few in omega arith
+  few-servers = let b = bounds (settingsOf t) (good .accepted) in let f = b .few in omega arith
 
   pub up-short : Short (w .up)
-  up-short d k = well .up d k .few
+  up-short d k = good .well .up d k .few
 
   pub down-short : Short (w .down)
-  down-short d k = well .down d k .few
+  down-short d k = good .well .down d k .few
 
   pub stopped-same : (d : ℕ) → contains (storeStopped w) d ≡ w .stopped d
-  stopped-same d = ap (λ (f : ℕ → Bool). f d) (stopped-is (settingsOf t) accepted formats w well)
+  stopped-same d = ap (λ (f : ℕ → Bool). f d)
+      (stopped-is (settingsOf t) (good .accepted) formats w (good .well))
 
-  module _ (d k : ℕ) (client : isClient (settingsOf t) d ≡ true) (server : isServer (settingsOf t) k ≡ true) where
+  module _ (d k : ℕ) (client : isClient (settingsOf t) d ≡ true)
+      (server : isServer (settingsOf t) k ≡ true) where
     pub inside : Inside d k
     unfolding settingsOf
     inside =
-        let c = client-small (settingsOf t) accepted d client in
+        let c = client-small (settingsOf t) (good .accepted) d client in
         let s = server-range (settingsOf t) k server in
         let few = few-servers in
         record { low = c .0; high = c .1; first = s .0; last = omega arith }
@@ -90,12 +89,14 @@ module _ (t : Settings) (accepted : Accepted (settingsOf t)) (w : World) (well :
     unfolding settingsOf isHonest hasRoom
     one-up more i less =
         let e : suc i - 1 ≡ i = omega arith in
-        let server : isServer (settingsOf t) (suc i) ≡ true = server-of (settingsOf t) (suc i) (omega arith) less in
+        let server : isServer (settingsOf t) (suc i) ≡ true = server-of (settingsOf t) (suc i)
+        (omega arith) less in
         let count : countAt (storeSlots w) (upIndex (d - 1) i) ≡ length (w .up d (suc i)) =
         rw e at (count-up d (suc i) client server) in
-        rw (count, server, not-not (contains (t .faulty) (suc i)))
+        rw (count, server, Bool·not-not (contains (t .faulty) (suc i)))
 
-    pub room-up-is : (more : ℕ) → roomUp t (storeSlots w) (d - 1) more ≡ model.roomUp (settingsOf t) formats w d more
+    pub room-up-is : (more : ℕ)
+        → roomUp t (storeSlots w) (d - 1) more ≡ model.roomUp (settingsOf t) formats w d more
     unfolding roomUp model.roomUp settingsOf
     room-up-is more = below-same _ _ (size (t .f)) (one-up more)
 
@@ -120,7 +121,8 @@ module _ (t : Settings) (accepted : Accepted (settingsOf t)) (w : World) (well :
     one-down xs i less =
         let e : suc i - 1 ≡ i = omega arith in
         let client : isClient (settingsOf t) (suc i) ≡ true =
-        both-of (leb 1 (suc i)) (leb (suc i) (t .clients)) (le-leb 1 (suc i) (omega arith)) (le-leb (suc i) (t .clients) less) in
+        both-of (leb 1 (suc i)) (leb (suc i) (t .clients)) (le-leb 1 (suc i) (omega arith))
+        (le-leb (suc i) (t .clients) less) in
         let count : countAt (storeSlots w) (downIndex i (k - 1)) ≡ length (w .down (suc i) k) =
         rw e at (count-down (suc i) k client server) in
         rw (count, stopped-same (suc i))
@@ -138,10 +140,10 @@ module _ (t : Settings) (accepted : Accepted (settingsOf t)) (w : World) (well :
     down-room d m client kind room e works =
         by-test (isClient (settingsOf t) e)
         (λ c. room-down (settingsOf t) formats w k d m room e c (sym (stopped-same e) ∙ works))
-        (λ c. let none : w .down e k ≡ [] = well .downUnused e k (rw c refl) in
+        (λ c. let none : w .down e k ≡ [] = good .well .downUnused e k (rw c refl) in
         let unsent : sentTo e (serverSends (w .servers k) d m) ≡ [] =
         none-there e (serverSends (w .servers k) d m)
         (λ x h to. true-or-false (isClient (settingsOf t) e)
         (ap (isClient (settingsOf t)) (sym to)
-        ∙ well-sends (settingsOf t) (w .servers k) d client (well .server k) m kind x h .client) c) in
+        ∙ well-sends (settingsOf t) (w .servers k) d client (good .well .server k) m kind x h .client) c) in
         rw (none, unsent) (omega arith))

@@ -1,32 +1,28 @@
--- Messages of a server, each to its client: the slots of the tables in which every working client's channel has its messages
--- last.
+-- Messages of a server, each to its client: the slots of the tables in which every working client's channel
+-- has its messages last.
 --
 -- They go one after the other (`send-down`), in room that the ladders have tested.
 -- Assumes nothing.
-use mathlib.Core.Path.{_≡_, refl, _∙_}
-use mathlib.Core.Bool.{Bool, true, false, cond, _&&_}
-use mathlib.Core.Logic.{inl, inr}
-use mathlib.Core.List.{List, [], _∷_, _++_}
-use Prim.Native.Nat.{ℕ, suc, _+_, _-_, _≤_}
-use native.Mathlib.Omega.{arith}
-use lib.Dec.{eqb}
-use lib.ListN.{length, length-append}
+use Rattle.basics.proofs.Prelude.{_≡_, refl, _∙_, Bool, true, false, cond, _&&_, inl, inr, List, [], _∷_}
+use Rattle.basics.proofs.Prelude.{_++_, length, length-append, ℕ, suc, _+_, _-_, _≤_, arith, eqb, eqb-true}
+use Rattle.basics.proofs.Prelude.{eq-eqb}
 use lib.Seq.{append-snoc}
-use borrow.Author.Tests.{eqb-true, eq-eqb}
 use Rattle.basics.specs.Members.{Member}
 use Rattle.basics.proofs.Cases.{by-test}
 use Rattle.message.specs.declared.Message.{Message}
 use Rattle.register.specs.Server.{Sent, sentTo}
 use Rattle.server.specs.State.{contains}
-use Rattle.steps.specs.Inner.{sendOne, sendDown}
-use Rattle.state.proofs.Channels.{Table, slotsOf, slots-same, changed, Short, short-changed, Inside, down-put}
+use Rattle.steps.specs.InMemory.{sendOne, sendDown}
+use Rattle.state.proofs.Channels.{Table, slotsOf, slots-same, changed, Short, short-changed, Inside}
+use Rattle.state.proofs.Channels.{down-put}
 use Rattle.steps.proofs.SendingUp.{none-sent}
 
 -- what is sent of server k, behind the messages to each client that works
 unfoldable pub sentDown : (ℕ → Bool) → ℕ → List Sent → Table → Table
 sentDown stopped k xs n e j = n e j ++ cond (stopped e) [] (cond (eqb k j) (sentTo e xs) [])
 
--- ---- one channel, by cases on the tests: a, it is the message's client; c, it is the server's; s, the client has stopped
+-- ---- one channel, by cases on the tests: a, it is the message's client; c, it is the server's; s, the
+-- client has stopped
 
 skipped : (a c s : Bool) (l : List Message) (m : Message) (rest : List Message) → (a ≡ true → s ≡ true)
     → l ++ cond s [] (cond c rest []) ≡ l ++ cond s [] (cond c (cond a (m ∷ rest) rest) [])
@@ -35,7 +31,8 @@ skipped true c s l m rest h = rw (h refl)
 
 added : (a c s : Bool) (l x : List Message) (m : Message) (rest : List Message) → (a ≡ true → s ≡ false)
     → (a ≡ true → c ≡ true → x ≡ l)
-    → cond (c && a) (x ++ m ∷ []) l ++ cond s [] (cond c rest []) ≡ l ++ cond s [] (cond c (cond a (m ∷ rest) rest) [])
+    → cond (c && a) (x ++ m ∷ []) l ++ cond s [] (cond c rest [])
+    ≡ l ++ cond s [] (cond c (cond a (m ∷ rest) rest) [])
 added a false s l x m rest h g = refl
 added false true s l x m rest h g = refl
 added true true s l x m rest h g = rw (h refl, g refl refl) (append-snoc l m rest)
@@ -69,7 +66,8 @@ module _ (z k : ℕ) (first : 1 ≤ k) (last : k ≤ 13) (u : Table) (hu : Short
       (λ s. let r : length (n c k) + suc (length (sentTo c xs)) ≤ 8 = rw (eq-eqb c c refl) at (room c s) in
       let more : length (n c k ++ m ∷ []) ≤ 8 = rw (length-append (n c k) (m ∷ [])) (omega arith) in
       let n′ : Table = changed n c k (n c k ++ m ∷ []) in
-      let inside : Inside c k = record { low = to x (inl refl) .0; high = to x (inl refl) .1; first = first; last = last } in
+      let own = to x (inl refl) in
+      let inside : Inside c k = record { low = own .0; high = own .1; first = first; last = last } in
       let put = down-put u n c k inside hu hn m (omega arith) in
       let rest : Room xs n′ =
       λ e w. (let r′ = room e w in

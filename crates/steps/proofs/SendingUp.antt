@@ -1,17 +1,13 @@
--- Messages of a client on its channels: the slots of the tables in which every channel to an honest server has them last.
+-- Messages of a client on its channels: the slots of the tables in which every channel to an honest server
+-- has them last.
 --
--- One message goes to server after server (`broadcast-law`), and messages go one after the other (`send-up`), in room that the
--- ladders have tested: on a full channel nothing would be put.
+-- One message goes to server after server (`broadcast-law`), and messages go one after the other (`send-up`),
+-- in room that the ladders have tested: on a full channel nothing would be put.
 -- Assumes nothing.
-use mathlib.Core.Path.{_≡_, refl, sym, ap, _∙_}
-use mathlib.Core.Bool.{Bool, true, false, cond, _&&_, _||_}
-use mathlib.Core.List.{List, [], _∷_, _++_, append-nil}
-use Prim.Native.Nat.{ℕ, zero, suc, _+_, _-_, _≤_, _<_}
-use native.Mathlib.Omega.{arith}
-use lib.Dec.{eqb}
-use lib.ListN.{length, length-append}
+use Rattle.basics.proofs.Prelude.{_≡_, refl, sym, ap, _∙_, Bool, true, false, cond, _&&_, _||_, List, [], _∷_}
+use Rattle.basics.proofs.Prelude.{_++_, append-nil, length, length-append, ℕ, zero, suc, _+_, _-_, _≤_, _<_}
+use Rattle.basics.proofs.Prelude.{arith, eqb, eqb-true, eq-eqb}
 use lib.Seq.{append-snoc}
-use borrow.Author.Tests.{eqb-true, eq-eqb}
 use Rattle.basics.proofs.Cases.{by-test, both}
 use Rattle.message.specs.declared.Message.{Message}
 use Rattle.message.specs.Layout.{wordsOf}
@@ -21,7 +17,7 @@ use Rattle.register.proofs.Dropping.{nothing-put}
 use Rattle.server.specs.State.{contains}
 use Rattle.state.specs.declared.Settings.{Settings}
 use Rattle.state.specs.State.{isOf, upIndex}
-use Rattle.steps.specs.Inner.{broadcast, sendUp}
+use Rattle.steps.specs.InMemory.{broadcast, sendUp}
 use Rattle.state.proofs.Channels.{Table, slotsOf, slots-same, changed, Short, up-put}
 use Rattle.state.proofs.Ranges.{in-range, of-range, range-none, range-more}
 
@@ -29,7 +25,8 @@ use Rattle.state.proofs.Ranges.{in-range, of-range, range-none, range-more}
 unfoldable pub sentUp : (ℕ → Bool) → ℕ → ℕ → List Message → Table → Table
 sentUp faulty d n ms u e k = u e k ++ cond (faulty k) [] (cond (eqb d e && isOf n k) ms [])
 
--- ---- one channel, by cases on the tests: a, it is the client's; b, it goes to the next server; c, to one before; f, it drops
+-- ---- one channel, by cases on the tests: a, it is the client's; b, it goes to the next server; c, to one
+-- before; f, it drops
 
 added : (a b c f : Bool) (l x : List Message) (m : Message) → (a ≡ true → b ≡ true → (f ≡ false) × (x ≡ l))
     → cond (b && a) (x ++ m ∷ []) (l ++ cond f [] (cond (a && c) (m ∷ []) []))
@@ -68,7 +65,8 @@ short-sent faulty d n ms u short room e k =
     rw (f, c, length-append (u e k) ms) r)
     (λ c. rw (f, c, append-nil (u e k)) (short e k)))
 
-none-there : (f a c : Bool) (l : List Message) (m : Message) → c ≡ false → l ≡ l ++ cond f [] (cond (a && c) (m ∷ []) [])
+none-there : (f a c : Bool) (l : List Message) (m : Message) → c ≡ false
+    → l ≡ l ++ cond f [] (cond (a && c) (m ∷ []) [])
 none-there f true c l m h = rw h (sym (nothing-put f l))
 none-there f false c l m h = sym (nothing-put f l)
 
@@ -85,7 +83,8 @@ module _ (faulty d : ℕ) (low : 1 ≤ d) (high : d ≤ 6) (n : Table) (hn : Sho
 
       not-yet : isOf j (suc j) ≡ false
       not-yet =
-          by-test (isOf j (suc j)) (λ h. let r = in-range j (suc j) h in let z : ⊥ = omega arith in absurd z) (λ h. h)
+          by-test (isOf j (suc j)) (λ h. let r = in-range j (suc j) h in let z : ⊥ = omega arith in absurd z)
+          (λ h. h)
 
       same : to j d (suc j) ≡ u d (suc j)
       unfolding to sentUp
@@ -113,11 +112,13 @@ module _ (faulty d : ℕ) (low : 1 ≤ d) (high : d ≤ 6) (n : Table) (hn : Sho
           let e : suc j - 1 ≡ j = omega arith in
           let less : length (to j d (suc j)) < 8 = rw same (let r = room (suc j) here f in omega arith) in
           ap (λ (i : ℕ). putOn (slotsOf (to j) n) (upIndex (d - 1) i) (wordsOf m)) (sym e)
-          ∙ up-put (to j) n d (suc j) (record { low = low; high = high; first = omega arith; last = top }) short-so-far hn m less
+          ∙ up-put (to j) n d (suc j) (record { low = low; high = high; first = omega arith; last = top })
+          short-so-far hn m less
           ∙ slots-same (changed (to j) d (suc j) (to j d (suc j) ++ m ∷ [])) (to (suc j)) n n
           (λ e k. rw (range-more j k)
           (added (eqb d e) (eqb (suc j) k) (isOf j k) (contains faulty k) (u e k) (to j d (suc j)) m
-          (λ a b. let p = eqb-true d e a in let q = eqb-true (suc j) k b in (rw (← q) f, rw (← p, ← q) same))))
+          (λ a b. let p = eqb-true d e a in let q = eqb-true (suc j) k b in
+          (rw (← q) f, rw (← p, ← q) same))))
           (λ e k. refl)
 
     pub broadcast-law : (j : ℕ) → j ≤ 13 → Room faulty d j 1 u
@@ -134,7 +135,8 @@ module _ (faulty d : ℕ) (low : 1 ≤ d) (high : d ≤ 6) (n : Table) (hn : Sho
         (λ f. rw (f, earlier) (put j top room f))
 
 -- messages one after the other
-module _ (t : Settings) (d : ℕ) (low : 1 ≤ d) (high : d ≤ 6) (few : size (t .f) ≤ 13) (n : Table) (hn : Short n) where
+module _ (t : Settings) (d : ℕ) (low : 1 ≤ d) (high : d ≤ 6) (few : size (t .f) ≤ 13) (n : Table)
+    (hn : Short n) where
   pub send-up : (ms : List Message) (u : Table) → Short u → Room (t .faulty) d (size (t .f)) (length ms) u
       → sendUp t (slotsOf u n) (d - 1) ms ≡ slotsOf (sentUp (contains (t .faulty)) d (size (t .f)) ms u) n
   unfolding sendUp sentUp

@@ -1,17 +1,14 @@
--- Where channels to servers that are faulty or not there hold no message, all 13 counts of a client tell whether it has room.
+-- Where channels to servers that are faulty or not there hold no message, all 13 counts of a client tell
+-- whether it has room.
 --
--- An empty channel has room for 8 messages, so the test passes on a channel to a faulty server, which is not asked for room, and on
--- those beyond the n servers.
+-- An empty channel has room for 8 messages, so the test passes on a channel to a faulty server, which is not
+-- asked for room, and on those beyond the n servers.
 -- In order: who is not honest; a test that passes from n on; the channels of a client.
 -- Assumes nothing.
-use mathlib.Core.Path.{_≡_, refl, sym, ap, _∙_}
-use mathlib.Core.Bool.{Bool, true, false, not, _&&_, _||_}
-use mathlib.Core.List.{List}
-use Prim.Native.Nat.{ℕ, zero, suc, _+_, _-_, _≤_, _<_}
+use Rattle.basics.proofs.Prelude.{_≡_, refl, sym, ap, _∙_, Bool, true, false, not, _||_, List, ℕ, zero, suc}
+use Rattle.basics.proofs.Prelude.{_+_, _-_, _≤_, _<_, arith, leb, le-leb, not-true}
+use mathlib.Core.Bool.{and-true}
 use native.Mathlib.Numerals.{unary-clauses}
-use native.Mathlib.Omega.{arith}
-use lib.Dec.{leb}
-use borrow.Author.Tests.{le-leb, not-true}
 use Rattle.basics.specs.Tests.{allBelow}
 use Rattle.basics.proofs.Cases.{by-test, both, true-or-false}
 use Rattle.channel.specs.Memory.{countAt}
@@ -23,7 +20,7 @@ use Rattle.register.proofs.Bounds.{server-range}
 use Rattle.server.specs.State.{contains}
 use Rattle.state.specs.declared.Settings.{Settings}
 use Rattle.state.specs.State.{settingsOf, upIndex}
-use Rattle.steps.specs.Inner.{roomUp}
+use Rattle.steps.specs.InMemory.{roomUp}
 use Rattle.steps.specs.Ready.{SpareEmpty}
 use Rattle.steps.proofs.Rooms.{below-same}
 
@@ -48,25 +45,25 @@ module _ (S : settings.Settings) (k : ℕ) where
 
 -- ---- a test that passes from n on is needed only below n
 
-below-more : (p : ℕ → Bool) (n k : ℕ) → ((j : ℕ) → n ≤ j → j < n + k → p j ≡ true) → allBelow p (n + k) ≡ allBelow p n
+below-more : (p : ℕ → Bool) (n k : ℕ) → ((j : ℕ) → n ≤ j → j < n + k → p j ≡ true)
+    → allBelow p (n + k) ≡ allBelow p n
 unfolding allBelow
 below-more p n zero h = simp unary-clauses
 below-more p n (suc k) h =
     simp unary-clauses
-    (rw (below-more p n k (λ j low less. h j low (omega arith)), h (n + k) (omega arith) (omega arith)) (and-true (allBelow p n)))
-  where
-    and-true : (a : Bool) → a && true ≡ a
-    and-true true = refl
-    and-true false = refl
+    (rw (below-more p n k (λ j low less. h j low (omega arith)), h (n + k) (omega arith) (omega arith))
+    (and-true (allBelow p n)))
 
 -- ---- the channels of the client at place i
 
-module _ (t : Settings) (b : List ℕ) (i more : ℕ) (few : t .f ≤ 4) (client : i < 6) (most : more ≤ 8) (spare : SpareEmpty t b) where
+module _ (t : Settings) (b : List ℕ) (i more : ℕ) (few : t .f ≤ 4) (client : i < 6) (most : more ≤ 8)
+    (spare : SpareEmpty t b) where
   abbrev fits : ℕ → Bool
   fits j = leb (countAt b (upIndex i j) + more) slots
 
   empty-fits : (j : ℕ) → j < 13 → isHonest (settingsOf t) (suc j) ≡ false → fits j ≡ true
-  empty-fits j less other = let e = spare i j client less other in le-leb (countAt b (upIndex i j) + more) slots (omega arith)
+  empty-fits j less other = let e = spare i j client less other in
+      le-leb (countAt b (upIndex i j) + more) slots (omega arith)
 
   -- a channel to one of the n servers
   one-fits : (j : ℕ) → j < size (t .f) → fits j ≡ contains (t .faulty) (suc j) || fits j

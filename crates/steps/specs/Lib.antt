@@ -1,2 +1,3 @@
-pub mod Inner
+pub mod After
+pub mod InMemory
 pub mod Ready

@@ -11,35 +11,35 @@ use state::is_in;
 // Whether the one with a number is in a set that is given as bits.
 pub fn has(set: u64, n: u32) -> bool
     requires { ⌜ (1 ≤ n) × (n ≤ 64) ⌝ }
-    ensures { λ r. ⌜ r ≡ contains set n ⌝ }
+    ensures { λ yes. ⌜ yes ≡ contains set n ⌝ }
 {
     is_in(set, (n - 1) as usize)
 }
 
-pub fn is_client(t: Settings, d: u32) -> bool
-    ensures { λ r. ⌜ r ≡ isClient (settingsOf t) d ⌝ }
+pub fn is_client(settings: Settings, d: u32) -> bool
+    ensures { λ yes. ⌜ yes ≡ isClient (settingsOf settings) d ⌝ }
 {
     if d < 1 {
         return false;
     }
-    d <= t.clients as u32
+    d <= settings.clients as u32
 }
 
-fn is_server(t: Settings, k: u32) -> bool
-    ensures { λ r. ⌜ r ≡ isServer (settingsOf t) k ⌝ }
+fn is_server(settings: Settings, k: u32) -> bool
+    ensures { λ yes. ⌜ yes ≡ isServer (settingsOf settings) k ⌝ }
 {
     if k < 1 {
         return false;
     }
-    k <= register::servers(t.f)
+    k <= register::servers(settings.f)
 }
 
 // Whether a client and a server are both there.
-pub fn are_there(t: Settings, d: u32, k: u32) -> bool
-    ensures { λ r. ⌜ r ≡ (isClient (settingsOf t) d && isServer (settingsOf t) k) ⌝ }
+pub fn both_exist(settings: Settings, d: u32, k: u32) -> bool
+    ensures { λ yes. ⌜ yes ≡ (isClient (settingsOf settings) d && isServer (settingsOf settings) k) ⌝ }
 {
-    if !is_client(t, d) {
+    if !is_client(settings, d) {
         return false;
     }
-    is_server(t, k)
+    is_server(settings, k)
 }

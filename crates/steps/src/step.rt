@@ -1,36 +1,35 @@
-// The six steps. Each refuses first, in the table's order, and works after: it loads the one server or client that it concerns,
-// and stores it back. What it comes to is in specs/Inner.
-ghost use mathlib.Core.Bool.{true, not, _||_};
+// The six steps. Each refuses first, in the table's order, and works after: it loads the one server or client
+// that it concerns, and stores it back. What it comes to is in specs/InMemory.
+ghost use mathlib.Core.Bool.{true, false, not, _||_};
 ghost use mathlib.Core.Path.{_≡_};
 ghost use lib.Dec.{eqb};
 ghost use lib.ListN.{length};
 ghost use Prim.Native.Nat.{ℕ, _-_, _<_, _≤_};
 ghost use Rattle.channel.specs.Sound.{CountsFit};
-ghost use Rattle.client.specs.Memory as client;
+ghost use Rattle.client.specs.Memory as clientMemory;
+ghost use Rattle.client.specs.Outcome.{takenOf};
 ghost use Rattle.client.specs.Sound.{isSoundMemory};
-ghost use Rattle.message.specs.Layout.{unpackOf};
-ghost use Rattle.register.specs.Client.{clientTakes};
+ghost use Rattle.message.specs.Layout.{goes, unpackOf};
 ghost use Rattle.register.specs.Settings.{mostClients};
 ghost use Rattle.register.specs.Steps.{isReply};
 ghost use Rattle.register.specs.Thresholds.{size};
-ghost use Rattle.server.specs.Memory as server;
+ghost use Rattle.server.specs.Memory as serverMemory;
 ghost use Rattle.server.specs.State.{contains, setOf};
 ghost use Rattle.state.specs.State.{bytesIn, serverAt, stoppedIn, clientAt};
-ghost use Rattle.steps.specs.Ready.{Ready, SpareEmpty};
-ghost use Rattle.steps.specs.Inner as inner;
-use crate::process::are_there;
+ghost use Rattle.steps.specs.Ready.{OldestGoes, Ready, SpareEmpty, clientNumbers, serverNumbers};
+ghost use Rattle.steps.specs.InMemory as memory;
+use crate::process::both_exist;
 use crate::process::has;
 use crate::process::is_client;
 use crate::transport::broadcast;
 use crate::transport::count_sent;
+use crate::transport::deliver;
 use crate::transport::empty_down;
 use crate::transport::has_room;
-use crate::transport::has_room_down;
 use crate::transport::has_room_up;
-use crate::transport::oldest;
-use crate::transport::reply;
+use crate::transport::oldest_reply;
+use crate::transport::oldest_request;
 use crate::transport::send_up;
-use crate::transport::take_if;
 use channel::Slots;
 use client::Client;
 use message::Entry;
@@ -60,57 +59,70 @@ const MOST_SENT: u64 = 2;
 
 // ---- R and W
 
-// The last refusals of a start, 11 and 12, and the start: the next read number, and GET_INFO on every channel.
-fn begin(t: Settings, x: Client, ph: Phase, more: u64, c: &mut [u64], b: &mut Slots) -> Answer
-    requires { ⌜ (t .f ≤ 4) × (length (now c) ≡ 571) × (1 ≤ x .number) × (x .number ≤ 6) × (more ≤ 8)
-        × (x ≡ client.loaded (x .number) (t .f) (clientAt (now c) (x .number - 1))) × SpareEmpty t (now b) ⌝ }
-    ensures { λ r. ⌜ inner.gave r (now (c .exit)) (now (b .exit))
-        ≡ inner.beginStep t (now (c .entry)) (now (b .entry)) (x .number) ph more ⌝ }
+// The last refusals of a start, 11 and 12, and the start: the next read number, and GET_INFO on every
+// channel.
+fn begin(
+    settings: Settings,
+    d: u32,
+    client: Client,
+    phase: Phase,
+    more: u64,
+    clients: &mut [u64],
+    slots: &mut Slots,
+) -> Answer
+    requires { ⌜ (settings .f ≤ 4) × (length (now clients) ≡ clientNumbers) × (1 ≤ d) × (d ≤ 6) × (more ≤ 8)
+        × (client ≡ clientMemory.loaded d (settings .f) (clientAt (now clients) (d - 1)))
+        × CountsFit (now slots) × SpareEmpty settings (now slots) ⌝ }
+    ensures { λ answer. ⌜ memory.result answer (now (clients .exit)) (now (slots .exit))
+        ≡ memory.beginStep settings (now (clients .entry)) (now (slots .entry)) d phase more ⌝ }
 {
-    let reads = x.reads;
+    let reads = client.reads;
     if message::is_last_read(reads) {
         return Answer::Refused(Refusal::Exhausted);
     }
-    let i = (x.number - 1) as usize;
-    if !has_room_up(t, b, i, more) {
+    let i = (d - 1) as usize;
+    if !has_room_up(settings, slots, i, more) {
         return Answer::Refused(Refusal::FullChannel);
     }
     let next = message::next_read(reads);
-    broadcast(t, b, i, Message::GetInfo(next));
+    broadcast(settings, slots, i, Message::GetInfo(next));
     let at = client_start(i);
     let end = at + client::WORDS;
     let begun = Client {
-        number: x.number,
-        f: x.f,
-        phase: ph,
+        number: client.number,
+        f: client.f,
+        phase: phase,
         reads: next,
     };
-    client::store(&mut c[at..end], begun);
+    client::store(&mut clients[at..end], begun);
     Answer::Went
 }
 
-// A start in a phase, whose entry, if it has one, is a licence entry or not: 4, 6, 7, 8 and then those of `begin`.
+// A start in a phase, whose entry, if it has one, is a licence entry or not: 4, 6, 7, 8 and then those of
+// `begin`.
 fn start(
-    t: Settings,
+    settings: Settings,
     d: u32,
-    ph: Phase,
+    phase: Phase,
     is_entry: bool,
     more: u64,
-    c: &mut [u64],
-    b: &mut Slots,
+    clients: &mut [u64],
+    slots: &mut Slots,
 ) -> Answer
-    requires { ⌜ (t .f ≤ 4) × (t .clients ≤ 6) × (length (now c) ≡ 571) × (more ≤ 8) × SpareEmpty t (now b) ⌝ }
-    ensures { λ r. ⌜ inner.gave r (now (c .exit)) (now (b .exit))
-        ≡ inner.startStep t (now (c .entry)) (now (b .entry)) d ph (not «is_entry») more ⌝ }
+    requires { ⌜ (settings .f ≤ 4) × (settings .clients ≤ 6) × (length (now clients) ≡ clientNumbers)
+        × (more ≤ 8) × CountsFit (now slots) × SpareEmpty settings (now slots) ⌝ }
+    ensures { λ answer. ⌜ memory.result answer (now (clients .exit)) (now (slots .exit))
+        ≡ memory.startStep settings (now (clients .entry)) (now (slots .entry)) d phase
+        (not «is_entry») more ⌝ }
 {
-    if !is_client(t, d) {
+    if !is_client(settings, d) {
         return Answer::Refused(Refusal::NoSuchProcess);
     }
     let at = client_start((d - 1) as usize);
     let end = at + client::WORDS;
-    let x = client::load(&c[at..end], d as u8, t.f);
-    let has_stopped = has(c[STOPPED], d);
-    let old = x.phase;
+    let client = client::load(&clients[at..end], d as u8, settings.f);
+    let has_stopped = has(clients[STOPPED], d);
+    let old = client.phase;
     let is_busy = !client::is_idle(old);
     if has_stopped {
         return Answer::Refused(Refusal::Stopped);
@@ -121,177 +133,236 @@ fn start(
     if !is_entry {
         return Answer::Refused(Refusal::NoEntry);
     }
-    begin(t, x, ph, more, c, b)
+    begin(settings, d, client, phase, more, clients, slots)
 }
 
-fn read(t: Settings, d: u32, c: &mut [u64], b: &mut Slots) -> Answer
-    requires { ⌜ (t .f ≤ 4) × (t .clients ≤ 6) × (length (now c) ≡ 571) × SpareEmpty t (now b) ⌝ }
-    ensures { λ r. ⌜ inner.gave r (now (c .exit)) (now (b .exit)) ≡ inner.readStep t (now (c .entry)) (now (b .entry)) d ⌝ }
-{
-    start(t, d, Phase::Reading, true, READ_SLOTS, c, b)
-}
-
-fn write(t: Settings, d: u32, e: Entry, c: &mut [u64], b: &mut Slots) -> Answer
-    requires { ⌜ (t .f ≤ 4) × (t .clients ≤ 6) × (length (now c) ≡ 571) × SpareEmpty t (now b) ⌝ }
-    ensures { λ r. ⌜ inner.gave r (now (c .exit)) (now (b .exit)) ≡ inner.writeStep t (now (c .entry)) (now (b .entry)) d e ⌝ }
+fn read(settings: Settings, d: u32, clients: &mut [u64], slots: &mut Slots) -> Answer
+    requires { ⌜ (settings .f ≤ 4) × (settings .clients ≤ 6) × (length (now clients) ≡ clientNumbers)
+        × CountsFit (now slots) × SpareEmpty settings (now slots) ⌝ }
+    ensures { λ answer. ⌜ memory.result answer (now (clients .exit)) (now (slots .exit))
+        ≡ memory.readStep settings (now (clients .entry)) (now (slots .entry)) d ⌝ }
 {
     start(
-        t,
+        settings,
         d,
-        Phase::ReadingForWrite(e),
-        licence::is_licence(e.0),
+        Phase::Reading,
+        true,
+        READ_SLOTS,
+        clients,
+        slots,
+    )
+}
+
+fn write(settings: Settings, d: u32, entry: Entry, clients: &mut [u64], slots: &mut Slots) -> Answer
+    requires { ⌜ (settings .f ≤ 4) × (settings .clients ≤ 6) × (length (now clients) ≡ clientNumbers)
+        × CountsFit (now slots) × SpareEmpty settings (now slots) ⌝ }
+    ensures { λ answer. ⌜ memory.result answer (now (clients .exit)) (now (slots .exit))
+        ≡ memory.writeStep settings (now (clients .entry)) (now (slots .entry)) d entry ⌝ }
+{
+    start(
+        settings,
+        d,
+        Phase::ReadingForWrite(entry),
+        licence::is_licence(entry.0),
         WRITE_SLOTS,
-        c,
-        b,
+        clients,
+        slots,
     )
 }
 
 // ---- K
 
-// The server takes message m, the oldest of its channel, unless there is no room for what it sends (12).
+// The server serves a message, the oldest of its channel, unless there is no room for what it sends (12).
 fn serve_message(
-    t: Settings,
+    settings: Settings,
     stopped: u64,
     k: u32,
     d: u32,
-    m: Message,
-    s: &mut [u64],
-    b: &mut Slots,
+    message: Message,
+    servers: &mut [u64],
+    slots: &mut Slots,
 ) -> Answer
-    requires { ⌜ (t .clients ≤ 6) × (1 ≤ d) × (d ≤ 6) × (1 ≤ k) × (k ≤ 13) × (length (now s) ≡ 26)
-        × (server.isSound (serverAt (now s) (k - 1)) ≡ true)
-        × (inner.requestAt (now b) k d ≡ Unpacked.Good m) × CountsFit (now b) ⌝ }
-    ensures { λ r. ⌜ inner.gave r (now (s .exit)) (now (b .exit))
-        ≡ inner.serveOldest t stopped (now (s .entry)) (now (b .entry)) k d ⌝ }
+    requires { ⌜ (settings .clients ≤ 6) × (1 ≤ d) × (d ≤ settings .clients) × (1 ≤ k) × (k ≤ 13)
+        × (length (now servers) ≡ serverNumbers)
+        × (serverMemory.isSound (serverAt (now servers) (k - 1)) ≡ true)
+        × (memory.requestAt (now slots) k d ≡ Unpacked.Good message) × CountsFit (now slots) ⌝ }
+    ensures { λ answer. ⌜ memory.result answer (now (servers .exit)) (now (slots .exit))
+        ≡ memory.serveOldest settings stopped (now (servers .entry)) (now (slots .entry)) k d ⌝ }
 {
     let i = (d - 1) as usize;
     let j = (k - 1) as usize;
-    let from = up(i, j);
     let at = server_start(j);
     let end = at + server::WORDS;
-    let served = server::after(server::load(&s[at..end]), d as u8, m);
+    let served = server::after(server::load(&servers[at..end]), d as u8, message);
     let sends = served.sends;
     let next = served.server;
-    let fits = has_room_down(t, stopped, b, j, d as u8, sends);
-    take_if(b, from, fits);
-    if !fits {
+    if !deliver(settings, stopped, slots, i, j, sends) {
         return Answer::Refused(Refusal::FullChannel);
     }
-    server::store(&mut s[at..end], next);
-    reply(stopped, b, i, j, sends);
+    server::store(&mut servers[at..end], next);
     Answer::Went
 }
 
-// The server takes the oldest message. What is none is dropped.
-fn serve_oldest(t: Settings, stopped: u64, k: u32, d: u32, s: &mut [u64], b: &mut Slots) -> Answer
-    requires { ⌜ (t .clients ≤ 6) × (1 ≤ d) × (d ≤ 6) × (1 ≤ k) × (k ≤ 13) × (length (now s) ≡ 26)
-        × (server.isSound (serverAt (now s) (k - 1)) ≡ true) × CountsFit (now b) ⌝ }
-    ensures { λ r. ⌜ inner.gave r (now (s .exit)) (now (b .exit))
-        ≡ inner.serveOldest t stopped (now (s .entry)) (now (b .entry)) k d ⌝ }
+// The server serves the oldest message. What is none is dropped.
+fn serve_oldest(
+    settings: Settings,
+    stopped: u64,
+    k: u32,
+    d: u32,
+    servers: &mut [u64],
+    slots: &mut Slots,
+) -> Answer
+    requires { ⌜ (settings .clients ≤ 6) × (1 ≤ d) × (d ≤ settings .clients) × (1 ≤ k) × (k ≤ 13)
+        × (length (now servers) ≡ serverNumbers)
+        × (serverMemory.isSound (serverAt (now servers) (k - 1)) ≡ true)
+        × CountsFit (now slots) × (goes false (memory.requestAt (now slots) k d) ≡ true) ⌝ }
+    ensures { λ answer. ⌜ memory.result answer (now (servers .exit)) (now (slots .exit))
+        ≡ memory.serveOldest settings stopped (now (servers .entry)) (now (slots .entry)) k d ⌝ }
 {
     let from = up((d - 1) as usize, (k - 1) as usize);
-    let Unpacked::Good(m) = oldest(b, from) else {
-        channel::take(b, from);
+    let Unpacked::Good(message) = oldest_request(slots, from) else {
+        channel::take(slots, from);
         return Answer::Went;
     };
-    serve_message(t, stopped, k, d, m, s, b)
+    serve_message(settings, stopped, k, d, message, servers, slots)
 }
 
-fn serve(t: Settings, stopped: u64, k: u32, d: u32, s: &mut [u64], b: &mut Slots) -> Answer
-    requires { ⌜ (t .f ≤ 4) × (t .clients ≤ 6) × (length (now s) ≡ 26)
-        × ((j : ℕ) → j < 13 → server.isSound (serverAt (now s) j) ≡ true) × CountsFit (now b) ⌝ }
-    ensures { λ r. ⌜ inner.gave r (now (s .exit)) (now (b .exit))
-        ≡ inner.serveStep t stopped (now (s .entry)) (now (b .entry)) k d ⌝ }
+fn serve(
+    settings: Settings,
+    stopped: u64,
+    k: u32,
+    d: u32,
+    servers: &mut [u64],
+    slots: &mut Slots,
+) -> Answer
+    requires { ⌜ (settings .f ≤ 4) × (settings .clients ≤ 6) × (length (now servers) ≡ serverNumbers)
+        × ((j : ℕ) → j < 13 → serverMemory.isSound (serverAt (now servers) j) ≡ true)
+        × CountsFit (now slots) × OldestGoes (now slots) ⌝ }
+    ensures { λ answer. ⌜ memory.result answer (now (servers .exit)) (now (slots .exit))
+        ≡ memory.serveStep settings stopped (now (servers .entry)) (now (slots .entry)) k d ⌝ }
 {
-    if !are_there(t, d, k) {
+    if !both_exist(settings, d, k) {
         return Answer::Refused(Refusal::NoSuchProcess);
     }
-    if has(t.faulty as u64, k) {
+    if has(settings.faulty as u64, k) {
         return Answer::Refused(Refusal::WrongRole);
     }
-    if channel::count(b, up((d - 1) as usize, (k - 1) as usize)) == 0 {
+    if channel::count(slots, up((d - 1) as usize, (k - 1) as usize)) == 0 {
         return Answer::Refused(Refusal::EmptyChannel);
     }
-    serve_oldest(t, stopped, k, d, s, b)
+    serve_oldest(settings, stopped, k, d, servers, slots)
 }
 
 // ---- D
 
-// Whether there is room for what client x makes of a message of server k. Two free slots are enough for anything, so the message
-// is tried on a copy only where a channel is short.
-fn has_room_for(t: Settings, b: &Slots, x: Client, k: u8, m: Message, own: &[u64]) -> bool
-    requires { ⌜ (t .f ≤ 4) × (x ≡ client.loaded (x .number) (t .f) (now own)) × (isSoundMemory (t .f) (now own) ≡ true)
-        × (1 ≤ x .number) × (x .number ≤ 6) × (1 ≤ k) × (k ≤ size (t .f)) × SpareEmpty t (now b) ⌝ }
-    ensures { λ y. ⌜ y ≡ inner.roomUp t (now (b .entry)) (x .number - 1)
-        (length (clientTakes (size (t .f)) (t .f) (x .number) (client.view (now (own .entry))) k m .sends)) ⌝ }
+// Whether there is room for what a client makes of a message of server k. Nothing is sent for an
+// acknowledgement, and two free slots are enough for anything, so the message is tried on a copy only where a
+// channel is short.
+fn has_room_for(
+    settings: Settings,
+    slots: &Slots,
+    client: Client,
+    k: u8,
+    message: Message,
+    own: &[u64],
+) -> bool
+    requires { ⌜ (settings .f ≤ 4) × (client ≡ clientMemory.loaded (client .number) (settings .f) (now own))
+        × (isSoundMemory (settings .f) (now own) ≡ true) × (1 ≤ client .number) × (client .number ≤ 6)
+        × (1 ≤ k) × (k ≤ size (settings .f)) × CountsFit (now slots) × SpareEmpty settings (now slots) ⌝ }
+    ensures { λ fits. ⌜ fits ≡ memory.roomUp settings (now (slots .entry)) (client .number - 1)
+        (length (takenOf (client .number) (settings .f) (now (own .entry)) k message .sends)) ⌝ }
 {
-    let i = (x.number - 1) as usize;
-    if has_room_up(t, b, i, MOST_SENT) {
+    if let Message::WriteAck(_counter) = message {
         return true;
     }
-    has_room_up(t, b, i, count_sent(client::would_send(x, k, m, own)))
+    let i = (client.number - 1) as usize;
+    if has_room_up(settings, slots, i, MOST_SENT) {
+        return true;
+    }
+    has_room_up(
+        settings,
+        slots,
+        i,
+        count_sent(client::would_send(client, k, message, own)),
+    )
 }
 
-// Client x takes message m of server k, the oldest of its channel, unless there is no room for what it sends (12).
-fn take_message(t: Settings, x: Client, k: u32, m: Message, c: &mut [u64], b: &mut Slots) -> Answer
-    requires { ⌜ (t .f ≤ 4) × (length (now c) ≡ 571) × (1 ≤ x .number) × (x .number ≤ 6) × (1 ≤ k) × (k ≤ size (t .f))
-        × (x ≡ client.loaded (x .number) (t .f) (clientAt (now c) (x .number - 1)))
-        × (isSoundMemory (t .f) (clientAt (now c) (x .number - 1)) ≡ true)
-        × (inner.replyAt (now b) (x .number) k ≡ Unpacked.Good m) × SpareEmpty t (now b) ⌝ }
-    ensures { λ r. ⌜ inner.gave r (now (c .exit)) (now (b .exit))
-        ≡ inner.takeOldest t (now (c .entry)) (now (b .entry)) (x .number) k ⌝ }
+// A client takes a message of server k, the oldest of its channel, unless there is no room for what it sends
+// (12).
+fn take_message(
+    settings: Settings,
+    client: Client,
+    k: u32,
+    message: Message,
+    clients: &mut [u64],
+    slots: &mut Slots,
+) -> Answer
+    requires { ⌜ (settings .f ≤ 4) × (length (now clients) ≡ clientNumbers)
+        × (1 ≤ client .number) × (client .number ≤ 6) × (1 ≤ k) × (k ≤ size (settings .f))
+        × (client ≡ clientMemory.loaded (client .number) (settings .f)
+        (clientAt (now clients) (client .number - 1)))
+        × (isSoundMemory (settings .f) (clientAt (now clients) (client .number - 1)) ≡ true)
+        × (memory.replyAt (now slots) (client .number) k ≡ Unpacked.Good message)
+        × CountsFit (now slots) × SpareEmpty settings (now slots) ⌝ }
+    ensures { λ answer. ⌜ memory.result answer (now (clients .exit)) (now (slots .exit))
+        ≡ memory.takeOldest settings (now (clients .entry)) (now (slots .entry)) (client .number) k ⌝ }
 {
-    let i = (x.number - 1) as usize;
+    let i = (client.number - 1) as usize;
     let at = client_start(i);
     let end = at + client::WORDS;
-    if !has_room_for(t, b, x, k as u8, m, &c[at..end]) {
+    if !has_room_for(settings, slots, client, k as u8, message, &clients[at..end]) {
         return Answer::Refused(Refusal::FullChannel);
     }
-    let took = client::take_message(x, k as u8, m, &mut c[at..end]);
-    channel::take(b, down(i, (k - 1) as usize));
-    let sends = took.sends;
-    send_up(t, b, i, sends);
-    took.answer
+    let outcome = client::take_message(client, k as u8, message, &mut clients[at..end]);
+    channel::take(slots, down(i, (k - 1) as usize));
+    let sends = outcome.sends;
+    send_up(settings, slots, i, sends);
+    outcome.answer
 }
 
-// The client takes the oldest message. What is none, or one that it does not take, is dropped, and nothing is stored.
-fn take_oldest(t: Settings, d: u32, k: u32, c: &mut [u64], b: &mut Slots) -> Answer
-    requires { ⌜ (t .f ≤ 4) × (length (now c) ≡ 571) × (1 ≤ d) × (d ≤ 6) × (1 ≤ k) × (k ≤ size (t .f))
-        × (isSoundMemory (t .f) (clientAt (now c) (d - 1)) ≡ true) × CountsFit (now b) × SpareEmpty t (now b) ⌝ }
-    ensures { λ r. ⌜ inner.gave r (now (c .exit)) (now (b .exit))
-        ≡ inner.takeOldest t (now (c .entry)) (now (b .entry)) d k ⌝ }
+// The client takes the oldest message. What is none, or one that it does not take, is dropped, and nothing is
+// stored.
+fn take_oldest(settings: Settings, d: u32, k: u32, clients: &mut [u64], slots: &mut Slots) -> Answer
+    requires { ⌜ (settings .f ≤ 4) × (length (now clients) ≡ clientNumbers) × (1 ≤ d) × (d ≤ 6) × (1 ≤ k)
+        × (k ≤ size (settings .f))
+        × (isSoundMemory (settings .f) (clientAt (now clients) (d - 1)) ≡ true) × CountsFit (now slots)
+        × SpareEmpty settings (now slots) × (goes true (memory.replyAt (now slots) d k) ≡ true) ⌝ }
+    ensures { λ answer. ⌜ memory.result answer (now (clients .exit)) (now (slots .exit))
+        ≡ memory.takeOldest settings (now (clients .entry)) (now (slots .entry)) d k ⌝ }
 {
     let i = (d - 1) as usize;
     let from = down(i, (k - 1) as usize);
-    let Unpacked::Good(m) = oldest(b, from) else {
-        channel::take(b, from);
+    let Unpacked::Good(message) = oldest_reply(slots, from) else {
+        channel::take(slots, from);
         return Answer::Went;
     };
     let at = client_start(i);
     let end = at + client::WORDS;
-    let x = client::load(&c[at..end], d as u8, t.f);
-    if !client::is_taken(x, k as u8, m, &c[at..end]) {
-        channel::take(b, from);
+    let client = client::load(&clients[at..end], d as u8, settings.f);
+    if !client::is_taken(client, k as u8, message, &clients[at..end]) {
+        channel::take(slots, from);
         return Answer::Went;
     }
-    take_message(t, x, k, m, c, b)
+    take_message(settings, client, k, message, clients, slots)
 }
 
-fn take(t: Settings, d: u32, k: u32, c: &mut [u64], b: &mut Slots) -> Answer
-    requires { ⌜ (t .f ≤ 4) × (t .clients ≤ 6) × (length (now c) ≡ 571)
-        × ((i : ℕ) → i < 6 → isSoundMemory (t .f) (clientAt (now c) i) ≡ true) × CountsFit (now b) × SpareEmpty t (now b) ⌝ }
-    ensures { λ r. ⌜ inner.gave r (now (c .exit)) (now (b .exit)) ≡ inner.takeStep t (now (c .entry)) (now (b .entry)) d k ⌝ }
+fn take(settings: Settings, d: u32, k: u32, clients: &mut [u64], slots: &mut Slots) -> Answer
+    requires { ⌜ (settings .f ≤ 4) × (settings .clients ≤ 6) × (length (now clients) ≡ clientNumbers)
+        × ((i : ℕ) → i < 6 → isSoundMemory (settings .f) (clientAt (now clients) i) ≡ true)
+        × CountsFit (now slots) × SpareEmpty settings (now slots) × OldestGoes (now slots) ⌝ }
+    ensures { λ answer. ⌜ memory.result answer (now (clients .exit)) (now (slots .exit))
+        ≡ memory.takeStep settings (now (clients .entry)) (now (slots .entry)) d k ⌝ }
 {
-    if !are_there(t, d, k) {
+    if !both_exist(settings, d, k) {
         return Answer::Refused(Refusal::NoSuchProcess);
     }
-    if has(c[STOPPED], d) {
+    if has(clients[STOPPED], d) {
         return Answer::Refused(Refusal::Stopped);
     }
-    if channel::count(b, down((d - 1) as usize, (k - 1) as usize)) == 0 {
+    if channel::count(slots, down((d - 1) as usize, (k - 1) as usize)) == 0 {
         return Answer::Refused(Refusal::EmptyChannel);
     }
-    take_oldest(t, d, k, c, b)
+    take_oldest(settings, d, k, clients, slots)
 }
 
 // ---- C
@@ -299,86 +370,96 @@ fn take(t: Settings, d: u32, k: u32, c: &mut [u64], b: &mut Slots) -> Answer
 // The stopped clients and one more.
 fn with_stopped(stopped: u64, d: u32) -> u64
     requires { ⌜ (stopped < 64) × (1 ≤ d) × (d ≤ 6) ⌝ }
-    ensures { λ r. ⌜ r ≡ setOf (λ e. eqb d e || contains stopped e) mostClients ⌝ }
+    ensures { λ set. ⌜ set ≡ setOf (λ e. eqb d e || contains stopped e) mostClients ⌝ }
 {
     let bit: u64 = 1 << (d - 1);
     stopped | bit
 }
 
-fn stop(t: Settings, d: u32, c: &mut [u64], b: &mut Slots) -> Answer
-    requires { ⌜ (t .f ≤ 4) × (t .clients ≤ 6) × (length (now c) ≡ 571) × (stoppedIn (now c) < 64) ⌝ }
-    ensures { λ r. ⌜ inner.gave r (now (c .exit)) (now (b .exit)) ≡ inner.stopStep t (now (c .entry)) (now (b .entry)) d ⌝ }
+fn stop(settings: Settings, d: u32, clients: &mut [u64], slots: &mut Slots) -> Answer
+    requires { ⌜ (settings .f ≤ 4) × (settings .clients ≤ 6) × (length (now clients) ≡ clientNumbers)
+        × (stoppedIn (now clients) < 64) ⌝ }
+    ensures { λ answer. ⌜ memory.result answer (now (clients .exit)) (now (slots .exit))
+        ≡ memory.stopStep settings (now (clients .entry)) (now (slots .entry)) d ⌝ }
 {
-    if !is_client(t, d) {
+    if !is_client(settings, d) {
         return Answer::Refused(Refusal::NoSuchProcess);
     }
-    let stopped = c[STOPPED];
+    let stopped = clients[STOPPED];
     if has(stopped, d) {
         return Answer::Refused(Refusal::Stopped);
     }
-    empty_down(t, b, (d - 1) as usize);
-    c[STOPPED] = with_stopped(stopped, d);
+    empty_down(settings, slots, (d - 1) as usize);
+    clients[STOPPED] = with_stopped(stopped, d);
     Answer::Went
 }
 
 // ---- L
 
 // Whether two words are a message that a server sends.
-fn is_reply(w: Words) -> bool
-    ensures { λ r. ⌜ r ≡ isReply (unpackOf (bytesIn w)) ⌝ }
+fn is_reply(words: Words) -> bool
+    ensures { λ yes. ⌜ yes ≡ isReply (unpackOf (bytesIn words)) ⌝ }
 {
-    let Unpacked::Good(m) = message::of_words(w) else {
+    let Unpacked::Good(message) = message::of_words(words) else {
         return false;
     };
-    client::is_reply(m)
+    client::is_reply(message)
 }
 
 // The message goes on its channel, unless there is no room for it (12); to a stopped client it is dropped.
-fn lie_with(stopped: u64, k: u32, d: u32, w: Words, b: &mut Slots) -> Answer
-    requires { ⌜ (1 ≤ d) × (d ≤ 6) × (1 ≤ k) × (k ≤ 13) × (w .0 < 16777216) ⌝ }
-    ensures { λ r. ⌜ inner.told r (now (b .exit)) ≡ inner.lieWith stopped (now (b .entry)) k d w ⌝ }
+fn lie_with(stopped: u64, k: u32, d: u32, words: Words, slots: &mut Slots) -> Answer
+    requires { ⌜ (1 ≤ d) × (d ≤ 6) × (1 ≤ k) × (k ≤ 13) × (words .0 < 16777216) ⌝ }
+    ensures { λ answer. ⌜ memory.placed answer (now (slots .exit))
+        ≡ memory.lieWith stopped (now (slots .entry)) k d words ⌝ }
 {
     if has(stopped, d) {
         return Answer::Went;
     }
     let to = down((d - 1) as usize, (k - 1) as usize);
-    if !has_room(b, to, 1) {
+    if !has_room(slots, to, 1) {
         return Answer::Refused(Refusal::FullChannel);
     }
-    channel::put(b, to, w);
+    channel::put(slots, to, words);
     Answer::Went
 }
 
-fn lie(t: Settings, stopped: u64, k: u32, d: u32, w: Words, b: &mut Slots) -> Answer
-    requires { ⌜ (t .f ≤ 4) × (t .clients ≤ 6) ⌝ }
-    ensures { λ r. ⌜ inner.told r (now (b .exit)) ≡ inner.lieStep t stopped (now (b .entry)) k d w ⌝ }
+fn lie(settings: Settings, stopped: u64, k: u32, d: u32, words: Words, slots: &mut Slots) -> Answer
+    requires { ⌜ (settings .f ≤ 4) × (settings .clients ≤ 6) ⌝ }
+    ensures { λ answer. ⌜ memory.placed answer (now (slots .exit)) ≡ memory.lieStep settings stopped
+        (now (slots .entry)) k d words ⌝ }
 {
-    if !are_there(t, d, k) {
+    if !both_exist(settings, d, k) {
         return Answer::Refused(Refusal::NoSuchProcess);
     }
-    if !has(t.faulty as u64, k) {
+    if !has(settings.faulty as u64, k) {
         return Answer::Refused(Refusal::WrongRole);
     }
-    if !is_reply(w) {
+    if !is_reply(words) {
         return Answer::Refused(Refusal::Malformed);
     }
-    lie_with(stopped, k, d, w, b)
+    lie_with(stopped, k, d, words, slots)
 }
 
 // ---- one step
 
 // One step of a sound state. A refusal leaves the memory as it was.
-pub fn take_step(t: Settings, x: Step, s: &mut Servers, c: &mut Clients, b: &mut Slots) -> Answer
-    requires { ⌜ Ready t (now s) (now c) (now b) ⌝ }
-    ensures { λ r. ⌜ inner.after r (now (s .exit)) (now (c .exit)) (now (b .exit))
-        ≡ inner.innerOf t (now (s .entry)) (now (c .entry)) (now (b .entry)) x ⌝ }
+pub fn take_step(
+    settings: Settings,
+    step: Step,
+    servers: &mut Servers,
+    clients: &mut Clients,
+    slots: &mut Slots,
+) -> Answer
+    requires { ⌜ Ready settings (now servers) (now clients) (now slots) ⌝ }
+    ensures { λ answer. ⌜ memory.after answer (now (servers .exit)) (now (clients .exit)) (now (slots .exit))
+        ≡ memory.inMemory settings (now (servers .entry)) (now (clients .entry)) (now (slots .entry)) step ⌝ }
 {
-    match x {
-        Step::R(d) => read(t, d, c, b),
-        Step::W(d, e) => write(t, d, e, c, b),
-        Step::K(k, d) => serve(t, c[STOPPED], k, d, s, b),
-        Step::D(d, k) => take(t, d, k, c, b),
-        Step::C(d) => stop(t, d, c, b),
-        Step::L(k, d, w) => lie(t, c[STOPPED], k, d, w, b),
+    match step {
+        Step::R(d) => read(settings, d, clients, slots),
+        Step::W(d, entry) => write(settings, d, entry, clients, slots),
+        Step::K(k, d) => serve(settings, clients[STOPPED], k, d, servers, slots),
+        Step::D(d, k) => take(settings, d, k, clients, slots),
+        Step::C(d) => stop(settings, d, clients, slots),
+        Step::L(k, d, words) => lie(settings, clients[STOPPED], k, d, words, slots),
     }
 }

@@ -1,18 +1,20 @@
-// Room on the channels, and messages put on them. A client and a server are named by their places, counted from 0.
-ghost use mathlib.Core.Bool.{cond, _||_};
+// Room on the channels, and messages put on them. A client and a server are named by their places, counted
+// from 0.
+ghost use mathlib.Core.Bool.{true, false, cond, _||_};
 ghost use mathlib.Core.Path.{_≡_};
 ghost use lib.Dec.{leb};
 ghost use lib.ListN.{length};
 ghost use Prim.Native.Nat.{suc, _+_, _≤_, _<_};
-ghost use Rattle.channel.specs.Memory.{countAt, taken};
+ghost use Rattle.message.specs.Layout.{goes};
+ghost use Rattle.channel.specs.Memory.{channels, countAt, taken};
 ghost use Rattle.channel.specs.Sound.{CountsFit};
-ghost use Rattle.client.specs.Sends.{messagesOf};
+ghost use Rattle.client.specs.Outcome.{messagesOf};
 ghost use Rattle.register.specs.Server.{forwards, sent, sentTo};
 ghost use Rattle.register.specs.Thresholds.{size};
 ghost use Rattle.server.specs.State.{contains};
-ghost use Rattle.server.specs.Taking.{sentBy};
+ghost use Rattle.server.specs.Serving.{sentBy};
 ghost use Rattle.state.specs.State.{upIndex, downIndex, messageAt};
-ghost use Rattle.steps.specs.Inner as inner;
+ghost use Rattle.steps.specs.InMemory as memory;
 ghost use Rattle.steps.specs.Ready.{SpareEmpty};
 use channel::Slots;
 use message::Message;
@@ -25,54 +27,61 @@ use state::down;
 use state::is_in;
 use state::up;
 
-// The slots of a channel.
+// The slots of a channel, the power of 2 above them, and what is added so that a sum over SLOTS reaches it.
 const SLOTS: u64 = 8;
 
+const OVER: u64 = 16;
+
+const UNDER: u64 = OVER - 1 - SLOTS;
+
 // Whether a channel has room for more messages.
-pub fn has_room(b: &Slots, c: usize, more: u64) -> bool
-    requires { ⌜ (c < 156) × (more ≤ 8) ⌝ }
-    ensures { λ r. ⌜ r ≡ leb (countAt (now (b .entry)) c + more) 8 ⌝ }
+pub fn has_room(slots: &Slots, channel: usize, more: u64) -> bool
+    requires { ⌜ (channel < channels) × (more ≤ 8) ⌝ }
+    ensures { λ fits. ⌜ fits ≡ leb (countAt (now (slots .entry)) channel + more) 8 ⌝ }
 {
-    channel::count(b, c) <= SLOTS - more
+    channel::count(slots, channel) <= SLOTS - more
 }
 
-// Whether every channel from a client to an honest server has room for more messages. All 13 counts are looked at, and no test
-// branches: a channel that drops or is not used is empty, and which of the others are full cannot be foreseen.
-pub fn has_room_up(t: Settings, b: &Slots, i: usize, more: u64) -> bool
-    requires { ⌜ (i < 6) × (t .f ≤ 4) × (more ≤ 8) × SpareEmpty t (now b) ⌝ }
-    ensures { λ r. ⌜ r ≡ inner.roomUp t (now (b .entry)) i more ⌝ }
+// Whether every channel from a client to an honest server has room for more messages. All 13 counts are
+// looked at, and no test branches: a channel that drops or is not used is empty, and which of the others are
+// full cannot be foreseen. A sum is at most SLOTS exactly if it is below OVER with UNDER added, and numbers
+// joined by OR are below a power of 2 exactly if each is.
+pub fn has_room_up(settings: Settings, slots: &Slots, i: usize, more: u64) -> bool
+    requires { ⌜ (i < 6) × (settings .f ≤ 4) × (more ≤ 8) × CountsFit (now slots)
+        × SpareEmpty settings (now slots) ⌝ }
+    ensures { λ fits. ⌜ fits ≡ memory.roomUp settings (now (slots .entry)) i more ⌝ }
 {
-    let mut fits = true;
+    let mut over: u64 = 0;
     let mut j = 0;
     while j < SERVERS {
-        fits = fits & has_room(b, up(i, j), more);
+        over = over | (channel::count(slots, up(i, j)) + more + UNDER);
         j += 1;
     }
-    fits
+    over < OVER
 }
 
 // A message on the channels from a client to all honest servers.
-pub fn broadcast(t: Settings, b: &mut Slots, i: usize, m: Message)
-    requires { ⌜ (i < 6) × (t .f ≤ 4) ⌝ }
-    ensures { λ r. ⌜ now (b .exit) ≡ inner.toAll t (now (b .entry)) i m ⌝ }
+pub fn broadcast(settings: Settings, slots: &mut Slots, i: usize, message: Message)
+    requires { ⌜ (i < 6) × (settings .f ≤ 4) ⌝ }
+    ensures { λ r. ⌜ now (slots .exit) ≡ memory.toAll settings (now (slots .entry)) i message ⌝ }
 {
-    let w = message::words_of(m);
-    let faulty = t.faulty as u64;
-    let n = register::servers(t.f) as usize;
+    let words = message::words_of(message);
+    let faulty = settings.faulty as u64;
+    let n = register::servers(settings.f) as usize;
     let mut j = 0;
     while j < n {
         if !is_in(faulty, j) {
-            channel::put(b, up(i, j), w);
+            channel::put(slots, up(i, j), words);
         }
         j += 1;
     }
 }
 
 // How many messages a client sends to each server.
-pub fn count_sent(s: client::Sends) -> u64
-    ensures { λ r. ⌜ (r ≡ length (messagesOf s)) × (r ≤ 2) ⌝ }
+pub fn count_sent(sends: client::Sends) -> u64
+    ensures { λ count. ⌜ (count ≡ length (messagesOf sends)) × (count ≤ 2) ⌝ }
 {
-    match s {
+    match sends {
         client::Sends::Nothing => 0,
         client::Sends::GetInfo(_) => 1,
         client::Sends::Done => 1,
@@ -81,142 +90,190 @@ pub fn count_sent(s: client::Sends) -> u64
 }
 
 // What a client sends, on the channels to all honest servers.
-pub fn send_up(t: Settings, b: &mut Slots, i: usize, s: client::Sends)
-    requires { ⌜ (i < 6) × (t .f ≤ 4) ⌝ }
-    ensures { λ r. ⌜ now (b .exit) ≡ inner.sendUp t (now (b .entry)) i (messagesOf s) ⌝ }
+pub fn send_up(settings: Settings, slots: &mut Slots, i: usize, sends: client::Sends)
+    requires { ⌜ (i < 6) × (settings .f ≤ 4) ⌝ }
+    ensures { λ r. ⌜ now (slots .exit) ≡ memory.sendUp settings (now (slots .entry)) i (messagesOf sends) ⌝ }
 {
-    match s {
+    match sends {
         client::Sends::Nothing => {}
-        client::Sends::GetInfo(n) => broadcast(t, b, i, Message::GetInfo(n)),
-        client::Sends::Done => broadcast(t, b, i, Message::Done),
-        client::Sends::DoneAndWrite(p) => {
-            broadcast(t, b, i, Message::Done);
-            broadcast(t, b, i, Message::WriteInfo(p));
+        client::Sends::GetInfo(number) => broadcast(settings, slots, i, Message::GetInfo(number)),
+        client::Sends::Done => broadcast(settings, slots, i, Message::Done),
+        client::Sends::DoneAndWrite(pair) => {
+            broadcast(settings, slots, i, Message::Done);
+            broadcast(settings, slots, i, Message::WriteInfo(pair));
         }
     }
 }
 
-// What stands oldest on a channel.
-pub fn oldest(b: &Slots, c: usize) -> Unpacked
-    requires { ⌜ c < 156 ⌝ }
-    ensures { λ r. ⌜ r ≡ messageAt (now (b .entry)) c ⌝ }
+// What stands oldest on a channel to a server, and on one to a client: a message that goes that way.
+pub fn oldest_request(slots: &Slots, channel: usize) -> Unpacked
+    requires { ⌜ (channel < channels) × (goes false (messageAt (now slots) channel) ≡ true) ⌝ }
+    ensures { λ found. ⌜ found ≡ messageAt (now (slots .entry)) channel ⌝ }
 {
-    message::of_words(channel::oldest(b, c))
+    message::request_of(channel::oldest(slots, channel))
 }
 
-// Takes the oldest message off a channel if the reply to it fits; if not, the channel stays as it is.
-pub fn take_if(b: &mut Slots, c: usize, fits: bool)
-    requires { ⌜ c < 156 ⌝ }
-    ensures { λ r. ⌜ now (b .exit) ≡ cond fits (taken (now (b .entry)) c) (now (b .entry)) ⌝ }
+pub fn oldest_reply(slots: &Slots, channel: usize) -> Unpacked
+    requires { ⌜ (channel < channels) × (goes true (messageAt (now slots) channel) ≡ true) ⌝ }
+    ensures { λ found. ⌜ found ≡ messageAt (now (slots .entry)) channel ⌝ }
 {
-    if fits {
-        channel::take(b, c);
-    }
+    message::reply_of(channel::oldest(slots, channel))
 }
 
-// How many messages go to the client at place i when a server replies to client d.
-fn count_to(s: Sends, d: u8, i: usize) -> u64
-    requires { ⌜ i < 6 ⌝ }
-    ensures { λ r. ⌜ (r ≡ length (sentTo (suc i) (sentBy d s))) × (r ≤ 2) ⌝ }
+// How many messages go to the client at place `to` when a server forwards to a set and acknowledges to the
+// client at place i.
+fn count_to(set: u8, i: usize, to: usize) -> u64
+    requires { ⌜ (i < 6) × (to < 6) ⌝ }
+    ensures { λ count. ⌜ ((pair : Pair)
+        → count ≡ length (sentTo (suc to) (sentBy (suc i) (Sends.Forward set pair)))) × (count ≤ 2) ⌝ }
 {
-    let own = (d as usize == i + 1) as u64;
-    match s {
-        Sends::Nothing => 0,
-        Sends::Info(_t, _p) => own,
-        Sends::Forward(set, _p) => is_in(set as u64, i) as u64 + own,
-    }
+    is_in(set as u64, to) as u64 + (i == to) as u64
 }
 
-// Whether the channel from a server to a client drops, or has room for the server's reply to client d.
-fn has_room_from(stopped: u64, b: &Slots, i: usize, j: usize, d: u8, s: Sends) -> bool
-    requires { ⌜ (i < 6) × (j < 13) ⌝ }
-    ensures { λ r. ⌜ r ≡ (contains stopped (suc i)
-        || leb (countAt (now (b .entry)) (downIndex i j) + length (sentTo (suc i) (sentBy d s))) 8) ⌝ }
+// Whether the channel from a server to a client drops, or has room for more messages.
+fn has_room_from(stopped: u64, slots: &Slots, i: usize, j: usize, more: u64) -> bool
+    requires { ⌜ (i < 6) × (j < 13) × (more ≤ 8) ⌝ }
+    ensures { λ fits. ⌜ fits ≡ (contains stopped (suc i)
+        || leb (countAt (now (slots .entry)) (downIndex i j) + more) 8) ⌝ }
 {
-    is_in(stopped, i) | has_room(b, down(i, j), count_to(s, d, i))
+    is_in(stopped, i) | has_room(slots, down(i, j), more)
 }
 
-// Whether every channel from a server to a working client has room for the server's reply to client d.
-fn all_have_room(t: Settings, stopped: u64, b: &Slots, j: usize, d: u8, s: Sends) -> bool
-    requires { ⌜ (j < 13) × (t .clients ≤ 6) ⌝ }
-    ensures { λ r. ⌜ r ≡ inner.roomDown t stopped (now (b .entry)) j (sentBy d s) ⌝ }
+// Whether every channel from a server to a working client has room for what is forwarded, and for the
+// acknowledgement.
+fn all_have_room(
+    settings: Settings,
+    stopped: u64,
+    slots: &Slots,
+    i: usize,
+    j: usize,
+    set: u8,
+) -> bool
+    requires { ⌜ (i < 6) × (j < 13) × (settings .clients ≤ 6) ⌝ }
+    ensures { λ fits. ⌜ ((pair : Pair)
+        → fits ≡ memory.roomDown settings stopped (now (slots .entry)) j
+        (sentBy (suc i) (Sends.Forward set pair))) ⌝ }
 {
-    let n = t.clients as usize;
+    let n = settings.clients as usize;
     let mut fits = true;
-    let mut i = 0;
-    while i < n {
-        fits = fits & has_room_from(stopped, b, i, j, d, s);
-        i += 1;
+    let mut to = 0;
+    while to < n {
+        fits = fits & has_room_from(stopped, slots, to, j, count_to(set, i, to));
+        to += 1;
     }
     fits
 }
 
-// The same, where no channel holds more than its slots: there is room where nothing is sent, and for an INFO if there is on its own
-// channel.
-pub fn has_room_down(t: Settings, stopped: u64, b: &Slots, j: usize, d: u8, s: Sends) -> bool
-    requires { ⌜ (j < 13) × (t .clients ≤ 6) × (1 ≤ d) × (d ≤ 6) × CountsFit (now b) ⌝ }
-    ensures { λ r. ⌜ r ≡ inner.roomDown t stopped (now (b .entry)) j (sentBy d s) ⌝ }
-{
-    match s {
-        Sends::Nothing => true,
-        Sends::Info(_t, _p) => {
-            if has_room_from(stopped, b, (d - 1) as usize, j, d, s) {
-                return true;
-            }
-            all_have_room(t, stopped, b, j, d, s)
-        }
-        Sends::Forward(_set, _p) => all_have_room(t, stopped, b, j, d, s),
-    }
-}
-
 // A message on the channel from a server to a client, unless the client has stopped.
-fn send_one(stopped: u64, b: &mut Slots, i: usize, j: usize, m: Message)
+fn send_one(stopped: u64, slots: &mut Slots, i: usize, j: usize, message: Message)
     requires { ⌜ (i < 6) × (j < 13) ⌝ }
-    ensures { λ r. ⌜ now (b .exit) ≡ inner.sendOne stopped (now (b .entry)) j (sent (suc i) m) ⌝ }
+    ensures { λ r. ⌜ now (slots .exit) ≡ memory.sendOne stopped (now (slots .entry)) j
+        (sent (suc i) message) ⌝ }
 {
     if !is_in(stopped, i) {
-        channel::put(b, down(i, j), message::words_of(m));
+        channel::put(slots, down(i, j), message::words_of(message));
     }
 }
 
 // FWD of a pair on the channels from a server to the working clients of a set, lowest first.
-fn forward(stopped: u64, b: &mut Slots, j: usize, set: u8, p: Pair)
+fn forward(stopped: u64, slots: &mut Slots, j: usize, set: u8, pair: Pair)
     requires { ⌜ j < 13 ⌝ }
-    ensures { λ r. ⌜ now (b .exit) ≡ inner.sendDown stopped (now (b .entry)) j (forwards (contains set) p 6) ⌝ }
+    ensures { λ r. ⌜ now (slots .exit) ≡ memory.sendDown stopped (now (slots .entry)) j
+        (forwards (contains set) pair 6) ⌝ }
 {
     let mut i = 0;
     while i < 6 {
         if is_in(set as u64, i) {
-            send_one(stopped, b, i, j, Message::Fwd(p));
+            send_one(stopped, slots, i, j, Message::Fwd(pair));
         }
         i += 1;
     }
 }
 
-// A server's reply to the client at place i.
-pub fn reply(stopped: u64, b: &mut Slots, i: usize, j: usize, s: Sends)
+// One message replied: the oldest message from the client at place i goes off its channel, and the reply on
+// the one back. Without room for it nothing changes, and the answer is false.
+fn reply_one(stopped: u64, slots: &mut Slots, i: usize, j: usize, message: Message) -> bool
     requires { ⌜ (i < 6) × (j < 13) ⌝ }
-    ensures { λ r. ⌜ now (b .exit) ≡ inner.sendDown stopped (now (b .entry)) j (sentBy (suc i) s) ⌝ }
+    ensures { λ fits. ⌜ (fits ≡ (contains stopped (suc i)
+        || leb (countAt (now (slots .entry)) (downIndex i j) + 1) 8))
+        × (now (slots .exit) ≡ cond fits
+        (memory.sendOne stopped (taken (now (slots .entry)) (upIndex i j)) j (sent (suc i) message))
+        (now (slots .entry))) ⌝ }
 {
-    match s {
-        Sends::Nothing => {}
-        Sends::Info(t, p) => send_one(stopped, b, i, j, Message::Info(t, p)),
-        Sends::Forward(set, p) => {
-            forward(stopped, b, j, set, p);
-            send_one(stopped, b, i, j, Message::WriteAck(message::counter_of(p)));
+    if is_in(stopped, i) {
+        channel::take(slots, up(i, j));
+        return true;
+    }
+    let to = down(i, j);
+    if !has_room(slots, to, 1) {
+        return false;
+    }
+    channel::take(slots, up(i, j));
+    channel::put(slots, to, message::words_of(message));
+    true
+}
+
+// The same of a pair forwarded to a set of clients, and acknowledged.
+fn reply_all(
+    settings: Settings,
+    stopped: u64,
+    slots: &mut Slots,
+    i: usize,
+    j: usize,
+    set: u8,
+    pair: Pair,
+) -> bool
+    requires { ⌜ (i < 6) × (settings .clients ≤ 6) × (j < 13) ⌝ }
+    ensures { λ fits. ⌜ memory.Delivered settings stopped (now (slots .entry)) i j
+        (sentBy (suc i) (Sends.Forward set pair)) fits (now (slots .exit)) ⌝ }
+{
+    if !all_have_room(settings, stopped, slots, i, j, set) {
+        return false;
+    }
+    channel::take(slots, up(i, j));
+    forward(stopped, slots, j, set, pair);
+    send_one(
+        stopped,
+        slots,
+        i,
+        j,
+        Message::WriteAck(message::counter_of(pair)),
+    );
+    true
+}
+
+// The same of whatever a server replies to the client at place i, which exists.
+pub fn deliver(
+    settings: Settings,
+    stopped: u64,
+    slots: &mut Slots,
+    i: usize,
+    j: usize,
+    reply: Sends,
+) -> bool
+    requires { ⌜ (i < settings .clients) × (settings .clients ≤ 6) × (j < 13) × CountsFit (now slots) ⌝ }
+    ensures { λ fits. ⌜ memory.Delivered settings stopped (now (slots .entry)) i j (sentBy (suc i) reply) fits
+        (now (slots .exit)) ⌝ }
+{
+    match reply {
+        Sends::Nothing => {
+            channel::take(slots, up(i, j));
+            true
         }
+        Sends::Info(number, pair) => reply_one(stopped, slots, i, j, Message::Info(number, pair)),
+        Sends::Forward(set, pair) => reply_all(settings, stopped, slots, i, j, set, pair),
     }
 }
 
 // The channels to a client emptied.
-pub fn empty_down(t: Settings, b: &mut Slots, i: usize)
-    requires { ⌜ (i < 6) × (t .f ≤ 4) ⌝ }
-    ensures { λ r. ⌜ now (b .exit) ≡ inner.emptied (now (b .entry)) i (size (t .f)) ⌝ }
+pub fn empty_down(settings: Settings, slots: &mut Slots, i: usize)
+    requires { ⌜ (i < 6) × (settings .f ≤ 4) ⌝ }
+    ensures { λ r. ⌜ now (slots .exit) ≡ memory.emptied (now (slots .entry)) i (size (settings .f)) ⌝ }
 {
-    let n = register::servers(t.f) as usize;
+    let n = register::servers(settings.f) as usize;
     let mut j = 0;
     while j < n {
-        channel::clear(b, down(i, j));
+        channel::clear(slots, down(i, j));
         j += 1;
     }
 }

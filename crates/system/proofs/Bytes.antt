@@ -2,15 +2,9 @@
 --
 -- Why: the first word of eleven bytes has 24 bits, and the one that stands for all others has 25.
 -- Assumes nothing.
-use mathlib.Core.Path.{_≡_, ap, _∙_}
-use mathlib.Core.Bool.{true, cond}
-use mathlib.Core.List.{List, []}
-use Prim.Native.Nat.{ℕ, _/_, _^_, _<_}
-use native.Mathlib.Omega.{arith}
-use lib.Dec.{eqb}
-use lib.ListN.{length}
+use Rattle.basics.proofs.Prelude.{_≡_, ap, _∙_, true, cond, List, [], length, ℕ, _/_, _^_, _<_, arith, eqb}
+use Rattle.basics.proofs.Prelude.{eqb-true, lt-ltb}
 use lib.Pow.{areBytes}
-use borrow.Author.Tests.{eqb-true, lt-ltb}
 use Rattle.basics.specs.Bytes.{bigEndian, spelt}
 use Rattle.basics.proofs.Bytes.{spelt-lt, bytes-back}
 use Rattle.basics.proofs.Cases.{by-test}

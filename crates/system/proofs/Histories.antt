@@ -6,11 +6,8 @@
 -- from the new world that the setup stored. So demand 3, which the model has for every list, speaks of the
 -- answers that the steps gave.
 -- Assumes nothing.
-use mathlib.Core.Path.{_≡_, refl, sym, ap, subst, _∙_}
-use mathlib.Core.Bool.{true}
-use mathlib.Core.List.{List, [], _∷_, map}
-use Prim.Native.Nat.{ℕ, zero, suc}
-use lib.ListN.{getD}
+use Rattle.basics.proofs.Prelude.{_≡_, refl, sym, ap, _∙_, subst, true, List, [], _∷_, getD, ℕ, zero, suc}
+use mathlib.Core.List.{map}
 use Rattle.register.specs.declared.Step.{Step}
 use Rattle.register.specs.Formats.{formats}
 use Rattle.register.specs.History.{worldAt, eventAt}
@@ -27,7 +24,7 @@ use Rattle.state.proofs.SoundFacts.{Allowed, facts}
 use Rattle.state.proofs.StoredSound.{stored-state}
 use Rattle.state.proofs.Viewed.{view-stored}
 use Rattle.state.proofs.WellViewed.{well-view}
-use Rattle.steps.specs.Inner.{After}
+use Rattle.steps.specs.After.{After}
 use Rattle.system.specs.declared.setup.Setup.the-variants.{Set}
 use Rattle.system.specs.Along.{stepAt, Memory, startOf, stepFrom, stateAt, AlongSteps}
 use Rattle.system.specs.Setup.{setupOf, setUpBy}
@@ -39,8 +36,10 @@ use Rattle.system.proofs.Turn.{eventIn}
 
 -- ---- one step of a stored world
 
-module _ (t : Settings) (allowed : Allowed t) (w : World) (well : WellFormed (settingsOf t) formats w) (x : Step) where
-  pub stored-stepped : stepped t (storeServers w) (storeClients w) (storeSlots w) x ≡ storedBy t w (eventIn t w x)
+module _ (t : Settings) (allowed : Allowed t) (w : World) (well : WellFormed (settingsOf t) formats w)
+    (x : Step) where
+  pub stored-stepped : stepped t (storeServers w) (storeClients w) (storeSlots w) x
+      ≡ storedBy t w (eventIn t w x)
   stored-stepped =
       sound-step t (storeServers w) (storeClients w) (storeSlots w) (stored-state t allowed w well) x
       ∙ ap (λ (v : World). storedBy t v (eventIn t v x)) (view-stored t (allowed .accepted) w well)
@@ -100,12 +99,7 @@ module _ (t : Settings) (allowed : Allowed t) (start : Memory) (xs : List Step) 
     unfolding stateAt worldAt
     stands zero = new
     stands (suc i) =
-        let e = gives i (stands i) in
-        record {
-          servers = ap (λ (z : After). z .servers) e;
-          clients = ap (λ (z : After). z .clients) e;
-          slots = ap (λ (z : After). z .slots) e;
-        }
+        let e = gives i (stands i) in record { servers = cc; clients = cc; slots = cc }
 
     from-new : AlongSteps t start xs
     from-new =

@@ -1,18 +1,13 @@
 -- A sound state has what a step asks of it; so has the memory of a well-formed world.
 --
--- Why: soundness tests every client and every channel, of which those that are not used must be empty; and the servers are those
--- of a stored world (`state`).
+-- Why: soundness tests every client and every channel, of which those that are not used must be empty; and
+-- the servers are those of a stored world (`state`).
 -- Assumes nothing.
-use mathlib.Core.Path.{_≡_, sym, ap, subst, _∙_}
-use mathlib.Core.Bool.{true, _||_, _&&_}
-use mathlib.Core.List.{List}
-use Prim.Native.Nat.{ℕ, suc, _≤_, _<_}
-use lib.Dec.{eqb, ltb}
-use lib.ListN.{getD}
-use borrow.Author.Tests.{eqb-true}
+use Rattle.basics.proofs.Prelude.{_≡_, sym, ap, _∙_, subst, true, _&&_, _||_, List, getD, ℕ, suc, _≤_, _<_}
+use Rattle.basics.proofs.Prelude.{eqb, ltb, eqb-true}
 use Rattle.basics.proofs.Cases.{by-test, both, true-or-false}
 use Rattle.channel.specs.Memory.{countAt}
-use Rattle.channel.proofs.Messages.{counts-fit}
+use Rattle.channel.proofs.Messages.{counts-fit, oldest-goes}
 use Rattle.register.specs.Formats.{formats}
 use Rattle.register.specs.Settings.{isHonest}
 use Rattle.register.specs.World.{World}
@@ -36,14 +31,15 @@ module _ (t : Settings) (s c b : List ℕ) (f : Facts t s c b) where
   server-sound : (j : ℕ) → j < 13 → server.isSound (serverAt s j) ≡ true
   server-sound j less =
       let w = view s c b in
-      let there = ap (λ (l : List ℕ). serverAt l j) (sym (servers-back t s c b f) ∙ servers-are w) ∙ server-there (w .servers) j less in
-      ap server.isSound there ∙ store-sound (w .servers (suc j))
+      ap (λ (l : List ℕ). server.isSound (serverAt l j)) (sym (servers-back t s c b f) ∙ servers-are w)
+      ∙ ap server.isSound (server-there (w .servers) j less) ∙ store-sound (w .servers (suc j))
 
   client-sound : (i : ℕ) → i < 6 → isSoundMemory (t .f) (clientAt c i) ≡ true
   unfolding isClientSound
   client-sound i less =
       let m = clientAt c i in
-      both (isSoundMemory (t .f) m) (ltb i (t .clients) || (eqb (getD m 0 0) 0 && eqb (getD m 1 0) 0)) (f .client i less) .0
+      let unused = eqb (getD m 0 0) 0 && eqb (getD m 1 0) 0 in
+      both (isSoundMemory (t .f) m) (ltb i (t .clients) || unused) (f .client i less) .0
 
   -- a channel that is not used is empty
   spare-empty : SpareEmpty t b
@@ -71,6 +67,7 @@ module _ (t : Settings) (s c b : List ℕ) (f : Facts t s c b) where
         client = client-sound;
         counts = counts-fit b (f .channels);
         spare = spare-empty;
+        ways = oldest-goes b (f .channels);
       }
 
 -- ---- the memory of a well-formed world
@@ -81,4 +78,5 @@ module _ (t : Settings) (allowed : Allowed t) (w : World) (well : WellFormed (se
       ready t s c b
       (subst (λ (z : List ℕ). Facts t z c b) (sym (st .servers))
       (subst (λ (z : List ℕ). Facts t (storeServers w) z b) (sym (st .clients))
-      (subst (λ (z : List ℕ). Facts t (storeServers w) (storeClients w) z) (sym (st .slots)) (stored-facts t allowed w well))))
+      (subst (λ (z : List ℕ). Facts t (storeServers w) (storeClients w) z) (sym (st .slots))
+      (stored-facts t allowed w well))))

@@ -5,18 +5,14 @@
 -- state. No event but a refusal answers with one: what a client takes is shown, written, spent or goes on
 -- (`refused-event`).
 -- Assumes nothing.
-use mathlib.Core.Path.{_≡_, refl, sym, ap, _∙_}
-use mathlib.Core.Bool.{true, false}
-use mathlib.Core.List.{List}
-use mathlib.Core.Option.{Option, none, some}
-use Prim.Native.Nat.{ℕ}
+use Rattle.basics.proofs.Prelude.{_≡_, refl, sym, ap, _∙_, true, false, List, Option, none, some, ℕ}
 use Rattle.basics.proofs.Cases.{by-test, clash}
 use Rattle.refusal.specs.declared.Refusal.{Refusal}
 use Rattle.message.specs.declared.Message.{Message}
 use Rattle.register.specs.declared.Answer.{Answer}
 use Rattle.register.specs.declared.Answer.the-variants.{Refused}
 use Rattle.register.specs.declared.Step.{Step}
-use Rattle.register.specs.Client.{Client, Taken}
+use Rattle.register.specs.Client.{Client, Response}
 use Rattle.register.specs.Formats.{formats}
 use Rattle.register.specs.Settings.{Settings}
 use Rattle.register.specs.Steps.{refusalOf, accepted, decided, eventOf}
@@ -31,13 +27,13 @@ use Rattle.state.specs.Sound.{isSound}
 use Rattle.state.specs.State.{settingsOf, stepOf, storeServers, storeClients, storeSlots, view}
 use Rattle.state.proofs.SoundFacts.{facts}
 use Rattle.state.proofs.Restored.{servers-back, clients-back, slots-back}
-use Rattle.steps.specs.Inner.{After, after, unless}
+use Rattle.steps.specs.After.{After, after, unless}
 use Rattle.system.specs.Step.{storedBy, stepped}
 use Rattle.system.proofs.Turn.{eventIn}
 
 module _ (S : Settings) (w : World) where
   -- a client that takes a message does not refuse
-  goes : (d : ℕ) (x : Client) (k : ℕ) (m : Message) (o : Taken) (n : Refusal) → Outcome S d x k m o
+  goes : (d : ℕ) (x : Client) (k : ℕ) (m : Message) (o : Response) (n : Refusal) → Outcome S d x k m o
       → o .answer ≡ Refused n → ⊥
   goes d x k m o n (dropped u) e = clash (cc)
   goes d x k m o n (waits y g r c) e = clash (cc)
@@ -77,9 +73,12 @@ module _ (t : code.Settings) (s c b : List ℕ) (sound : isSound t s c b ≡ tru
   unfolding answerOf
   refusal-stored n =
       let f = facts t s c b sound in
-      let at : World → After = λ v. after (Refused n) (storeServers v) (storeClients v) (storeSlots v) in
-      ap at (nothing (settingsOf t) w n)
-      ∙ (λ q. after (Refused n) (servers-back t s c b f q) (clients-back t s c b f q) (slots-back t s c b f q))
+      let servers = servers-back t s c b f in
+      let clients = clients-back t s c b f in
+      let slots = slots-back t s c b f in
+      ap (λ (v : World). after (Refused n) (storeServers v) (storeClients v) (storeSlots v))
+      (nothing (settingsOf t) w n)
+      ∙ (λ q. after (Refused n) (servers q) (clients q) (slots q))
 
   by-ladder : (o : Option Refusal) (e : Event)
       → unless o (λ a. after a s c b) (storedBy t w e) ≡ storedBy t w (decided (settingsOf t) formats o e)

@@ -1,17 +1,11 @@
 -- What three numbers set up, test by test; settings that are accepted are allowed; and what `set_up` leaves.
 --
--- Why: numbers of more than eight bits are out of range too (`over-f`, `over-clients`). All others have room in
--- the settings, and for these the tests are the ladder's. What `set_up` leaves is one equation; here are its
--- parts.
+-- Why: numbers of more than eight bits are out of range too (`over-f`, `over-clients`). All others have room
+-- in the settings, and for these the tests are the ladder's. What `set_up` leaves is one equation; here are
+-- its parts.
 -- Assumes nothing.
-use mathlib.Core.Path.{_≡_, refl, sym, ap, subst, _∙_}
-use mathlib.Core.Bool.{true, false}
-use mathlib.Core.List.{List}
-use mathlib.Core.Option.{Option, none, some}
-use Prim.Native.Nat.{ℕ, _≤_, _<_}
-use native.Mathlib.Omega.{arith}
-use lib.Dec.{leb, ltb}
-use borrow.Author.Tests.{ltb-true, lt-ltb, le-ltb, le-leb, lt-leb}
+use Rattle.basics.proofs.Prelude.{_≡_, refl, sym, ap, _∙_, subst, true, false, List, Option, none, some, ℕ}
+use Rattle.basics.proofs.Prelude.{_≤_, _<_, arith, leb, ltb, le-leb, lt-leb, ltb-true, lt-ltb, le-ltb}
 use Rattle.basics.proofs.Cases.{by-test, clash}
 use Rattle.refusal.specs.declared.Refusal.{Refusal}
 use Rattle.refusal.specs.declared.Refusal.the-variants.{BadSettings, TooManyFaulty}

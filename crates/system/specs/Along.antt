@@ -17,7 +17,7 @@ use Rattle.register.specs.Formats.{formats}
 use Rattle.register.specs.History.{worldAt, answerAt}
 use Rattle.state.specs.declared.Settings.{Settings}
 use Rattle.state.specs.State.{settingsOf, stepOf}
-use Rattle.steps.specs.Inner.{After}
+use Rattle.steps.specs.After.{After}
 use Rattle.system.specs.Setup.{SetUp}
 use Rattle.system.specs.Step.{stepped}
 use Rattle.system.specs.Stored.{Stored}

@@ -1,7 +1,8 @@
--- A whole run in lent memory (01, 'The words of demand 3'): a list of steps in numbers, from a setup, and their answers in
--- numbers.
+-- A whole run in lent memory (01, 'The words of demand 3'): a list of steps in numbers, from a setup, and
+-- their answers in numbers.
 --
--- In order: a step; an answer; how many steps there are; the list; what a run leaves; what it gives for a setup.
+-- In order: a step; an answer; how many steps there are; the list; what a run leaves; what it gives for a
+-- setup.
 -- Assumes nothing.
 use Prim.Native.Nat.{ℕ, zero, suc, _+_, _-_, _*_, _/_, _^_, min}
 use mathlib.Core.Path.{_≡_}
@@ -25,37 +26,46 @@ use Rattle.state.specs.declared.Settings.{Settings}
 use Rattle.state.specs.State.{settingsOf, stepOf}
 use Rattle.system.specs.Stored.{Stored}
 
--- ---- a step in five numbers: its kind, 0 to 5 for R, W, K, D, C, L, and its arguments; a message is its two words
+-- ---- a step in five numbers: its kind, 0 to 5 for R, W, K, D, C, L, and its arguments; a message is two of
+-- them
+
+-- how many numbers a step has, and an answer
+abbrev pub stepNumbers : ℕ
+stepNumbers = 5
+
+abbrev pub answerNumbers : ℕ
+answerNumbers = 2
 
 -- an argument of 32 bits; a larger one is the highest, which is no client, no server and no message
-abbrev pub narrowed : ℕ → ℕ
-narrowed a = cond (ltb a (2 ^ 32)) a (2 ^ 32 - 1)
+abbrev pub clamped : ℕ → ℕ
+clamped number = cond (ltb number (2 ^ 32)) number (2 ^ 32 - 1)
 
 -- another kind is R 0, which every state refuses
-unfoldable pub stepBy : ℕ → ℕ → ℕ → ℕ → ℕ → Step
-stepBy kind p q u v =
-    cond (eqb kind 0) (R (narrowed p))
-    (cond (eqb kind 1) (W (narrowed p) (record { 0 = q }))
-    (cond (eqb kind 2) (K (narrowed p) (narrowed q))
-    (cond (eqb kind 3) (D (narrowed p) (narrowed q))
-    (cond (eqb kind 4) (C (narrowed p))
-    (cond (eqb kind 5) (L (narrowed p) (narrowed q) (record { 0 = narrowed u; 1 = v })) (R 0))))))
+abbrev pub stepBy : ℕ → ℕ → ℕ → ℕ → ℕ → Step
+stepBy kind first second high low =
+    cond (eqb kind 0) (R (clamped first))
+    (cond (eqb kind 1) (W (clamped first) (record { 0 = second }))
+    (cond (eqb kind 2) (K (clamped first) (clamped second))
+    (cond (eqb kind 3) (D (clamped first) (clamped second))
+    (cond (eqb kind 4) (C (clamped first))
+    (cond (eqb kind 5) (L (clamped first) (clamped second) (record { 0 = clamped high; 1 = low })) (R 0))))))
 
 -- step i of the list
-unfoldable pub stepIn : List ℕ → ℕ → Step
+abbrev pub stepIn : List ℕ → ℕ → Step
 stepIn xs i =
-    stepBy (getD xs (i * 5) 0) (getD xs (i * 5 + 1) 0) (getD xs (i * 5 + 2) 0) (getD xs (i * 5 + 3) 0) (getD xs (i * 5 + 4) 0)
+    let at = i * stepNumbers in
+    stepBy (getD xs at 0) (getD xs (at + 1) 0) (getD xs (at + 2) 0) (getD xs (at + 3) 0) (getD xs (at + 4) 0)
 
 -- ---- an answer in two numbers: which it is, and the pair that READ or WROTE shows
 
-unfoldable pub codeOf : Answer → ℕ
+abbrev pub codeOf : Answer → ℕ
 codeOf Went = 0
 codeOf (Read p) = 1
 codeOf (Wrote p) = 2
 codeOf Spent = 3
 codeOf (Refused n) = 16 + numberOf n
 
-unfoldable pub shownBy : Answer → ℕ
+abbrev pub shownBy : Answer → ℕ
 shownBy Went = 0
 shownBy (Read p) = p .0
 shownBy (Wrote p) = p .0
@@ -64,7 +74,8 @@ shownBy (Refused n) = 0
 
 -- the answers of the first n steps, written over what memory held
 abbrev pub putAnswer : List ℕ → ℕ → Answer → List ℕ
-putAnswer out i a = set (set out (i * 2) (codeOf a)) (i * 2 + 1) (shownBy a)
+putAnswer out i a =
+    let at = i * answerNumbers in set (set out at (codeOf a)) (at + 1) (shownBy a)
 
 unfoldable pub answered : (ℕ → Answer) → List ℕ → ℕ → List ℕ
 answered a out zero = out
@@ -74,7 +85,7 @@ answered a out (suc n) = putAnswer (answered a out n) n (a n)
 
 -- as many steps as the list has whole, and as there is room for answers
 unfoldable pub howMany : List ℕ → List ℕ → ℕ
-howMany xs out = min (length xs / 5) (length out / 2)
+howMany xs out = min (length xs / stepNumbers) (length out / answerNumbers)
 
 -- the first n steps of the list
 unfoldable pub stepsIn : List ℕ → ℕ → List steps.Step

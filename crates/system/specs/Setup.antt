@@ -9,7 +9,7 @@ use mathlib.Core.Option.{Option, none, some}
 use lib.Dec.{ltb}
 use Rattle.refusal.specs.declared.Refusal.{Refusal}
 use Rattle.refusal.specs.Numbers.{numbered}
-use Rattle.register.specs.Settings.{marks, setupRefusal}
+use Rattle.register.specs.Settings.{mostServers, setupRefusal}
 use Rattle.register.specs.World.{newWorld}
 use Rattle.system.specs.declared.setup.Setup.{Setup}
 use Rattle.system.specs.declared.setup.Setup.the-variants.{Set, Refused}
@@ -29,7 +29,7 @@ unlessRefused (some n) t = Refused n
 unfoldable pub setupOf : ℕ → ℕ → ℕ → Setup
 setupOf f clients faulty =
     unlessRefused
-    (cond (ltb faulty (2 ^ marks)) (setupRefusal (settingsOf (settingsBy f clients faulty)))
+    (cond (ltb faulty (2 ^ mostServers)) (setupRefusal (settingsOf (settingsBy f clients faulty)))
     (some (numbered 1)))
     (settingsBy f clients faulty)
 

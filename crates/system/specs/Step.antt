@@ -21,16 +21,16 @@ use Rattle.register.specs.World.{World, Event, apply, answerOf}
 use Rattle.state.specs.declared.Settings.{Settings}
 use Rattle.state.specs.Sound.{isSound}
 use Rattle.state.specs.State.{settingsOf, stepOf, storeServers, storeClients, storeSlots, view}
-use Rattle.steps.specs.Inner.{After, after, unless}
+use Rattle.steps.specs.After.{After, after, unless}
 
 -- what an event answers, and the next world stored
 abbrev pub storedBy : Settings → World → Event → After
 storedBy t w e =
-    after (answerOf (settingsOf t) w e) (storeServers (apply (settingsOf t) w e)) (storeClients (apply (settingsOf t) w e))
-    (storeSlots (apply (settingsOf t) w e))
+    let next = apply (settingsOf t) w e in
+    after (answerOf (settingsOf t) w e) (storeServers next) (storeClients next) (storeSlots next)
 
--- an unsound state is refused (3), all as it was; a sound one is refused by the model's ladder, all as it was,
--- or else takes the model's accepted step, stored
+-- an unsound state is refused (3), all as it was; a sound one is refused by the model's ladder, all as it
+-- was, or else makes the model's accepted step, stored
 unfoldable pub stepped : Settings → List ℕ → List ℕ → List ℕ → Step → After
 stepped t s c b x =
     cond (isSound t s c b)

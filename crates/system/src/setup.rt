@@ -19,57 +19,60 @@ pub enum Setup {
 // The first number that has a bit beyond the 13 marks.
 const OVER_MARKS: u32 = 8192;
 
-// The highest number of eight bits: f and the clients have so many in the settings.
-const HIGHEST: u32 = 255;
+// The highest number of eight bits, which f and the clients have in the settings.
+const MAX_BYTE: u32 = 255;
 
-// The settings that three numbers are, or why they are refused: 1, 2. A number that has no room in the settings is refused 1.
+// The settings that three numbers are, or why they are refused: 1, 2. A number that has no room in the
+// settings is refused 1.
 fn settings_of(f: u32, clients: u32, faulty: u32) -> Setup
     ensures { λ r. ⌜ r ≡ setupOf f clients faulty ⌝ }
 {
     if OVER_MARKS <= faulty {
         return Setup::Refused(Refusal::BadSettings);
     }
-    if HIGHEST < f {
+    if MAX_BYTE < f {
         return Setup::Refused(Refusal::BadSettings);
     }
-    if HIGHEST < clients {
+    if MAX_BYTE < clients {
         return Setup::Refused(Refusal::BadSettings);
     }
-    let t = Settings {
+    let settings = Settings {
         f: f as u8,
         clients: clients as u8,
         faulty: faulty as u16,
     };
-    let fine = is_in_range(t);
-    let many = f < count_faulty(t);
+    let fine = is_in_range(settings);
+    let many = f < count_faulty(settings);
     if !fine {
         Setup::Refused(Refusal::BadSettings)
     } else if many {
         Setup::Refused(Refusal::TooManyFaulty)
     } else {
-        Setup::Set(t)
+        Setup::Set(settings)
     }
 }
 
-// A setup: refused (1, 2) with the memory as it was, or accepted with all zero, the state at setup.
+// A setup of f, a count of clients and the faulty servers: refused (1, 2) with the memory as it was, or
+// accepted with all zero, the state at setup.
 pub fn set_up(
     f: u32,
-    clients: u32,
+    count: u32,
     faulty: u32,
-    s: &mut Servers,
-    c: &mut Clients,
-    b: &mut Slots,
+    servers: &mut Servers,
+    clients: &mut Clients,
+    slots: &mut Slots,
 ) -> Setup
-    ensures { λ r. ⌜ setUp r (now (s .exit)) (now (c .exit)) (now (b .exit))
-        ≡ setUpBy (setupOf f clients faulty) (now (s .entry)) (now (c .entry)) (now (b .entry)) ⌝ }
+    ensures { λ r. ⌜ setUp r (now (servers .exit)) (now (clients .exit)) (now (slots .exit))
+        ≡ setUpBy (setupOf f count faulty)
+        (now (servers .entry)) (now (clients .entry)) (now (slots .entry)) ⌝ }
 {
-    let setup = settings_of(f, clients, faulty);
+    let setup = settings_of(f, count, faulty);
     match setup {
         Setup::Refused(_) => {}
         Setup::Set(_) => {
-            *s = [0u64; 26];
-            *c = [0u64; 571];
-            *b = [0u64; 2652];
+            *servers = [0u64; 26];
+            *clients = [0u64; 571];
+            *slots = [0u64; 2652];
         }
     }
     setup

@@ -1,7 +1,7 @@
-// One step of a whole state, for any state and any arguments (01, 'Rehearsal' and the table). A caller that keeps its state to
-// itself takes the steps of the crate `steps` and need not have it tested again.
+// One step of a whole state, for any state and any arguments (01, 'Rehearsal' and the table). A caller that
+// keeps its state to itself uses the crate `steps`, which does not test it again.
 ghost use mathlib.Core.Path.{_≡_};
-ghost use Rattle.steps.specs.Inner.{after};
+ghost use Rattle.steps.specs.After.{after};
 ghost use Rattle.system.specs.Step.{stepped, wordsIn};
 use channel::Slots;
 use message::Words;
@@ -14,28 +14,34 @@ use state::Settings;
 use steps::step::take_step;
 
 // Bytes of a message.
-const MESSAGE: usize = 11;
+const MESSAGE_BYTES: usize = 11;
 
 // A first word that no message has: 2 to the power of 24.
 const NO_WORD: u32 = 16777216;
 
-// One step. An unsound state is refused (3); a refusal leaves the memory as it was. The memory does not hold the settings: a caller
-// gives those of the setup at each call.
-pub fn step(t: Settings, x: Step, s: &mut Servers, c: &mut Clients, b: &mut Slots) -> Answer
-    ensures { λ r. ⌜ after r (now (s .exit)) (now (c .exit)) (now (b .exit))
-        ≡ stepped t (now (s .entry)) (now (c .entry)) (now (b .entry)) x ⌝ }
+// One step. An unsound state is refused (3); a refusal leaves the memory as it was. The memory does not
+// hold the settings: a caller gives those of the setup at each call.
+pub fn step(
+    settings: Settings,
+    asked: Step,
+    servers: &mut Servers,
+    clients: &mut Clients,
+    slots: &mut Slots,
+) -> Answer
+    ensures { λ r. ⌜ after r (now (servers .exit)) (now (clients .exit)) (now (slots .exit))
+        ≡ stepped settings (now (servers .entry)) (now (clients .entry)) (now (slots .entry)) asked ⌝ }
 {
-    if !state::sound::is_sound(t, s, c, b) {
+    if !state::sound::is_sound(settings, servers, clients, slots) {
         return Answer::Refused(Refusal::Unsound);
     }
-    take_step(t, x, s, c, b)
+    take_step(settings, asked, servers, clients, slots)
 }
 
 // Any bytes as the message of L: eleven as two words, and for all others words that stand for none.
 pub fn lie_words(bytes: &[u8]) -> Words
     ensures { λ w. ⌜ w ≡ wordsIn (now (bytes .entry)) ⌝ }
 {
-    if bytes.len() != MESSAGE {
+    if bytes.len() != MESSAGE_BYTES {
         return Words(NO_WORD, 0);
     }
     message::load(bytes, 0)

@@ -1,13 +1,8 @@
 -- `byte`: a mask of eight ones is the remainder by 256.
-use Prim.Native.Nat.{_/_, _^_}
+use Rattle.basics.proofs.Prelude.{_/_, _^_, arith, needs}
 use lib.Bits.{and-mask, mask-lt}
-use native.Mathlib.Omega.{arith}
-use borrow.Author.Needs.{needs}
 use Rattle.basics.proofs.byte.Statement.{statement}
 use Rattle.basics.proofs.byte.Tie as tie
-
-shr-result : tie.Need-shr-result
-shr-result c = search needs
 
 cast-result : tie.Need-cast-result
 cast-result c = omega (arith, mask-lt (c .args .x / 2 ^ c .args .k) 8)
@@ -16,4 +11,4 @@ returns : tie.Need-returns
 returns c = and-mask (c .args .x / 2 ^ c .args .k) 8
 
 pub byte-spec : {M : Type 1} → statement M
-byte-spec = tie.close (tie.spec shr-result cast-result returns)
+byte-spec = tie.close (tie.spec (search needs) cast-result returns)

@@ -1,7 +1,5 @@
 -- `push`: the number moved eight bits up has zeros where the byte goes.
-use Prim.Native.Nat.{ℕ}
-use mathlib.Core.Path.{ap, _∙_}
-use borrow.Author.Needs.{needs}
+use Rattle.basics.proofs.Prelude.{ap, _∙_, ℕ, needs}
 use lib.Dec.{lit≤}
 use lib.Pow.{shl-exact}
 use lib.Bits.{bitOr, or-shifted}

@@ -1,12 +1,7 @@
 -- `days_before`: both rows are tested against the rule at once, and `row-entry` carries the test to the entry
 -- that is read.
-use mathlib.Core.Path.{_≡_, refl, ap}
-use mathlib.Core.Bool.{Bool, true, false}
-use Prim.Native.Nat.{ℕ, _<_}
-use native.Mathlib.Omega.{arith}
-use lib.Dec.{eqb}
+use Rattle.basics.proofs.Prelude.{_≡_, refl, ap, Bool, true, false, ℕ, _<_, arith, eqb, needs}
 use mir.Val.{boolByte}
-use borrow.Author.Needs.{needs}
 use Rattle.basics.proofs.Table.{row-entry}
 use Rattle.calendar.specs.Calendar.{daysBefore, monthLength}
 use Rattle.calendar.proofs.days_before.Statement.{statement}
@@ -20,12 +15,6 @@ row-less false = omega arith
 row-back : (b : Bool) → eqb (boolByte b) 1 ≡ b
 row-back true = refl
 row-back false = refl
-
-mul-result : tie.Need-mul-result
-mul-result c = omega (arith, row-less (c .args .leap))
-
-index-1-result : tie.Need-index-1-result
-index-1-result c = omega (arith, row-less (c .args .leap))
 
 returns : tie.Need-returns
 unfolding daysBefore monthLength
@@ -41,4 +30,8 @@ pub days-before-spec : {M : Type 1} → statement M
 days-before-spec =
     tie.close
     (tie.spec
-    (λ c. search needs) mul-result (λ c. search needs) index-1-result (λ c. search needs) returns)
+    (λ c. search needs)
+    (λ c. omega (arith, row-less (c .args .leap)))
+    (λ c. search needs)
+    (λ c. omega (arith, row-less (c .args .leap)))
+    (λ c. search needs) returns)

@@ -1,18 +1,8 @@
 -- `month_length`: each arm of the match knows which months lead to it.
-use mathlib.Core.Logic.{⊎-elim, inl, inr}
-use mathlib.Core.Path.{_≡_}
-use borrow.Author.Tests.{ne-eqb}
+use Rattle.basics.proofs.Prelude.{_≡_, inl, inr, ⊎-elim, ne-eqb}
 use Rattle.calendar.specs.Calendar.{monthLength}
 use Rattle.calendar.proofs.month_length.Statement.{statement}
 use Rattle.calendar.proofs.month_length.Tie as tie
-
-returns : tie.Need-returns
-unfolding monthLength
-returns c = simp (c .before .match .keys1, c .if1 .taken)
-
-returns-2 : tie.Need-returns-2
-unfolding monthLength
-returns-2 c = simp (c .before .match .keys1, c .if1 .left)
 
 returns-3 : tie.Need-returns-3
 unfolding monthLength
@@ -35,4 +25,10 @@ returns-4 c =
     )
 
 pub month-length-spec : {M : Type 1} → statement M
-month-length-spec = tie.close (tie.spec returns returns-2 returns-3 returns-4)
+unfolding monthLength
+month-length-spec =
+    tie.close
+    (tie.spec
+    (λ c. simp (c .before .match .keys1, c .if1 .taken))
+    (λ c. simp (c .before .match .keys1, c .if1 .left))
+    returns-3 returns-4)

@@ -4,8 +4,5 @@ use borrow.Author.Needs.{needs}
 use Rattle.client.proofs.ends.Statement.{statement}
 use Rattle.client.proofs.ends.Tie as tie
 
-returns : tie.Need-returns
-returns c = rw (c .in-phase .ensures)
-
 pub ends-spec : {M : Type 1} → statement M
-ends-spec = tie.close (tie.spec (λ c. search needs) returns)
+ends-spec = tie.close (tie.spec (λ c. search needs) (λ c. rw (c .in-phase .ensures)))

@@ -1,33 +1,51 @@
--- `start`: the head with the next read number and the phase is stored; the replies are empty before it and
--- after it.
+-- `start`: the refusals in order; otherwise the start.
 -- Assumes nothing.
-use mathlib.Core.List.{_++_}
-use mathlib.Core.Path.{ap, _∙_}
-use lib.ListN.{drop}
-use Rattle.message.specs.declared.ReadNumber.{ReadNumber}
-use Rattle.client.specs.Memory.{headOf}
-use Rattle.client.proofs.Memory.{memory-facts}
-use Rattle.client.proofs.Starting.{begun, starts}
 use borrow.Author.Needs.{needs}
+use Rattle.refusal.proofs.Ladders.{stop, next, end}
+use Rattle.client.proofs.Facts.{holds}
+use Rattle.client.proofs.Ladders.{rung, idle-rung, reads-rung, room, long, own-sound}
+use Rattle.client.proofs.Ladders.{start-refused, start-done}
+use Rattle.client.proofs.Memory.{loaded-self}
 use Rattle.client.proofs.start.Statement.{statement}
 use Rattle.client.proofs.start.Tie as tie
 
-next-read-requires : tie.Need-next-read-requires
-next-read-requires c κs = c .before .pre .3
-
-store-requires : tie.Need-store-requires
-store-requires c κs =
-    let s = c .before .before .before in
-    memory-facts (s .args .c .f) (s .args .m .now) (s .pre .1) .long
-
 returns : tie.Need-returns
-returns c =
-    let s = c .before .before .before .before .before .before in
-    let t = c .before .before .store in
-    let n = c .before .before .before .before .next-read .ensures in
-    ap (begun (t .last .0)) n
-    ∙ starts (s .args .c) (s .args .ph) (s .args .m .now) (t .last .0) (s .pre .0) (s .pre .1) (s .pre .2)
-    (t .ensures ∙ ap (λ (r : ReadNumber). headOf (s .args .ph) r ++ drop 4 (s .args .m .now)) n)
+returns c = start-refused _ _ _ _ _ _ _ (c .refuse .ensures) (stop (search rung))
+
+returns-2 : tie.Need-returns-2
+returns-2 c = start-refused _ _ _ _ _ _ _ (c .refuse2 .ensures) (next (search rung) (stop (search rung)))
+
+returns-3 : tie.Need-returns-3
+returns-3 c =
+    start-refused _ _ _ _ _ _ _ (c .refuse3 .ensures)
+    (next (search rung) (next (search rung) (stop (search idle-rung))))
+
+returns-4 : tie.Need-returns-4
+returns-4 c =
+    start-refused _ _ _ _ _ _ _ (c .refuse4 .ensures)
+    (next (search rung) (next (search rung) (next (search idle-rung) (stop (search needs)))))
+
+returns-5 : tie.Need-returns-5
+returns-5 c =
+    start-refused _ _ _ _ _ _ _ (c .refuse5 .ensures)
+    (next (search rung) (next (search rung) (next (search idle-rung) (next (search needs)
+    (stop (search reads-rung))))))
+
+begin-requires : tie.Need-begin-requires
+begin-requires c κs = (search loaded-self, search own-sound, search holds, search room)
+
+returns-6 : tie.Need-returns-6
+returns-6 c =
+    start-done _ _ _ _ _ _ (c .before .before .begin .ensures)
+    (next (search rung) (next (search rung) (next (search idle-rung) (next (search needs)
+    (next (search reads-rung) end)))))
 
 pub start-spec : {M : Type 1} → statement M
-start-spec = tie.close (tie.spec next-read-requires store-requires (λ c. search needs) returns)
+start-spec =
+    tie.close
+    (tie.spec
+    (λ c κs. search needs) (λ c κs. search needs) (λ c. search needs) returns (λ c κs. search needs)
+    (λ c κs. search needs) (λ c. search needs) returns-2 (λ c κs. search long) (λ c κs. search needs)
+    (λ c κs. search needs) (λ c. search needs) returns-3 (λ c κs. search needs) (λ c. search needs)
+    returns-4 (λ c κs. search needs) (λ c κs. search needs) (λ c. search needs) returns-5 begin-requires
+    (λ c. search needs) returns-6)

@@ -1,14 +1,10 @@
 -- `days_left`: the end of a licence is a real date, so the calendar numbers it; the day is refused where the
 -- calendar refuses it. Both numbers are small, as `difference` asks.
 -- Assumes nothing.
-use mathlib.Core.Path.{_≡_, _∙_, ap, sym}
-use mathlib.Core.Bool.{true}
-use Prim.Native.Nat.{ℕ, _^_, _<_}
-use native.Mathlib.Omega.{arith}
+use Rattle.basics.proofs.Prelude.{_≡_, sym, ap, _∙_, true, ℕ, _^_, _<_, arith, not-true, not-false, needs}
 use mir.Syntax.{w32}
 use mir.ValLaws.{toZ-ofZ}
-use borrow.Author.Needs.{needs}
-use borrow.Author.Tests.{not-true, not-false}
+use Rattle.basics.proofs.Cases.{clash}
 use Rattle.calendar.specs.Calendar.{dayNumber}
 use Rattle.calendar.specs.Order.{number}
 use Rattle.calendar.specs.declared.DayNumber.the-variants.{Day}
@@ -21,16 +17,12 @@ use Rattle.licence.proofs.Ends.{end-real, not-numbered}
 use Rattle.licence.proofs.days_left.Statement.{statement}
 use Rattle.licence.proofs.days_left.Tie as tie
 
-returns : tie.Need-returns
-unfolding daysLeft
-returns c = simp (sym (c .before .is-licence .ensures) ∙ not-true _ (c .if1 .taken))
-
-passed : (c : tie.Else1) → isLicence (c .before .before .args .e) ≡ true
+passed : (c : tie.Else1) → isLicence (c .before .before .args .entry) ≡ true
 passed c = sym (c .before .is-licence .ensures) ∙ not-false _ (c .if1 .left)
 
 -- the calendar's answer on the end of a licence is its number
 end-numbered : (c : tie.After-day-number) → let tested = c .before .before in
-    c .day-number .result ≡ Day (number (endOf (fieldsOf (tested .before .before .args .e))))
+    c .day-number .result ≡ Day (number (endOf (fieldsOf (tested .before .before .args .entry))))
 end-numbered c =
     c .day-number .ensures
     ∙ ap (λ (f : Fields). dayNumber (f .year) (f .month) (f .day)) (c .before .split .ensures)
@@ -40,7 +32,7 @@ returns-2 : tie.Need-returns-2
 returns-2 c =
     let n = end-numbered (c .before .before) in
     let r = c .enum-told .given .1 in
-    absurd (let z : _≡_ {A = ℕ} 0 1 = cc in omega arith)
+    clash (cc)
 
 -- where places come from: the end is numbered before the day, and the entry is tested before both
 abbrev of-end : tie.After-day-number2 → tie.After-day-number
@@ -78,11 +70,8 @@ last-small c =
 today-small : (c : tie.After-known-told2) → today c < 2 ^ 31
 today-small c = day-small _ _ _ _ (day-answer (of-day c) ∙ c .before .today .given .1)
 
-difference-requires : tie.Need-difference-requires
-difference-requires c κs = (omega (arith, last-small c), omega (arith, today-small c))
-
 last-is : (c : tie.After-known-told2) →
-    number (endOf (fieldsOf (tested (of-day c) .before .before .args .e))) ≡ last c
+    number (endOf (fieldsOf (tested (of-day c) .before .before .args .entry))) ≡ last c
 last-is c =
     let n = end-numbered (of-end (of-day c)) in
     let t = of-day c .before .before .last .given .1 in
@@ -97,8 +86,13 @@ returns-4 c =
     (ap Days (toZ-ofZ w32 (c .difference .result) (search needs) ∙ c .difference .ensures))
 
 pub days-left-spec : {M : Type 1} → statement M
+unfolding daysLeft
 days-left-spec =
     tie.close
     (tie.spec
-    (search needs) returns (search needs) (search needs) (search needs) (search needs) returns-2
-    (search needs) (search needs) (search needs) returns-3 difference-requires returns-4)
+    (search needs)
+    (λ c. simp (sym (c .before .is-licence .ensures) ∙ not-true _ (c .if1 .taken)))
+    (search needs) (search needs) (search needs) (search needs) returns-2 (search needs)
+    (search needs) (search needs) returns-3
+    (λ c κs. (omega (arith, last-small c), omega (arith, today-small c)))
+    returns-4)

@@ -1,9 +1,6 @@
 -- `is_licensed`: the tests are the definition's, in its order.
 -- Assumes nothing.
-use mathlib.Core.Path.{_≡_, _∙_, sym}
-use native.Mathlib.Omega.{arith}
-use borrow.Author.Tests.{le-leb, lt-leb, not-true, not-false}
-use borrow.Author.Needs.{needs}
+use Rattle.basics.proofs.Prelude.{_≡_, sym, _∙_, arith, le-leb, lt-leb, not-true, not-false, needs}
 use Rattle.calendar.specs.Calendar.{isDate}
 use Rattle.licence.specs.Entry.{isLicensed}
 use Rattle.licence.proofs.is_licensed.Statement.{statement}
@@ -11,7 +8,7 @@ use Rattle.licence.proofs.is_licensed.Tie as tie
 
 -- the calendar's answer on the fields' date
 date-answer : (c : tie.After-is-date) →
-    let f = c .before .args .f in
+    let f = c .before .args .fields in
     isDate (f .year) (f .month) (f .day) ≡ c .is-date .result
 date-answer c = sym (c .is-date .ensures)
 
@@ -25,7 +22,7 @@ returns-2 c =
     let date = c .before .before in
     simp (
       date-answer (date .before) ∙ not-false _ (date .if1 .left),
-      lt-leb 1 (date .before .before .args .f .state) (omega arith),
+      lt-leb 1 (date .before .before .args .fields .state) (omega arith),
     )
 
 returns-3 : tie.Need-returns-3
@@ -34,7 +31,7 @@ returns-3 c =
     let date = c .before .before .before in
     simp (
       date-answer (date .before) ∙ not-false _ (date .if1 .left),
-      le-leb 1 (date .before .before .args .f .state) (omega arith),
+      le-leb 1 (date .before .before .args .fields .state) (omega arith),
     )
 
 pub is-licensed-spec : {M : Type 1} → statement M

@@ -1,16 +1,14 @@
 -- `judge`: the tests are the definition's, in its order. The days left are read back from their 32 bits
 -- (`back`).
 -- Assumes nothing.
-use mathlib.Core.Path.{_≡_, _∙_, ap, sym}
-use mathlib.Core.Bool.{true, false}
-use native.Mathlib.Omega.{arith}
+use Rattle.basics.proofs.Prelude.{_≡_, sym, ap, _∙_, true, false, cond, ℕ, arith, eqb, eq-eqb, ne-eqb, needs}
 use lib.IntN.{ℤ, pos}
 use lib.Signed.{ltZ}
 use mir.Syntax.{w32}
 use mir.Val.{toZ, ofZ}
 use mir.ValLaws.{toZ-ofZ}
-use borrow.Author.Needs.{needs}
-use borrow.Author.Tests.{eq-eqb, ne-eqb}
+use Rattle.licence.specs.declared.Verdict.the-variants.{Hold, Print}
+use Rattle.licence.specs.Entry.{suspended, withdrawn}
 use Rattle.licence.specs.Verdict.{verdictBy}
 use Rattle.licence.proofs.judge.Statement.{statement}
 use Rattle.licence.proofs.judge.Tie as tie
@@ -25,33 +23,21 @@ negative c = ap (λ (z : ℤ). ltZ z (pos 0)) (back (c .before)) ∙ c .if1 .tak
 not-negative : (c : tie.Else1) → ltZ (c .before .args .left) (pos 0) ≡ false
 not-negative c = ap (λ (z : ℤ). ltZ z (pos 0)) (back (c .before)) ∙ c .if1 .left
 
-returns : tie.Need-returns
-unfolding verdictBy
-returns c = rw (negative c)
+abbrev state : tie.Else2 → ℕ
+state c = c .before .before .args .state
 
-returns-2 : tie.Need-returns-2
+-- neither over nor withdrawn: the state decides
+other : (c : tie.Else2)
+    → verdictBy (c .before .before .args .left) (state c) ≡ cond (eqb (state c) suspended) Hold Print
 unfolding verdictBy
-returns-2 c = rw (not-negative (c .before), eq-eqb (c .before .before .args .state) 3 (omega arith))
-
-returns-3 : tie.Need-returns-3
-unfolding verdictBy
-returns-3 c =
-    let s = c .before .before .before .args .state in
-    rw (
-      not-negative (c .before .before),
-      ne-eqb s 3 (λ w. c .before .if2 .left (omega arith)),
-      eq-eqb s 2 (omega arith),
-    )
-
-returns-4 : tie.Need-returns-4
-unfolding verdictBy
-returns-4 c =
-    let s = c .before .before .before .args .state in
-    rw (
-      not-negative (c .before .before),
-      ne-eqb s 3 (λ w. c .before .if2 .left (omega arith)),
-      ne-eqb s 2 (λ h. c .if3 .left (omega arith)),
-    )
+other c = rw (not-negative (c .before), ne-eqb (state c) withdrawn (λ w. c .if2 .left (omega arith)))
 
 pub judge-spec : {M : Type 1} → statement M
-judge-spec = tie.close (tie.spec returns returns-2 returns-3 returns-4)
+unfolding verdictBy
+judge-spec =
+    tie.close
+    (tie.spec
+    (λ c. rw (negative c))
+    (λ c. rw (not-negative (c .before), eq-eqb (c .before .before .args .state) withdrawn (omega arith)))
+    (λ c. rw (other (c .before), eq-eqb (state (c .before)) suspended (omega arith)))
+    (λ c. rw (other (c .before), ne-eqb (state (c .before)) suspended (λ h. c .if3 .left (omega arith)))))

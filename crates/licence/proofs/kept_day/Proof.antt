@@ -1,9 +1,6 @@
 -- `kept_day`: the three tests are the definition's, and where one fails the day stays.
 -- Assumes nothing.
-use mathlib.Core.Path.{_∙_, sym}
-use mathlib.Core.Logic.{⊎-elim}
-use borrow.Author.Needs.{needs}
-use borrow.Author.Tests.{eq-eqb, ne-eqb, not-true, not-false}
+use Rattle.basics.proofs.Prelude.{sym, _∙_, ⊎-elim, eq-eqb, ne-eqb, not-true, not-false, needs}
 use Rattle.licence.specs.Renewal.{keptDay}
 use Rattle.licence.proofs.kept_day.Statement.{statement}
 use Rattle.licence.proofs.kept_day.Tie as tie

@@ -1,9 +1,6 @@
 -- `kind_of`: the tests are the definition's, in its order.
 -- Assumes nothing.
-use mathlib.Core.Path.{_∙_, sym}
-use native.Mathlib.Omega.{arith}
-use borrow.Author.Tests.{eq-eqb, ne-eqb}
-use borrow.Author.Needs.{needs}
+use Rattle.basics.proofs.Prelude.{sym, _∙_, arith, eq-eqb, ne-eqb, needs}
 use Rattle.licence.specs.Entry.{kindOf}
 use Rattle.licence.proofs.kind_of.Statement.{statement}
 use Rattle.licence.proofs.kind_of.Tie as tie
@@ -17,7 +14,7 @@ unfolding kindOf
 returns-2 c =
     simp (
       sym (c .before .before .is-licence .ensures) ∙ c .before .if1 .left,
-      eq-eqb (c .before .before .before .args .e) 0 (omega arith),
+      eq-eqb (c .before .before .before .args .entry) 0 (omega arith),
     )
 
 returns-3 : tie.Need-returns-3
@@ -25,7 +22,7 @@ unfolding kindOf
 returns-3 c =
     simp (
       sym (c .before .before .is-licence .ensures) ∙ c .before .if1 .left,
-      ne-eqb (c .before .before .before .args .e) 0 (λ z. c .if2 .left (omega arith)),
+      ne-eqb (c .before .before .before .args .entry) 0 (λ z. c .if2 .left (omega arith)),
     )
 
 pub kind-of-spec : {M : Type 1} → statement M

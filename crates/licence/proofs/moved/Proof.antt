@@ -8,7 +8,7 @@ use Rattle.licence.proofs.moved.Tie as tie
 returns : tie.Need-returns
 unfolding later
 returns c =
-    let f = c .before .args .f in
+    let f = c .before .args .fields in
     λ i. record {
       year = c .before .args .year;
       month = f .month;

@@ -1,13 +1,10 @@
 -- `packed`: each field in turn goes where the sum of those before it has zeros, so that or is plus.
 -- Assumes nothing.
-use mathlib.Core.Path.{_≡_}
-use Prim.Native.Nat.{_+_, _*_, _%_, _^_}
+use Rattle.basics.proofs.Prelude.{_≡_, _+_, _*_, _%_, _^_, arith, needs}
 use native.Mathlib.Nat.{mul-one}
-use native.Mathlib.Omega.{arith}
 use lib.Dec.{lit≤}
 use lib.Bits.{bitOr}
 use lib.Pow.{shl-exact}
-use borrow.Author.Needs.{needs}
 use Rattle.basics.proofs.Bits.{or-field, or-adds}
 use Rattle.licence.specs.declared.Fields.{Fields}
 use Rattle.licence.specs.Entry.{joined, Narrow}
@@ -36,12 +33,10 @@ adds f n =
       mul-one (f .state),
     )
 
-returns : tie.Need-returns
-returns c = let start = c .before .before .before .before .before in adds (start .args .f) (start .pre)
-
 pub packed-spec : {M : Type 1} → statement M
 packed-spec =
     tie.close
     (tie.spec
-    (λ c. search needs) (λ c. search needs) (λ c. search needs) (λ c. search needs) (λ c. search needs)
-    returns)
+    (λ c. search needs) (λ c. search needs) (λ c. search needs) (λ c. search needs)
+    (λ c. search needs)
+    (λ c. let start = c .before .before .before .before .before in adds (start .args .fields) (start .pre)))

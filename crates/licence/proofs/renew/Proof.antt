@@ -1,34 +1,20 @@
 -- `renew`: the refusals are the definition's, in its order; a licence's fields stay within their widths in a
--- year up to 2199.
+-- year up to the last.
 -- Assumes nothing.
-use mathlib.Core.Path.{_≡_, _∙_, ap, sym, subst}
-use mathlib.Core.Bool.{true}
-use Prim.Native.Nat.{_+_}
-use native.Mathlib.Omega.{arith}
-use borrow.Author.Needs.{needs}
-use borrow.Author.Tests.{le-leb, lt-leb, not-true, not-false}
+use Rattle.basics.proofs.Prelude.{_≡_, sym, ap, _∙_, subst, true, _+_, arith, le-leb, lt-leb, not-true}
+use Rattle.basics.proofs.Prelude.{not-false, needs}
+use Rattle.calendar.specs.Calendar.{lastYear}
 use Rattle.licence.specs.declared.Fields.{Fields}
 use Rattle.licence.specs.declared.Renewal.{Renewal}
 use Rattle.licence.specs.Entry.{fieldsOf, joined, isLicensed, isLicence, Narrow}
-use Rattle.licence.specs.Renewal.{span, isRenewable, renewedOf}
+use Rattle.licence.specs.Renewal.{span, mostYears, isRenewable, renewedOf}
 use Rattle.licence.proofs.Entries.{entry-fields}
 use Rattle.licence.proofs.Renewed.{later-narrow}
 use Rattle.licence.proofs.renew.Statement.{statement}
 use Rattle.licence.proofs.renew.Tie as tie
 
-returns : tie.Need-returns
-unfolding renewedOf isRenewable
-returns c = simp (sym (c .before .is-licence .ensures) ∙ not-true _ (c .if1 .taken))
-
-passed : (c : tie.Else1) → isLicence (c .before .before .args .e) ≡ true
+passed : (c : tie.Else1) → isLicence (c .before .before .args .entry) ≡ true
 passed c = sym (c .before .is-licence .ensures) ∙ not-false _ (c .if1 .left)
-
-returns-2 : tie.Need-returns-2
-unfolding renewedOf isRenewable
-returns-2 c = simp (passed (c .before), lt-leb (c .before .before .before .args .years) 10 (omega arith))
-
-add-year : tie.Need-add-year
-add-year c = omega (arith, ap (λ (f : Fields). f .year) (c .before .before .split .ensures))
 
 -- the entry is tested before its year is moved
 abbrev tested : tie.After-struct-known → tie.Else1
@@ -36,8 +22,8 @@ tested c = c .before .before .before .before
 
 -- the code's year is the definition's
 same-year : (c : tie.After-struct-known) → let a = tested c .before .before .args in
-    c .before .before .split .result .year + c .before .span-of .result
-    ≡ fieldsOf (a .e) .year + span (a .years)
+    c .before .before .split .result .year + c .before .years-added .result
+    ≡ fieldsOf (a .entry) .year + span (a .years)
 same-year c = cc
 
 returns-3 : tie.Need-returns-3
@@ -47,8 +33,8 @@ returns-3 c =
     let a = tested moved .before .before .args in
     simp (
       passed (tested moved),
-      le-leb (a .years) 10 (omega arith),
-      lt-leb (fieldsOf (a .e) .year + span (a .years)) 2199 (omega (arith, same-year moved)),
+      le-leb (a .years) mostYears (omega arith),
+      lt-leb (fieldsOf (a .entry) .year + span (a .years)) lastYear (omega (arith, same-year moved)),
     )
 
 packed-requires : tie.Need-packed-requires
@@ -67,14 +53,19 @@ returns-4 c =
     let s = moved .before .before .split .ensures in
     simp (
       passed (tested moved),
-      le-leb (a .years) 10 (omega arith),
-      le-leb (fieldsOf (a .e) .year + span (a .years)) 2199 (omega (arith, y)),
+      le-leb (a .years) mostYears (omega arith),
+      le-leb (fieldsOf (a .entry) .year + span (a .years)) lastYear (omega (arith, y)),
     )
     (ap Renewal.Entry (c .packed .ensures ∙ ap joined (c .before .moved .ensures ∙ cc (y, s))))
 
 pub renew-spec : {M : Type 1} → statement M
+unfolding renewedOf isRenewable
 renew-spec =
     tie.close
     (tie.spec
-    (search needs) returns returns-2 (search needs) (search needs) (search needs) add-year returns-3
-    (search needs) packed-requires returns-4)
+    (search needs)
+    (λ c. simp (sym (c .before .is-licence .ensures) ∙ not-true _ (c .if1 .taken)))
+    (λ c. simp (passed (c .before), lt-leb (c .before .before .before .args .years) mostYears (omega arith)))
+    (search needs) (search needs) (search needs)
+    (λ c. omega (arith, ap (λ (f : Fields). f .year) (c .before .before .split .ensures)))
+    returns-3 (search needs) packed-requires returns-4)

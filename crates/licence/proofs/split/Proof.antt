@@ -1,9 +1,7 @@
 -- `split`: a shift divides, and a mask of w ones is the remainder by 2 ^ w.
 -- Assumes nothing.
-use mathlib.Core.Path.{_≡_, _∙_, ap, sym}
-use Prim.Native.Nat.{ℕ, _/_, _%_, _^_, _≤_}
+use Rattle.basics.proofs.Prelude.{_≡_, sym, ap, _∙_, ℕ, _/_, _%_, _^_, _≤_, arith}
 use native.Mathlib.Nat.{div-one}
-use native.Mathlib.Omega.{arith}
 use lib.Bits.{bitAnd, and-mask, and-le-r}
 use Rattle.licence.proofs.split.Statement.{statement}
 use Rattle.licence.proofs.split.Tie as tie
@@ -26,27 +24,12 @@ masked e =
       state = and-le-r e 0x7;
     }
 
-cast-t4 : tie.Need-cast-t4
-cast-t4 c = omega (arith, masked (c .args .e))
-
-cast-t7 : tie.Need-cast-t7
-cast-t7 c = omega (arith, masked (c .args .e))
-
-cast-t10 : tie.Need-cast-t10
-cast-t10 c = omega (arith, masked (c .args .e))
-
-cast-t13 : tie.Need-cast-t13
-cast-t13 c = omega (arith, masked (c .args .e))
-
-cast-t15 : tie.Need-cast-t15
-cast-t15 c = omega (arith, masked (c .args .e))
-
 low-three : (e : ℕ) → bitAnd e 0x7 ≡ e / 2 ^ 0 % 2 ^ 3
 low-three e = and-mask e 3 ∙ ap (λ (n : ℕ). n % 2 ^ 3) (sym (div-one e))
 
 returns : tie.Need-returns
 returns c =
-    let e = c .args .e in
+    let e = c .args .entry in
     λ i. record {
       year = and-mask (e / 2 ^ 28) 12 i;
       month = and-mask (e / 2 ^ 24) 4 i;
@@ -56,4 +39,12 @@ returns c =
     }
 
 pub split-spec : {M : Type 1} → statement M
-split-spec = tie.close (tie.spec cast-t4 cast-t7 cast-t10 cast-t13 cast-t15 returns)
+split-spec =
+    tie.close
+    (tie.spec
+    (λ c. omega (arith, masked (c .args .entry)))
+    (λ c. omega (arith, masked (c .args .entry)))
+    (λ c. omega (arith, masked (c .args .entry)))
+    (λ c. omega (arith, masked (c .args .entry)))
+    (λ c. omega (arith, masked (c .args .entry)))
+    returns)

@@ -1,11 +1,10 @@
 -- `verdict_on`: by the answer of `days_left`, as the definition goes.
 -- Assumes nothing.
-use mathlib.Core.Path.{_≡_, _∙_, ap, sym}
+use Rattle.basics.proofs.Prelude.{_≡_, sym, ap, _∙_, needs}
 use lib.IntN.{ℤ}
 use mir.Syntax.{w32}
 use mir.Val.{toZ, ofZ}
 use mir.ValLaws.{toZ-ofZ}
-use borrow.Author.Needs.{needs}
 use Rattle.licence.specs.declared.Fields.{Fields}
 use Rattle.licence.specs.Verdict.{verdictBy, verdictOf}
 use Rattle.licence.proofs.verdict_on.Statement.{statement}
@@ -25,12 +24,10 @@ returns c =
     ∙ ap (λ (z : ℤ). verdictBy z (c .before .split .result .state)) (back (c .before .before))
     ∙ ap (λ (f : Fields). verdictBy left (f .state)) (c .before .split .ensures))
 
-returns-2 : tie.Need-returns-2
-unfolding verdictOf
-returns-2 c = rw (sym (c .before .before .before .days-left .ensures) ∙ c .before .r .given .1)
-
 pub verdict-on-spec : {M : Type 1} → statement M
+unfolding verdictOf
 verdict-on-spec =
     tie.close
     (tie.spec
-    (search needs) (search needs) (search needs) (search needs) (search needs) returns returns-2)
+    (search needs) (search needs) (search needs) (search needs) (search needs) returns
+    (λ c. rw (sym (c .before .before .before .days-left .ensures) ∙ c .before .refusal .given .1)))

@@ -1,10 +1,8 @@
 -- `load`: eleven bytes spell three and eight.
-use mathlib.Core.Path.{ap, _∙_}
-use native.Mathlib.Omega.{arith}
+use Rattle.basics.proofs.Prelude.{ap, _∙_, arith, needs}
 use Rattle.basics.proofs.Bytes.{spelt-two}
 use Rattle.message.specs.Layout.{words}
 use Rattle.message.proofs.Numbers.{words-back}
-use borrow.Author.Needs.{needs}
 use Rattle.message.proofs.load.Statement.{statement}
 use Rattle.message.proofs.load.Tie as tie
 
@@ -14,7 +12,7 @@ returns c =
     let h = c .before .read-bytes in
     let l = c .read-bytes2 in
     words-back (h .result) (l .result) (l .ensures .0)
-    ∙ ap words (cc (spelt-two (a .s .now) (a .at) 3 8 (omega arith), h .ensures .1, l .ensures .1))
+    ∙ ap words (cc (spelt-two (a .bytes .now) (a .at) 3 8 (omega arith), h .ensures .1, l .ensures .1))
 
 pub load-spec : {M : Type 1} → statement M
 load-spec =

@@ -1,13 +1,10 @@
 -- `pair_of`: each field joins what stands above it, where the bits are free.
-use mathlib.Core.Path.{_≡_}
-use Prim.Native.Nat.{ℕ, _+_, _*_, _%_, _^_, _<_}
-use native.Mathlib.Omega.{arith}
+use Rattle.basics.proofs.Prelude.{_≡_, ℕ, _+_, _*_, _%_, _^_, _<_, arith, needs}
 use lib.Bits.{bitOr}
 use lib.Dec.{lit≤}
 use lib.Pow.{shl-exact}
 use Rattle.basics.proofs.Bits.{or-field, or-adds}
 use Rattle.message.specs.Pair.{pairOf}
-use borrow.Author.Needs.{needs}
 use Rattle.message.proofs.pair_of.Statement.{statement}
 use Rattle.message.proofs.pair_of.Tie as tie
 
@@ -25,11 +22,10 @@ unfolding pairOf
 returns c =
     let a = c .before .before .args in
     let b = c .before .before .pre in
-    let e = joined (a .c .0) (a .by) (a .e .0) (b .0) (b .1) (b .2) in λ i. record { 0 = e i }
+    let e = joined (a .count .0) (a .d) (a .content .0) (b .0) (b .1) (b .2) in λ i. record { 0 = e i }
 
 pub pair-of-spec : {M : Type 1} → statement M
 pair-of-spec =
     tie.close
     (tie.spec
-    (λ c. search needs) (λ c. search needs) (λ c. search needs) (λ c. search needs) (λ c. search needs)
-    returns)
+    (search needs) (search needs) (search needs) (search needs) (search needs) returns)

@@ -1,12 +1,8 @@
 -- `store`: eleven bytes are three and eight.
-use mathlib.Core.Path.{ap, _∙_}
-use mathlib.Core.List.{List}
-use Prim.Native.Nat.{ℕ, _+_}
-use native.Mathlib.Omega.{arith}
+use Rattle.basics.proofs.Prelude.{ap, _∙_, List, ℕ, _+_, arith, needs}
 use lib.Seq.{sets}
 use Rattle.basics.specs.Bytes.{bigEndian}
 use Rattle.basics.proofs.Bytes.{sets-two}
-use borrow.Author.Needs.{needs}
 use Rattle.message.proofs.store.Statement.{statement}
 use Rattle.message.proofs.store.Tie as tie
 
@@ -23,8 +19,8 @@ returns c =
     let first = between second in
     let a = start first .args in
     second .write-bytes2 .ensures
-    ∙ ap (λ (s : List ℕ). sets s (a .at + 3) (bigEndian 8 (a .w .1))) (first .write-bytes .ensures)
-    ∙ sets-two (a .out .now) (a .at) 3 8 (a .w .0) (a .w .1) (omega arith)
+    ∙ ap (λ (s : List ℕ). sets s (a .at + 3) (bigEndian 8 (a .words .1))) (first .write-bytes .ensures)
+    ∙ sets-two (a .out .now) (a .at) 3 8 (a .words .0) (a .words .1) (omega arith)
 
 pub store-spec : {M : Type 1} → statement M
 store-spec =

@@ -1,25 +1,21 @@
 -- `unpack`: a slice holds bytes, so only its length is tested before the number that they spell.
-use mathlib.Core.Path.{_≡_, ap, _∙_}
-use native.Mathlib.Omega.{arith}
-use lib.ListN.{length, take}
+use Rattle.basics.proofs.Prelude.{_≡_, ap, _∙_, length, take, arith, ne-eqb, needs}
 use lib.Seq.{take-all}
-use borrow.Author.Tests.{ne-eqb}
 use Rattle.basics.proofs.Bytes.{are-bytes}
 use Rattle.message.specs.declared.Words.{Words}
 use Rattle.message.specs.Layout.{unpackOf, messageOf, wordsNumber}
 use Rattle.message.proofs.RoundTrip.{of-words-unpacks}
-use borrow.Author.Needs.{needs}
 use Rattle.message.proofs.unpack.Statement.{statement}
 use Rattle.message.proofs.unpack.Tie as tie
 
 returns : tie.Need-returns
 unfolding unpackOf
-returns c = simp (ne-eqb (length (c .before .before .args .s .now)) 11 (λ e. omega arith))
+returns c = simp (ne-eqb (length (c .before .before .args .bytes .now)) 11 (λ e. omega arith))
 
 returns-2 : tie.Need-returns-2
 returns-2 c =
     let known = c .before .before .before in
-    let s = known .before .args .s .now in
+    let s = known .before .args .bytes .now in
     let eleven : length s ≡ 11 = omega arith in
     let all : take 11 s ≡ s = take-all 11 s (omega arith) in
     let bytes = are-bytes s (λ i. omega (arith, known .shared-slice-known .given i)) in

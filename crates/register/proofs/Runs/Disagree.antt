@@ -1,17 +1,14 @@
 -- Why the rows of two reads need agree only on the writes that began before both had ended.
 --
--- Four servers, of which server 4 is faulty, and three clients. Client 2's write, begun at step 0, sends the
--- timestamp (1, 2), which reaches server 1 only. Client 3's read, begun at step 7, has it from server 1 and from the
--- faulty server 4, and shows it at step 15. Client 1's write begins after that, at step 16, hears servers 2, 3 and 4,
--- which do not have it, sends the lower timestamp (1, 1) and ends at step 30. Client 3 reads again from step 31 on,
--- and shows (1, 2) once more. So in the first read's row the write of step 16 stands after the read, and the read
--- right after the write of step 0; in the second read's row the write of step 16, which ended before the read began,
--- stands before it, and so before the write of step 0.
+-- Four servers, of which server 4 is faulty, and three clients. Client 2's write, begun at step 0, sends
+-- the timestamp (1, 2), which reaches server 1 only. Client 3's read, begun at step 7, has it from server 1
+-- and from the faulty server 4, and shows it at step 15. Client 1's write begins after that, at step 16,
+-- asks servers 2, 3 and 4, which do not have it, sends the lower timestamp (1, 1) and ends at step 30.
+-- Client 3 reads again from step 31 on, and shows (1, 2) once more. So in the first read's row the write of
+-- step 16 stands after the read, and the read right after the write of step 0; in the second read's row the
+-- write of step 16, which ended before the read began, stands before it, and so before the write of step 0.
 -- Assumes nothing.
-use mathlib.Core.Path.{_≡_, refl}
-use mathlib.Core.List.{List, [], _∷_, _++_}
-use Prim.Native.Nat.{ℕ}
-use lib.Dec.{eqb}
+use Rattle.basics.proofs.Prelude.{_≡_, refl, List, [], _∷_, _++_, ℕ, eqb}
 use Rattle.basics.specs.Counting.{countBelow}
 use Rattle.basics.specs.Tests.{allBelow}
 use Rattle.register.specs.declared.Answer.the-variants.{Read, Wrote}

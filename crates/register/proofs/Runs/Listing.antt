@@ -1,9 +1,7 @@
--- The listing of 01, 'The program rehearse': one server, one client; a write, then a read, step by step with their
--- answers.
+-- The listing of 01, 'The program rehearse': one server, one client; a write, then a read, step by step
+-- with their answers.
 -- Assumes nothing.
-use mathlib.Core.Path.{_≡_, refl}
-use mathlib.Core.Bool.{false}
-use mathlib.Core.List.{List, [], _∷_}
+use Rattle.basics.proofs.Prelude.{_≡_, refl, false, List, [], _∷_}
 use Rattle.basics.specs.Counting.{countBelow}
 use Rattle.basics.specs.Tests.{allBelow}
 use Rattle.register.specs.declared.Answer.the-variants.{Went, Read, Wrote}

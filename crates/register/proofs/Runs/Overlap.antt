@@ -1,15 +1,13 @@
--- Four servers, of which server 4 is faulty, and two clients: a read overlaps a write, server 4 lies to both, a
--- client stops, and steps are refused, with each of the numbers 4 to 10. A ninth message on a channel is refused 12.
+-- Four servers, of which server 4 is faulty, and two clients: a read overlaps a write, server 4 lies to
+-- both, a client stops, and steps are refused, with each of the numbers 4 to 10. A ninth message on a
+-- channel is refused 12.
 --
--- Client 1 writes while client 2 reads. Server 4 tells client 1 a pair that nobody wrote: it is in one set only, so
--- it does not count, and it hides that two honest servers are enough, so the client waits for the third. Client 2 has
--- the initial pair of server 1, then the new pair by FWD; with the new pair from servers 2 and 4 it shows it, before
--- the write has ended.
+-- Client 1 writes while client 2 reads. Server 4 tells client 1 a pair that nobody wrote: it is in one set
+-- only, so it does not count, and it hides that two honest servers are enough, so the client waits for the
+-- third. Client 2 has the initial pair of server 1, then the new pair by FWD; with the new pair from
+-- servers 2 and 4 it shows it, before the write has ended.
 -- Assumes nothing.
-use mathlib.Core.Path.{_≡_, refl}
-use mathlib.Core.List.{List, [], _∷_, _++_}
-use Prim.Native.Nat.{ℕ, zero, suc, _+_, _*_}
-use lib.Dec.{eqb}
+use Rattle.basics.proofs.Prelude.{_≡_, refl, List, [], _∷_, _++_, ℕ, zero, suc, _+_, _*_, eqb}
 use Rattle.basics.specs.Counting.{countBelow}
 use Rattle.basics.specs.Tests.{allBelow}
 use Rattle.refusal.specs.Numbers.{numbered}

@@ -1,8 +1,6 @@
 -- `read_behind`: what lies before the part that is lent to the call stays as it was.
 -- Assumes nothing.
-use Prim.Native.Nat.{_-_}
-use lib.ListN.{length}
-use borrow.Author.Needs.{needs}
+use Rattle.basics.proofs.Prelude.{length, _-_, needs}
 use borrow.Rule.Slice.PartMut.{take-put}
 use Rattle.rehearse.proofs.read_behind.Statement.{statement}
 use Rattle.rehearse.proofs.read_behind.Tie as tie
@@ -11,12 +9,11 @@ returns : tie.Need-returns
 returns c =
     let read = c .before .before .before .before .before in
     let start = read .before .before .before in
-    let a = start .args in
-    (take-put (a .have) (length (a .input .now) - a .have) (a .input .now) (read .read .last .1 .0) (start .pre), search needs)
+    let input = start .args .input .now in
+    let have = start .args .have in
+    (take-put have (length input - have) input (read .read .last .1 .0) (start .pre), search needs)
 
 pub read-behind-spec : {M : Type 1} → statement M
-read-behind-spec =
-    tie.close
-    (tie.spec
+read-behind-spec = tie.close (tie.spec
     (search needs) (search needs) (search needs) (search needs) (search needs) (search needs)
     (search needs) (search needs) (search needs) returns)

@@ -1,24 +1,21 @@
--- `holds`: each of the four numbers is looked at, and says something where it belongs to the set.
+-- `holds`: each of the four numbers is read, and says something where it belongs to the set.
 -- Assumes nothing.
-use Prim.Native.Nat.{suc, _+_, _*_}
-use native.Mathlib.Nat.{add-zero}
-use lib.ListN.{getD}
 use borrow.Author.Needs.{needs}
-use Rattle.replies.specs.Replies.{setIn}
-use Rattle.replies.proofs.Places.{rest-at}
+use Rattle.replies.specs.Replies.{sizeAt}
+use Rattle.replies.proofs.Places.{set-four}
 use Rattle.replies.proofs.Steps.{has-four}
 use Rattle.replies.proofs.holds.Statement.{statement}
 use Rattle.replies.proofs.holds.Tie as tie
 
+abbrev sized : tie.After-struct-known4 → tie.After-size-of
+sized c = c .before .before .before .before .before .before .before .before
+
 returns : tie.Need-returns
 returns c =
-    let k = c .before .before .before .before .before .before .before .before in
-    let a = k .before .before .args in
-    let g = k .before .before .pre in
-    let m = k .size-of .ensures in
-    let four = has-four (a .p) (setIn (a .r .now) (suc (a .i))) (λ j. getD (a .r .now) (39 + a .i * 4 + j) 0)
-    (rest-at (a .r .now) (a .i) (g .0) (g .1)) (rw (m .0) at (m .1)) in
-    rw (m .0) (rw (add-zero (39 + a .i * 4)) at four)
+    let s = sized c .before .before in
+    let r = s .args .replies .now in
+    rw (sized c .size-of .ensures .0, set-four r (s .args .i) (s .pre .0) (s .pre .1))
+    (has-four _ _ _ _ (s .args .pair) (sizeAt r (s .args .i)))
 
 pub holds-spec : {M : Type 1} → statement M
 holds-spec =

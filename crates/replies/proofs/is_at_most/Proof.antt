@@ -1,7 +1,6 @@
 -- `is_at_most`: zero is no timestamp, and of another number one less is compared.
 -- Assumes nothing.
-use mathlib.Core.Path.{sym}
-use borrow.Author.Needs.{needs}
+use Rattle.basics.proofs.Prelude.{sym, needs}
 use Rattle.register.specs.Client.{isAtMost}
 use Rattle.replies.specs.Replies.{noteOf}
 use Rattle.replies.proofs.Places.{at-most-used}
@@ -13,8 +12,8 @@ unfolding isAtMost noteOf
 returns c = rw (c .if1 .taken)
 
 returns-2 : tie.Need-returns-2
-returns-2 c = sym (at-most-used (c .before .before .args .w) (c .before .before .args .t .0)
-    (c .before .if1 .left))
+returns-2 c =
+    let a = c .before .before .args in sym (at-most-used (a .number) (a .stamp .0) (c .before .if1 .left))
 
 pub is-at-most-spec : {M : Type 1} → statement M
 is-at-most-spec = tie.close (tie.spec returns (λ c. search needs) (λ c. search needs) returns-2)

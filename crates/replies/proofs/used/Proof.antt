@@ -1,46 +1,38 @@
--- `used`: the loop counts the numbers in use. The invariant is that the count so far is the definition's.
+-- `used`: the loop counts the numbers in use.
 -- Assumes nothing.
-use Prim.Native.Nat.{_≤_, _-_}
-use mathlib.Core.Path.{_≡_, refl}
-use native.Mathlib.Omega.{arith}
-use borrow.Author.Needs.{needs}
-use Rattle.basics.specs.Counting.{countBelow}
+use Rattle.basics.proofs.Prelude.{refl, _-_, arith, needs}
 use Rattle.replies.specs.Loops.{isUsed}
-use Rattle.replies.proofs.Steps.{bool-le, count-step, count-end}
+use Rattle.replies.proofs.Steps.{bool-le, Counted, counted-none, counted-more, counted-all}
 use Rattle.replies.proofs.used.Statement.{statement}
 use Rattle.replies.proofs.used.Tie as tie
 
 abbrev Inv-loop : tie.InvT-loop
-Inv-loop r at n c₀ i₀ c i = (i ≤ n) × (c ≤ i) × (c ≡ countBelow (isUsed r at) i)
+Inv-loop replies at n count₀ i₀ count i = Counted (isUsed replies at) n count i
 
 abbrev μ-loop : tie.MeasureT-loop
-μ-loop r at n c₀ i₀ c i = n - i
+μ-loop replies at n count₀ i₀ count i = n - i
 
-loop-holds : tie.Need-loop-holds Inv-loop μ-loop
-unfolding countBelow
-loop-holds c = search needs
-
-add-c-2 : tie.Need-add-c-2 Inv-loop μ-loop
-add-c-2 c =
+add-count-2 : tie.Need-add-count-2 Inv-loop μ-loop
+add-count-2 c =
     let a = c .before .before .before .args in
-    record { fits = omega (arith, bool-le (isUsed (a .r .now) (a .at) (c .before .before .loop .i))) }
+    record { fits = omega (arith, bool-le (isUsed (a .replies .now) (a .at) (c .before .before .loop .i))) }
 
 loop-again : tie.Need-loop-again Inv-loop μ-loop
 loop-again c =
-    let a = c .before .before .before .args in
     let l = c .before .before .loop in
-    let b : _ ≤ 1 = bool-le (isUsed (a .r .now) (a .at) (l .i)) in
-    (search needs, omega (arith, b), count-step (isUsed (a .r .now) (a .at)) (l .i) (l .c) _ refl (l .inv .2))
+    let a = c .before .before .before .args in
+    let test = isUsed (a .replies .now) (a .at) in
+    counted-more test (a .n) (l .count) (l .i) (test (l .i)) (omega arith) refl (l .inv)
 
 returns : tie.Need-returns Inv-loop μ-loop
 returns c =
+    let l = c .before .loop in
     let a = c .before .before .args in
-    count-end (isUsed (a .r .now) (a .at)) (c .before .loop .i) (a .n) _ (search needs) (search needs)
-    (c .before .loop .inv .2)
+    counted-all (isUsed (a .replies .now) (a .at)) (a .n) (l .count) (l .i) (omega arith) (l .inv)
 
 pub used-spec : {M : Type 1} → statement M
 used-spec =
     tie.close
     (tie.spec
-    Inv-loop μ-loop loop-holds (search needs) (search needs) (search needs) (search needs) add-c-2
-    (search needs) (search needs) loop-again returns)
+    Inv-loop μ-loop (λ c. counted-none _ _) (search needs) (search needs) (search needs) (search needs)
+    add-count-2 (search needs) (search needs) loop-again returns)

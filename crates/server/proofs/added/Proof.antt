@@ -8,7 +8,7 @@ use Rattle.server.proofs.added.Tie as tie
 returns : tie.Need-returns
 returns c =
     let st = c .before .before in
-    get-info (st .args .s) (st .args .d) (st .pre .0) (st .pre .1) (st .pre .2) (st .args .n)
+    get-info (st .args .server) (st .args .d) (st .pre .0) (st .pre .1) (st .pre .2) (st .args .tag)
 
 pub added-spec : {M : Type 1} → statement M
 added-spec = tie.close (tie.spec (search needs) (search needs) returns)

@@ -1,39 +1,95 @@
--- `server::serve` meets its contract: sound memory is loaded as a sound server, and what is stored is the
--- model's next one (`Laws.served-in`). Assumes nothing.
-use mathlib.Core.Path.{ap, _∙_}
-use borrow.Author.Needs.{needs}
-use Rattle.server.specs.declared.Server.{Server}
-use Rattle.server.specs.State.{sound}
-use Rattle.server.specs.Taking.{servedOf}
-use Rattle.server.proofs.Laws.{served-in}
-use Rattle.server.proofs.Memory.{sound-length, loaded-sound}
+-- `server::serve` meets its contract: each return is one case of the ladder (`Outcomes`). Assumes nothing.
+use Rattle.basics.proofs.Prelude.{_≡_, sym, ap, _∙_, true, ⊎-elim, _≤_, ltb-true, ltb-false, not-true}
+use Rattle.basics.proofs.Prelude.{not-false, needs}
+use Rattle.message.specs.declared.Unpacked.the-variants.{Good}
+use Rattle.message.specs.Layout.{unpackOf}
+use Rattle.register.specs.Settings.{mostClients}
+use Rattle.server.specs.Memory.{isSound}
+use Rattle.server.specs.Serving.{isRequest, resultOf}
+use Rattle.server.proofs.Outcomes.{unsound, no-process-low, no-process-high, malformed, served}
 use Rattle.server.proofs.serve.Statement.{statement}
 use Rattle.server.proofs.serve.Tie as tie
 
-load-requires : tie.Need-load-requires
-load-requires c κs = let st = c .before .before in sound-length (st .args .m .now) (st .pre .0)
+-- where sound memory is known
+abbrev start : tie.Else1 → tie.Start
+start c = c .before .before .before .before .before
 
-after-requires : tie.Need-after-requires
-after-requires c κs =
-    let st = c .before .before .before in
-    (ap sound (c .load .ensures) ∙ loaded-sound (st .args .m .now) (st .pre .0), st .pre .1, st .pre .2)
+is-sound : (c : tie.Else1) → isSound (start c .args .memory .now) ≡ true
+is-sound c = sym (c .before .is-sound .ensures) ∙ not-false _ (c .if1 .left)
 
-store-requires : tie.Need-store-requires
-store-requires c κs =
-    let st = c .before .before .before .before .before in
-    sound-length (st .args .m .now) (st .pre .0)
+-- .. and a client
+abbrev tested : tie.Else3 → tie.Else1
+tested c = c .before .before
+
+low : (c : tie.Else3) → 1 ≤ start (tested c) .args .d
+low c = c .before .if2 .left
+
+top : (c : tie.Else3) → start (tested c) .args .d ≤ mostClients
+top c = ltb-false mostClients (start (tested c) .args .d) (c .if3 .left)
 
 returns : tie.Need-returns
+unfolding resultOf
 returns c =
-    let a = c .before .before .before .before in
-    let st = a .before .before .before .before in
-    served-in (st .args .m .now) (st .args .d) (st .args .x) (a .after .result) _
-    (a .after .ensures ∙ ap (λ (s : Server). servedOf s (st .args .d) (st .args .x))
-    (a .before .load .ensures))
-    (c .before .before .store .ensures)
+    let asked = c .before in
+    let a = asked .before .before .before .before .args in
+    sym (unsound (a .memory .now) (a .d) (a .bytes .now)
+    (sym (asked .is-sound .ensures) ∙ not-true _ (c .if1 .taken)))
+
+returns-2 : tie.Need-returns-2
+unfolding resultOf
+returns-2 c =
+    let a = start (c .before) .args in
+    let h = is-sound (c .before) in
+    sym (⊎-elim (λ w. no-process-low (a .memory .now) (a .d) (a .bytes .now) h (w .taken))
+    (λ w. no-process-high (a .memory .now) (a .d) (a .bytes .now) h (w .0 .left)
+    (ltb-true mostClients (a .d) (w .1 .taken)))
+    (c .if2 .came))
+
+returns-3 : tie.Need-returns-3
+unfolding resultOf isRequest
+returns-3 c =
+    let e = c .before .before .before in
+    let a = start (tested e) .args in
+    let bad = sym (c .before .before .unpack .ensures) ∙ c .enum-told .given .1 in
+    sym (malformed (a .memory .now) (a .d) (a .bytes .now) (is-sound (tested e)) (low e) (top e)
+    (ap isRequest bad))
+
+-- the message that was unpacked, and whether it is a request
+abbrev unpacked : tie.After-is-reply → tie.After-unpack
+unpacked c = c .before .before .before .before
+
+good : (c : tie.After-is-reply) → unpackOf (start (tested (unpacked c .before)) .args .bytes .now)
+    ≡ Good (c .before .before .message .given .0 .0)
+good c = sym (unpacked c .unpack .ensures) ∙ c .before .before .message .given .1
+
+returns-4 : tie.Need-returns-4
+unfolding resultOf isRequest
+returns-4 c =
+    let e = unpacked (c .before) .before in
+    let a = start (tested e) .args in
+    sym (malformed (a .memory .now) (a .d) (a .bytes .now) (is-sound (tested e)) (low e) (top e)
+    (ap isRequest (good (c .before)) ∙ rw (sym (c .before .is-reply .ensures) ∙ c .if4 .taken)))
+
+abbrev request : tie.Else4 → tie.Else3
+request c = unpacked (c .before) .before
+
+returns-5 : tie.Need-returns-5
+unfolding resultOf isRequest
+returns-5 c =
+    let called = c .before .before in
+    let i = called .before .before in
+    let e = request i in
+    let a = start (tested e) .args in
+    called .serve-message .ensures
+    ∙ sym (served (a .memory .now) (a .d) (a .bytes .now) (is-sound (tested e)) (low e) (top e) _
+    (good (i .before)) (rw (sym (i .before .is-reply .ensures) ∙ i .if4 .left)))
 
 pub serve-spec : {M : Type 1} → statement M
 serve-spec =
     tie.close
     (tie.spec
-    load-requires after-requires store-requires (λ c. search needs) returns)
+    (λ c κs. search needs) (λ c. search needs) returns (λ c. search needs) returns-2
+    (λ c κs. search needs) (λ c. search needs) (λ c. search needs) (λ c. search needs) returns-3
+    (λ c κs. search needs) (λ c. search needs) returns-4 (λ c. search needs)
+    (λ c κs. let e = request (c .before) in (is-sound (tested e), low e, top e))
+    (λ c. search needs) returns-5)

@@ -5,11 +5,10 @@ use Rattle.server.proofs.Memory.{two-set}
 use Rattle.server.proofs.store.Statement.{statement}
 use Rattle.server.proofs.store.Tie as tie
 
-returns : tie.Need-returns
-unfolding numbersOf
-returns c = two-set (c .before .before .args .m .now) _ _ (c .before .before .pre)
-
 pub store-spec : {M : Type 1} → statement M
+unfolding numbersOf
 store-spec =
-    tie.close (tie.spec
-    (search needs) (search needs) (λ c. search needs) (λ c. search needs) returns)
+    tie.close
+    (tie.spec
+    (search needs) (search needs) (λ c. search needs) (λ c. search needs)
+    (λ c. two-set (c .before .before .args .memory .now) _ _ (c .before .before .pre)))

@@ -1,8 +1,5 @@
 -- `is_in`: a mask of one bit is the remainder by two. Assumes nothing.
-use mathlib.Core.Path.{ap}
-use Prim.Native.Nat.{ℕ, _/_, _^_}
-use lib.Dec.{eqb}
-use borrow.Author.Needs.{needs}
+use Rattle.basics.proofs.Prelude.{ap, ℕ, _/_, _^_, eqb, needs}
 use lib.Bits.{and-mask}
 use Rattle.server.specs.State.{contains}
 use Rattle.state.proofs.is_in.Statement.{statement}

@@ -1,6 +1,5 @@
 -- `digit`: a digit from 0 on, or a letter from A on. Assumes nothing.
-use borrow.Author.Needs.{needs}
-use borrow.Author.Tests.{lt-ltb, le-ltb}
+use Rattle.basics.proofs.Prelude.{lt-ltb, le-ltb, needs}
 use Rattle.exchange.proofs.print.digit.Statement.{statement}
 use Rattle.exchange.proofs.print.digit.Tie as tie
 

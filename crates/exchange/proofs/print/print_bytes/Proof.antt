@@ -1,7 +1,5 @@
 -- `exchange::print_bytes` ends: the index grows up to the slice's length. Assumes nothing.
-use Prim.Native.Nat.{_-_, _≤_}
-use lib.ListN.{length}
-use borrow.Author.Needs.{needs}
+use Rattle.basics.proofs.Prelude.{length, _-_, _≤_, needs}
 use Rattle.exchange.proofs.print.print_bytes.Statement.{statement}
 use Rattle.exchange.proofs.print.print_bytes.Tie as tie
 
@@ -12,8 +10,6 @@ abbrev μ-loop : tie.MeasureT-loop
 μ-loop s i₀ i = length s - i
 
 pub print-bytes-spec : {M : Type 1} → statement M
-print-bytes-spec =
-    tie.close
-    (tie.spec
-    Inv-loop μ-loop (λ c. search needs) (λ c. search needs) (λ c κs. search needs) (λ c. search needs)
-    (λ c. search needs) (λ c. search needs) (λ c. search needs))
+print-bytes-spec = tie.close (tie.spec
+    Inv-loop μ-loop (λ c. search needs) (λ c. search needs) (λ c κs. search needs)
+    (λ c. search needs) (λ c. search needs) (λ c. search needs) (λ c. search needs))

@@ -1,15 +1,9 @@
 -- `message_of`: refused first, field by field; then the words have the number that the fields join to.
 -- Assumes nothing.
-use mathlib.Core.Path.{_≡_, sym, ap, _∙_}
-use mathlib.Core.Bool.{true}
-use Prim.Native.Nat.{ℕ, _^_, _<_}
+use Rattle.basics.proofs.Prelude.{_≡_, sym, ap, _∙_, true, ℕ, _^_, _<_, arith, ltb, ltb-true, lt-ltb, le-ltb}
+use Rattle.basics.proofs.Prelude.{not-true, not-false, needs}
 use native.Mathlib.Nat.{mod-eq-of-lt}
-use native.Mathlib.Omega.{arith}
-use lib.Dec.{ltb}
-use borrow.Author.Needs.{needs}
-use borrow.Author.Tests.{lt-ltb, le-ltb, ltb-true, not-true, not-false}
 use Rattle.message.specs.declared.WriteCounter.{WriteCounter}
-use Rattle.message.specs.Pair.{pairOf}
 use Rattle.exports.specs.Fields.{messageBy}
 use Rattle.exports.proofs.FieldLaws.{words-message}
 use Rattle.exports.proofs.messages.message_of.Statement.{statement}
@@ -99,14 +93,13 @@ returns-6 c =
     let e1 = e2 .before .before in
     let a = e1 .before .args in
     let p = c .before .pair-of in
+    let counted = counter-is made in
     c .of-words .ensures
     ∙ words-message (a .kind) (a .tag) (a .counter) (a .client) (a .entry) (e1 .if1 .left)
     (ltb-true _ _ (tag e2)) (counter-small e3) (e4 .if4 .left) (e5 .if5 .left) (p .result)
-    (p .ensures ∙ ap (λ (w : WriteCounter). pairOf w (a .client) (record { 0 = a .entry })) (counter-is made))
+    (cc (p .ensures, counted))
 
 pub message-of-spec : {M : Type 1} → statement M
-message-of-spec =
-    tie.close
-    (tie.spec
+message-of-spec = tie.close (tie.spec
     returns (search needs) returns-2 (search needs) returns-3 returns-4 returns-5 (search needs)
     (search needs) pair-of-requires (search needs) cast-t19 (search needs) returns-6)

@@ -1,10 +1,9 @@
 -- `exports_run`: the setup and the answers are those of `run`.
 -- Assumes nothing.
-use mathlib.Core.Path.{ap, _∙_}
-use borrow.Author.Needs.{needs}
+use Rattle.basics.proofs.Prelude.{ap, _∙_, needs}
 use Rattle.system.specs.Setup.{setupOf}
 use Rattle.exports.specs.Runs.{setupNumber}
-use Rattle.exports.proofs.StepRuns.{outcome-answers}
+use Rattle.exports.proofs.RunAnswers.{outcome-answers}
 use Rattle.exports.proofs.runs.exports_run.Statement.{statement}
 use Rattle.exports.proofs.runs.exports_run.Tie as tie
 
@@ -16,11 +15,12 @@ returns : tie.Need-returns
 returns c =
     let ran = c .before .before .before in
     let a = start ran .args in
-    let s = setupOf (a .f) (a .clients) (a .faulty) in
+    let s = setupOf (a .f) (a .count) (a .faulty) in
     let e = ran .run .ensures in (
       c .setup-number .ensures ∙ ap setupNumber (e .0),
       outcome-answers s (a .steps .now) (a .out .now) _ _ _ _ _ _ _ (e .1),
     )
 
 pub exports-run-spec : {M : Type 1} → statement M
-exports-run-spec = tie.close (tie.spec (search needs) (search needs) (search needs) (search needs) returns)
+exports-run-spec = tie.close (tie.spec
+    (search needs) (search needs) (search needs) (search needs) returns)

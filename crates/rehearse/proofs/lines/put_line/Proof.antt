@@ -1,10 +1,6 @@
 -- `put_line`: a line printed in the part behind what is written.
 -- Assumes nothing.
-use Prim.Native.Nat.{_+_, _≤_}
-use native.Mathlib.Omega.{arith}
-use lib.ListN.{length}
-use borrow.Author.Needs.{needs}
-use Rattle.script.proofs.Writing.{keeps}
+use Rattle.basics.proofs.Prelude.{length, _+_, _≤_, arith, needs}
 use Rattle.rehearse.proofs.Printing.{shown-written}
 use Rattle.rehearse.proofs.lines.put_line.Statement.{statement}
 use Rattle.rehearse.proofs.lines.put_line.Tie as tie
@@ -12,9 +8,7 @@ use Rattle.rehearse.proofs.lines.put_line.Tie as tie
 returns : tie.Need-returns
 returns c =
     let p = c .before .before in
-    let s = p .before .before .before in
-    let a = s .args in
-    shown-written (a .number .number) (a .what) (a .out .now) (a .used) _ _ (s .pre .0) (p .print-numbered .ensures)
+    shown-written _ _ _ _ _ _ (p .before .before .before .pre .0) (p .print-numbered .ensures)
 
 add-result : tie.Need-add-result
 add-result c =
@@ -25,9 +19,7 @@ add-result c =
     let h : a .used + p .print-numbered .result ≤ length (a .out .now) = omega arith in
     search needs
 
-same-length : tie.Need-same-length
-same-length c = keeps (returns c)
-
 pub put-line-spec : {M : Type 1} → statement M
-put-line-spec =
-    tie.close (tie.spec (search needs) (search needs) (search needs) (λ c κs. search needs) add-result same-length returns)
+put-line-spec = tie.close (tie.spec
+    (search needs) (search needs) (search needs) (λ c κs. search needs) add-result (search needs)
+    returns)

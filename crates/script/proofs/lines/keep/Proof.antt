@@ -1,10 +1,6 @@
 -- `keep`: the loop keeps how many bytes have moved.
-use mathlib.Core.Path.{_≡_, refl, ap, _∙_}
-use mathlib.Core.List.{List}
-use Prim.Native.Nat.{ℕ, _+_, _-_, _≤_, min}
-use native.Mathlib.Omega.{arith}
-use borrow.Author.Needs.{needs}
-use lib.ListN.{length, getD, set}
+use Rattle.basics.proofs.Prelude.{_≡_, ap, _∙_, List, length, getD, set, ℕ, _+_, _-_, _≤_, arith, needs}
+use Prim.Native.Nat.{min}
 use Rattle.script.specs.Lines.{most}
 use Rattle.script.proofs.Kept.{moved, length-moved, moved-read, moved-more, kept-written, within}
 use Rattle.script.proofs.lines.keep.Statement.{statement}
@@ -22,7 +18,7 @@ returns c =
     kept-written (a .text .now) (a .at) (a .end) 0 (omega arith)
 
 loop-holds : tie.Need-loop-holds Inv-loop μ-loop
-loop-holds c = (search needs, refl)
+loop-holds c = search needs
 
 module _ (c : tie.At-loop Inv-loop μ-loop) where
   abbrev start : tie.Start Inv-loop μ-loop
@@ -33,9 +29,7 @@ module _ (c : tie.At-loop Inv-loop μ-loop) where
 
   -- how many bytes are kept
   count : c .before .least2 .result ≡ min (min (start .args .end) (length block) - start .args .at) most
-  count =
-      c .before .least2 .ensures
-      ∙ ap (λ (k : ℕ). min (k - start .args .at) most) (c .before .before .before .least .ensures)
+  count = cc (c .before .least2 .ensures, c .before .before .before .least .ensures)
 
   fits : start .args .at + c .before .least2 .result ≤ length block
   fits =
@@ -47,7 +41,7 @@ module _ (c : tie.At-loop Inv-loop μ-loop) where
   wide = ap length (c .loop .inv .1) ∙ length-moved block (start .args .at) (c .loop .i) (omega (arith, fits))
 
 add-byte : tie.Need-add-byte Inv-loop μ-loop
-add-byte c = omega (arith, fits (c .before))
+add-byte c = search needs
 
 slice-read-byte : tie.Need-slice-read-byte Inv-loop μ-loop
 slice-read-byte c = rw (wide (c .before .before)) (omega (arith, fits (c .before .before)))
@@ -78,8 +72,6 @@ returns-2 c =
     rw (here .loop .inv .1) (kept-written (block here) (a .at) (a .end) (here .loop .i) (all ∙ count here))
 
 pub keep-spec : {M : Type 1} → statement M
-keep-spec =
-    tie.close
-    (tie.spec
+keep-spec = tie.close (tie.spec
     Inv-loop μ-loop (search needs) returns (search needs) loop-holds add-byte slice-read-byte
     slice-write-text (search needs) (search needs) loop-again same-length returns-2)

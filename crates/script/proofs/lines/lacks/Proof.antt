@@ -1,21 +1,15 @@
--- `lacks`: the loop keeps whether none of the bytes that it has passed is the mark.
-use Prim.Native.Nat.{_+_, _≤_, _-_}
-use mathlib.Core.Path.{_≡_, refl, ap}
-use mathlib.Core.Bool.{Bool, _&&_, not}
-use native.Mathlib.Numerals.{add-one}
-use native.Mathlib.Omega.{arith}
-use lib.Dec.{eqb}
-use lib.ListN.{getD}
-use borrow.Author.Needs.{needs}
+-- `lacks`: the loop keeps whether none of the bytes that it has passed is the stop.
+use Rattle.basics.proofs.Prelude.{_≡_, refl, ap, Bool, not, _&&_, getD, _+_, _-_, _≤_, add-one, arith, eqb}
+use Rattle.basics.proofs.Prelude.{needs}
 use Rattle.basics.specs.Tests.{allBelow}
 use Rattle.script.proofs.lines.lacks.Statement.{statement}
 use Rattle.script.proofs.lines.lacks.Tie as tie
 
 abbrev Inv-loop : tie.InvT-loop
-Inv-loop mark text at x₀ j₀ x j = (j ≤ 16) × (x ≡ allBelow (λ k. not (eqb (getD text (at + k) 0) mark)) j)
+Inv-loop stop text at x₀ j₀ x j = (j ≤ 16) × (x ≡ allBelow (λ k. not (eqb (getD text (at + k) 0) stop)) j)
 
 abbrev μ-loop : tie.MeasureT-loop
-μ-loop mark text at x₀ j₀ x j = 16 - j
+μ-loop stop text at x₀ j₀ x j = 16 - j
 
 loop-holds : tie.Need-loop-holds Inv-loop μ-loop
 unfolding allBelow
@@ -28,7 +22,7 @@ loop-again c =
     let a = c .before .before .before .args in (
       omega arith,
       rw add-one
-          (ap (λ (t : Bool). t && not (eqb (getD (a .text .now) (a .at + l .j) 0) (a .mark))) (l .inv .1)),
+          (ap (λ (t : Bool). t && not (eqb (getD (a .text .now) (a .at + l .j) 0) (a .stop))) (l .inv .1)),
     )
 
 returns : tie.Need-returns Inv-loop μ-loop
@@ -37,8 +31,6 @@ returns c =
     rw (← e) (c .before .loop .inv .1)
 
 pub lacks-spec : {M : Type 1} → statement M
-lacks-spec =
-    tie.close
-    (tie.spec
+lacks-spec = tie.close (tie.spec
     Inv-loop μ-loop loop-holds (search needs) (search needs) (search needs) (search needs)
     loop-again returns)

@@ -1,11 +1,6 @@
 -- `next`: a line that the quick reader does not know is cut at its end and parsed.
-use mathlib.Core.Path.{_≡_, ap, _∙_}
-use mathlib.Core.List.{List}
-use Prim.Native.Nat.{ℕ, _+_, _≤_}
-use native.Mathlib.Omega.{arith}
-use lib.ListN.{length}
-use borrow.Author.Needs.{needs}
-use Rattle.script.specs.Lines.{upTo, lineEnd}
+use Rattle.basics.proofs.Prelude.{_≡_, List, length, ℕ, _+_, _≤_, arith, needs}
+use Rattle.script.specs.Lines.{lineEnd}
 use Rattle.script.proofs.Found.{end-within, none-found, quick-found, line-found}
 use Rattle.script.proofs.Readers.{rest-is}
 use Rattle.script.proofs.next.next.Statement.{statement}
@@ -34,9 +29,7 @@ module _ (c : tie.After-place-of) where
   at = start .args .at
 
   ends : at + c .place-of .result ≡ lineEnd text at
-  ends =
-      ap (λ (n : ℕ). at + n)
-      (c .place-of .ensures ∙ ap (λ (l : List ℕ). length (upTo 10 l)) (rest-is text at))
+  ends = cc (c .place-of .ensures, rest-is text at)
 
   within : at + c .place-of .result ≤ length text
   within = rw ends (end-within text at (omega arith))
@@ -55,9 +48,7 @@ returns-3 c =
     line-found (text p) (at p) _ _ (ends p) (c .parse .ensures)
 
 pub next-spec : {M : Type 1} → statement M
-next-spec =
-    tie.close
-    (tie.spec
+next-spec = tie.close (tie.spec
     returns (search needs) (search needs) (search needs) returns-2 (search needs) (search needs)
     (search needs) (search needs) (search needs) add-end (search needs) (search needs)
     part-parse-end (search needs) returns-3)

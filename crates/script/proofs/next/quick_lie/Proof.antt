@@ -1,8 +1,5 @@
 -- `quick_lie`: a short number, a blank and 22 hexadecimal digits with the line's end behind them.
-use mathlib.Core.Path.{sym, _∙_}
-use Prim.Native.Nat.{ℕ}
-use native.Mathlib.Omega.{arith}
-use borrow.Author.Needs.{needs}
+use Rattle.basics.proofs.Prelude.{sym, _∙_, ℕ, arith, needs}
 use Rattle.script.specs.Next.{Short}
 use Rattle.script.proofs.Rest.{lie-is}
 use Rattle.script.proofs.Short.{short-of, next-most}
@@ -33,9 +30,7 @@ returns-4 c =
     (sym (call .message-after .ensures) ∙ c .before .step .given .1) (first one)
 
 pub quick-lie-spec : {M : Type 1} → statement M
-quick-lie-spec =
-    tie.close
-    (tie.spec
+quick-lie-spec = tie.close (tie.spec
     (search needs) (search needs) (search needs) (search needs) sub-if1 (search needs)
     (search needs) (search needs) (search needs) (search needs) (search needs) (search needs)
     (search needs) (search needs) returns-4 (search needs))

@@ -1,12 +1,5 @@
 -- `quick_step`: the letter, the blank and the number make the line, with what stands behind them.
-use mathlib.Core.Path.{_≡_}
-use mathlib.Core.Logic.{⊎-elim}
-use mathlib.Core.List.{List}
-use Prim.Native.Nat.{ℕ, _+_}
-use native.Mathlib.Omega.{arith}
-use borrow.Author.Needs.{needs}
-use borrow.Author.Tests.{eqb-true, not-false}
-use lib.ListN.{getD}
+use Rattle.basics.proofs.Prelude.{_≡_, ⊎-elim, List, getD, ℕ, _+_, arith, eqb-true, not-false, needs}
 use Rattle.script.specs.Next.{Short}
 use Rattle.script.proofs.Quick.{found-k, found-d, found-l}
 use Rattle.script.proofs.Short.{short-of, next-some, next-most}
@@ -77,9 +70,7 @@ returns-7 c =
     (letter-d c)
 
 pub quick-step-spec : {M : Type 1} → statement M
-quick-step-spec =
-    tie.close
-    (tie.spec
+quick-step-spec = tie.close (tie.spec
     (search needs) (search needs) (search needs) (search needs) (search needs) (search needs)
     (search needs) (search needs) (search needs) (search needs) quick-lie-requires returns-4
     short-at-requires-2 (search needs) (search needs) (search needs) sub-end returns-6 returns-7)

@@ -1,10 +1,5 @@
--- `short_at`: where the second byte is a digit too, the mark stands one place later.
-use mathlib.Core.Path.{_≡_, sym, _∙_}
-use mathlib.Core.Bool.{true}
-use native.Mathlib.Omega.{arith}
-use borrow.Author.Needs.{needs}
-use borrow.Author.Tests.{not-false}
-use lib.ListN.{getD}
+-- `short_at`: where the second byte is a digit too, the stop stands one place later.
+use Rattle.basics.proofs.Prelude.{_≡_, sym, _∙_, true, getD, arith, not-false, needs}
 use Rattle.script.specs.Numbers.{isDigit}
 use Rattle.script.proofs.Short.{more-le, short-is}
 use Rattle.script.proofs.next.short_at.Statement.{statement}
@@ -36,15 +31,13 @@ returns-3 : tie.Need-returns-3
 returns-3 c =
     let second = c .before .before .before in
     let start = second .before .before .before .before .before .before in
-    short-is (start .args .text .now) (start .args .at) (start .args .mark) (start .pre)
+    short-is (start .args .text .now) (start .args .at) (start .args .stop) (start .pre)
     (digit (second .before))
     (second .is-digit2 .result) (second .is-digit2 .ensures) (c .before .if2 .left) (c .short-value .result)
     (c .short-value .ensures)
 
 pub short-at-spec : {M : Type 1} → statement M
-short-at-spec =
-    tie.close
-    (tie.spec
+short-at-spec = tie.close (tie.spec
     (search needs) (search needs) (search needs) (search needs) (search needs) (search needs)
     (search needs) (search needs) add-end-2 shared-slice-read-if2 (search needs)
     short-value-requires add-t13 returns-3)

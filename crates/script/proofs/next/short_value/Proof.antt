@@ -1,8 +1,5 @@
 -- `short_value`: the value of one digit or of two.
-use mathlib.Core.Path.{_≡_, _∙_, sym}
-use mathlib.Core.Bool.{true, false}
-use native.Mathlib.Omega.{arith}
-use borrow.Author.Needs.{needs}
+use Rattle.basics.proofs.Prelude.{_≡_, sym, _∙_, true, false, arith, needs}
 use Rattle.script.specs.Numbers.{isDigit, valueFrom}
 use Rattle.script.proofs.Texts.{range}
 use Rattle.script.proofs.next.short_value.Statement.{statement}
@@ -30,8 +27,6 @@ unfolding valueFrom
 returns-2 c = rw (one c) (omega arith)
 
 pub short-value-spec : {M : Type 1} → statement M
-short-value-spec =
-    tie.close
-    (tie.spec
+short-value-spec = tie.close (tie.spec
     sub-value (search needs) (search needs) (search needs) sub-result (search needs) (search needs)
     returns returns-2)

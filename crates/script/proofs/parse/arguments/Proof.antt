@@ -1,24 +1,19 @@
--- `arguments`: the loop keeps that the numbers left, behind those that it has read, make the line.
-use mathlib.Core.Path.{_≡_, refl, sym, _∙_, ap}
-use mathlib.Core.List.{List}
-use Prim.Native.Nat.{ℕ, _+_, _-_, _≤_}
-use native.Mathlib.Omega.{arith}
-use borrow.Author.Needs.{needs}
-use lib.ListN.{length, drop}
+-- `arguments`: the loop keeps that the numbers numbers, behind those that it has read, make the line.
+use Rattle.basics.proofs.Prelude.{_≡_, refl, sym, ap, _∙_, List, length, drop, ℕ, _+_, _-_, _≤_, arith, needs}
 use lib.Seq.{drop-drop}
 use Rattle.script.specs.declared.parse.Line.{Line}
 use Rattle.script.specs.Grammar.{numbersThen, lastOf, argumentsOf}
-use Rattle.script.proofs.Readers.{rest-is, none-left, number-read, starts-within}
+use Rattle.script.proofs.Readers.{rest-is, none-ahead, number-read, starts-within}
 use Rattle.script.proofs.parse.arguments.Statement.{statement}
 use Rattle.script.proofs.parse.arguments.Tie as tie
 
 abbrev Inv-loop : tie.InvT-loop
-Inv-loop letter text left₀ earlier₀ later₀ at₀ left earlier later at =
+Inv-loop letter text numbers₀ earlier₀ later₀ at₀ numbers earlier later at =
     (at ≤ length text) ×
-    (numbersThen left earlier later (drop at text) (lastOf letter) ≡ argumentsOf letter text)
+    (numbersThen numbers earlier later (drop at text) (lastOf letter) ≡ argumentsOf letter text)
 
 abbrev μ-loop : tie.MeasureT-loop
-μ-loop letter text left₀ earlier₀ later₀ at₀ left earlier later at = left
+μ-loop letter text numbers₀ earlier₀ later₀ at₀ numbers earlier later at = numbers
 
 loop-holds : tie.Need-loop-holds Inv-loop μ-loop
 unfolding argumentsOf
@@ -42,9 +37,8 @@ returns : tie.Need-returns Inv-loop μ-loop
 returns c =
     let call = c .before .before in
     let l = at-loop call .loop in
-    number-read (text call) (at call) (call .first-number .ensures) (c .enum-told .given .1) (l .left)
-    (l .earlier)
-    (l .later) (lastOf (letter call)) (omega arith)
+    number-read (text call) (at call) (call .first-number .ensures) (c .enum-told .given .1) (l .numbers)
+    (l .earlier) (l .later) (lastOf (letter call)) (omega arith)
     ∙ l .inv .1
 
 -- the rest begins within the text
@@ -66,11 +60,11 @@ loop-again c =
     let l = at-loop call .loop in
     let found = c .before .value .given in
     let says : List ℕ → Line =
-    λ rest. numbersThen (l .left - 1) (l .later) (found .0 .0) rest (lastOf (letter call)) in (
+    λ rest. numbersThen (l .numbers - 1) (l .later) (found .0 .0) rest (lastOf (letter call)) in (
       within c,
       ap says (sym (drop-drop (found .0 .1 .0) (at call) (text call)))
-          ∙ number-read (text call) (at call) (call .first-number .ensures) (found .1) (l .left) (l .earlier)
-          (l .later) (lastOf (letter call)) (omega arith)
+          ∙ number-read (text call) (at call) (call .first-number .ensures) (found .1) (l .numbers)
+          (l .earlier) (l .later) (lastOf (letter call)) (omega arith)
           ∙ l .inv .1,
     )
 
@@ -79,15 +73,15 @@ returns-2 c =
     let l = c .before .before .before .loop in
     let a = c .before .before .before .before .before .before .args in
     let says : ℕ → ℕ → List ℕ → Line = lastOf (a .letter) in
-    c .last-argument .ensures
-    ∙ ap (λ (rest : List ℕ). says (l .earlier) (l .later) rest) (rest-is (a .text .now) (l .at))
-    ∙ none-left (l .earlier) (l .later) (drop (l .at) (a .text .now)) says (l .left) (omega arith)
-    ∙ l .inv .1
+    cc (
+      c .last-argument .ensures,
+      rest-is (a .text .now) (l .at),
+      none-ahead (l .earlier) (l .later) (drop (l .at) (a .text .now)) says (l .numbers) (omega arith),
+      l .inv .1,
+    )
 
 pub arguments-spec : {M : Type 1} → statement M
-arguments-spec =
-    tie.close
-    (tie.spec
+arguments-spec = tie.close (tie.spec
     Inv-loop μ-loop (search needs) loop-holds (search needs) (search needs) (search needs)
     (search needs) (search needs) (search needs) returns add-at (search needs) (search needs)
     loop-again (search needs) (search needs) (search needs) (search needs) returns-2)

@@ -1,8 +1,5 @@
 -- `entry_after`: what follows from ten hexadecimal digits.
-use mathlib.Core.Path.{_≡_}
-use native.Mathlib.Omega.{arith}
-use borrow.Author.Needs.{needs}
-use borrow.Author.Tests.{ne-eqb}
+use Rattle.basics.proofs.Prelude.{_≡_, arith, ne-eqb, needs}
 use Rattle.script.specs.Numbers.{hexIn}
 use Rattle.script.specs.Grammar.{hexIs}
 use Rattle.script.proofs.Halves.{read-wide}
@@ -28,7 +25,5 @@ returns-3 : tie.Need-returns-3
 returns-3 c = read hexIs _ _ (means (c .before .before)) (c .enum-told .given .1)
 
 pub entry-after-spec : {M : Type 1} → statement M
-entry-after-spec =
-    tie.close
-    (tie.spec
+entry-after-spec = tie.close (tie.spec
     returns (λ c κs. omega arith) (search needs) (search needs) returns-2 returns-3)

@@ -1,8 +1,5 @@
 -- `first_number`: the first word is what stands before the first blank.
-use mathlib.Core.Path.{sym}
-use native.Mathlib.Omega.{arith}
-use borrow.Author.Needs.{needs}
-use lib.Seq.{length-take-le}
+use Rattle.basics.proofs.Prelude.{sym, length-take-le, arith, needs}
 use Rattle.script.proofs.Readers.{cut-none, cut-at, cut-no-number}
 use Rattle.script.proofs.parse.first_number.Statement.{statement}
 use Rattle.script.proofs.parse.first_number.Tie as tie
@@ -28,8 +25,6 @@ returns-3 c =
     (c .enum-told .given .1)
 
 pub first-number-spec : {M : Type 1} → statement M
-first-number-spec =
-    tie.close
-    (tie.spec
+first-number-spec = tie.close (tie.spec
     (search needs) returns slice-aggregate-number-in (search needs) (search needs) (search needs)
     (search needs) returns-2 returns-3)

@@ -1,9 +1,5 @@
 -- `hex_digit`: the tests are the definitions'.
-use mathlib.Core.Path.{_≡_}
-use mathlib.Core.Bool.{false}
-use native.Mathlib.Omega.{arith}
-use borrow.Author.Needs.{needs}
-use borrow.Author.Tests.{le-leb, lt-leb, leb-true}
+use Rattle.basics.proofs.Prelude.{_≡_, false, arith, leb-true, le-leb, lt-leb, needs}
 use Rattle.basics.proofs.Cases.{by-either}
 use Rattle.script.specs.Numbers.{isDigit, isLetter}
 use Rattle.script.proofs.parse.hex_digit.Statement.{statement}
@@ -31,7 +27,5 @@ returns-3 : tie.Need-returns-3
 returns-3 c = rw (not-digit (c .before), not-letter c)
 
 pub hex-digit-spec : {M : Type 1} → statement M
-hex-digit-spec =
-    tie.close
-    (tie.spec
+hex-digit-spec = tie.close (tie.spec
     (search needs) (search needs) (search needs) returns returns-2 returns-3)

@@ -1,15 +1,9 @@
 -- `hex_in`: the loop keeps that `bad` is below 16 exactly where all bytes that it has passed are digits, and
 -- their value if they are. There are at most 16.
-use Prim.Native.Nat.{ℕ, _≤_, _<_, _-_, _+_, _*_, _%_, _^_}
-use mathlib.Core.Path.{_≡_, refl, sym, _∙_, ap}
-use mathlib.Core.Bool.{true, _&&_}
-use mathlib.Core.List.{List}
-use native.Mathlib.Omega.{arith}
-use borrow.Author.Needs.{needs}
-use borrow.Author.Tests.{eq-eqb, lt-ltb, le-ltb, ltb-true, ltb-false}
+use Rattle.basics.proofs.Prelude.{_≡_, refl, sym, ap, _∙_, true, _&&_, List, length, getD, take, ℕ, _+_, _-_}
+use Rattle.basics.proofs.Prelude.{_*_, _%_, _^_, _≤_, _<_, arith, ltb, eq-eqb, ltb-true, ltb-false, lt-ltb}
+use Rattle.basics.proofs.Prelude.{le-ltb, needs}
 use lib.Bits.{bitOr, bitAnd, or-lt, or-add-and, and-le-l, and-le-r}
-use lib.Dec.{ltb}
-use lib.ListN.{length, getD, take}
 use lib.Seq.{take-all}
 use Rattle.basics.proofs.Cases.{by-test, both}
 use Rattle.script.specs.Numbers.{isHexDigit, hexValue, allBytes, valueFrom, hexIn}
@@ -96,8 +90,6 @@ returns-2 c =
     simp (eq-eqb n n refl, rw (whole (c .before)) at (sym (l .inv .1) ∙ le-ltb (l .bad) 16 (c .if1 .left)))
 
 pub hex-in-spec : {M : Type 1} → statement M
-hex-in-spec =
-    tie.close
-    (tie.spec
+hex-in-spec = tie.close (tie.spec
     Inv-loop μ-loop loop-holds (search needs) (search needs) mul-value add-value (search needs)
     (search needs) loop-again returns returns-2)

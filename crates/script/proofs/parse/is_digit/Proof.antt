@@ -10,7 +10,4 @@ returns-2 : tie.Need-returns-2
 returns-2 c = simp (lt-leb 48 _ (c .if1 .left))
 
 pub is-digit-spec : {M : Type 1} → statement M
-is-digit-spec =
-    tie.close
-    (tie.spec
-    returns returns-2)
+is-digit-spec = tie.close (tie.spec returns returns-2)

@@ -10,7 +10,4 @@ returns-2 : tie.Need-returns-2
 returns-2 c = simp (ne-eqb _ 48 (c .if1 .left))
 
 pub is-mark-spec : {M : Type 1} → statement M
-is-mark-spec =
-    tie.close
-    (tie.spec
-    returns returns-2)
+is-mark-spec = tie.close (tie.spec returns returns-2)

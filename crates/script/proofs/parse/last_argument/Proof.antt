@@ -1,6 +1,5 @@
 -- `last_argument`: the letter picks the reader.
-use borrow.Author.Needs.{needs}
-use borrow.Author.Tests.{ne-eqb}
+use Rattle.basics.proofs.Prelude.{ne-eqb, needs}
 use Rattle.script.proofs.parse.last_argument.Statement.{statement}
 use Rattle.script.proofs.parse.last_argument.Tie as tie
 
@@ -11,9 +10,7 @@ number c =
     (c .number-after .ensures)
 
 pub last-argument-spec : {M : Type 1} → statement M
-last-argument-spec =
-    tie.close
-    (tie.spec
+last-argument-spec = tie.close (tie.spec
     (search needs) (search needs) (search needs) (search needs)
     (λ c. rw (c .before .match .keys1) (c .marks-after .ensures))
     (λ c. rw (c .before .match .keys2) (c .message-after .ensures))

@@ -1,6 +1,5 @@
 -- `leading`: the letter picks the number.
-use mathlib.Core.Path.{refl}
-use borrow.Author.Tests.{ne-eqb}
+use Rattle.basics.proofs.Prelude.{refl, ne-eqb}
 use Rattle.script.proofs.parse.leading.Statement.{statement}
 use Rattle.script.proofs.parse.leading.Tie as tie
 
@@ -16,9 +15,7 @@ other c =
     )
 
 pub leading-spec : {M : Type 1} → statement M
-leading-spec =
-    tie.close
-    (tie.spec
+leading-spec = tie.close (tie.spec
     (λ c. rw (c .match .keys1) refl) (λ c. rw (c .match .keys2) refl)
     (λ c. rw (c .match .keys3) refl) (λ c. rw (c .match .keys4) refl)
     (λ c. rw (c .match .keys5) refl) other)

@@ -12,7 +12,5 @@ returns-2 : tie.Need-returns-2
 returns-2 c = read numberIs _ _ (c .before .before .marks-in .ensures) (c .enum-told .given .1)
 
 pub marks-after-spec : {M : Type 1} → statement M
-marks-after-spec =
-    tie.close
-    (tie.spec
+marks-after-spec = tie.close (tie.spec
     (search needs) (search needs) (search needs) returns returns-2)

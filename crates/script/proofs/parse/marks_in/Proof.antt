@@ -1,18 +1,11 @@
 -- `marks_in`: the loop keeps the marks from place i on, the last first.
-use Prim.Native.Nat.{ℕ, suc, _≤_, _<_, _-_, _^_}
-use mathlib.Core.Path.{_≡_, refl, sym, _∙_}
-use mathlib.Core.Bool.{true, _&&_}
-use mathlib.Core.List.{List}
-use native.Mathlib.Omega.{arith}
-use borrow.Author.Needs.{needs}
-use borrow.Author.Tests.{le-leb, lt-leb, not-true, not-false}
-use lib.Dec.{leb}
-use lib.ListN.{length, getD, drop}
+use Rattle.basics.proofs.Prelude.{_≡_, refl, sym, _∙_, true, _&&_, List, length, getD, drop, ℕ, suc, _-_, _^_}
+use Rattle.basics.proofs.Prelude.{_≤_, _<_, arith, leb, le-leb, lt-leb, not-true, not-false, needs}
 use lib.Pow.{pow-pos}
 use lib.Seq.{drop-length}
 use Rattle.script.specs.Numbers.{allBytes}
 use Rattle.script.specs.Grammar.{isMark, markBits, marksIn}
-use Rattle.script.proofs.Texts.{all-fails, fits-more}
+use Rattle.script.proofs.Texts.{all-fails, fits-more, sized}
 use Rattle.script.proofs.Marks.{mark-range, all-from, bits-from, bits-lt}
 use Rattle.script.proofs.parse.marks_in.Statement.{statement}
 use Rattle.script.proofs.parse.marks_in.Tie as tie
@@ -40,24 +33,18 @@ loop-holds c =
     (search needs, rw (drop-length s) refl, rw (drop-length s) refl, pow-pos _)
 
 -- where the loop stands, in a text of 1 to 13 bytes
-module _ (at : tie.At-loop Inv-loop μ-loop) where
-  abbrev text : List ℕ
-  text = at .before .before .before .before .args .text .now
+abbrev text : tie.At-loop Inv-loop μ-loop → List ℕ
+text at = at .before .before .before .before .args .text .now
 
-  sized : leb 1 (length text) && leb (length text) 13 ≡ true
-  sized =
-      rw (
-        le-leb 1 (length text) (at .before .before .if1 .left),
-        le-leb (length text) 13
-            (at .before .if2 .left),
-      ) refl
+fits : (at : tie.At-loop Inv-loop μ-loop) → leb 1 (length (text at)) && leb (length (text at)) 13 ≡ true
+fits at = sized (text at) 13 (at .before .before .if1 .left) (at .before .if2 .left)
 
 returns-3 : tie.Need-returns-3 Inv-loop μ-loop
 unfolding marksIn
 returns-3 c =
     let at = c .before .before .before .before in
     let no-mark = sym (c .before .is-mark .ensures) ∙ not-true _ (c .if3 .taken) in
-    simp (sized at, all-fails isMark (text at) (at .loop .i - 1) (omega arith) no-mark)
+    simp (fits at, all-fails isMark (text at) (at .loop .i - 1) (omega arith) no-mark)
 
 -- where the loop goes on: the byte is a mark
 module _ (c : tie.Else3 Inv-loop μ-loop) where
@@ -100,12 +87,10 @@ unfolding marksIn
 returns-4 c =
     let l = c .before .loop in
     let none : l .i ≡ 0 = omega arith in
-    simp (sized (c .before), rw none at (l .inv .1), rw none at (l .inv .2))
+    simp (fits (c .before), rw none at (l .inv .1), rw none at (l .inv .2))
 
 pub marks-in-spec : {M : Type 1} → statement M
-marks-in-spec =
-    tie.close
-    (tie.spec
-    Inv-loop μ-loop returns returns-2 loop-holds (search needs) (λ c. omega arith) (search needs) returns-3
-    (λ c. within c .0) (λ c. omega (arith, within c .1)) (λ c. omega (arith, small c))
+marks-in-spec = tie.close (tie.spec
+    Inv-loop μ-loop returns returns-2 loop-holds (search needs) (λ c. omega arith) (search needs)
+    returns-3 (λ c. within c .0) (λ c. omega (arith, within c .1)) (λ c. omega (arith, small c))
     (λ c. omega (arith, small c, within c .1)) (λ c. omega arith) loop-again returns-4)

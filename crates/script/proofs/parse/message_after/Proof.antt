@@ -1,16 +1,9 @@
 -- `message_after`: 22 digits are a message when their first 6 and their last 16 are numbers.
-use mathlib.Core.Path.{_≡_, sym}
-use mathlib.Core.List.{List}
-use Prim.Native.Nat.{ℕ}
-use native.Mathlib.Omega.{arith}
-use borrow.Author.Needs.{needs}
-use borrow.Author.Tests.{ne-eqb}
-use lib.ListN.{length, drop, length-drop}
-use lib.Seq.{length-take-le}
+use Rattle.basics.proofs.Prelude.{_≡_, sym, List, length, drop, length-take-le, ℕ, arith, ne-eqb, needs}
 use Rattle.message.specs.declared.Words.{Words}
 use Rattle.register.specs.declared.Step.the-variants.{L}
 use Rattle.script.specs.declared.parse.Line.{Line}
-use Rattle.script.specs.declared.parse.Line.the-variants.{Take}
+use Rattle.script.specs.declared.parse.Line.the-variants.{Do}
 use Rattle.script.specs.Numbers.{hexIn}
 use Rattle.script.specs.Grammar.{hexIs}
 use Rattle.script.proofs.Halves.{first-none, second-none, both-are}
@@ -41,7 +34,7 @@ module _ (c : tie.After-hex-in) where
   wide = c .before .before .if1 .left
 
   abbrev line : Words → Line
-  line words = Take (L (start .args .k) (start .args .d) words)
+  line words = Do (L (start .args .k) (start .args .d) words)
 
 returns-2 : tie.Need-returns-2
 returns-2 c =
@@ -49,9 +42,7 @@ returns-2 c =
     first-none (text one) (wide one) _ (one .hex-in .ensures) (line one) (c .enum-told .given .1)
 
 hex-in-requires-2 : tie.Need-hex-in-requires-2
-hex-in-requires-2 c κs =
-    let s = text (c .before .before .before .before) in
-    rw (rest-is s 6, length-drop 6 s) (omega arith)
+hex-in-requires-2 c κs = search needs
 
 -- the second part was read
 module _ (c : tie.After-hex-in2) where
@@ -76,9 +67,7 @@ returns-4 c =
     (two .before .before .before .high .given .1) (c .before .low .given .1)
 
 pub message-after-spec : {M : Type 1} → statement M
-message-after-spec =
-    tie.close
-    (tie.spec
+message-after-spec = tie.close (tie.spec
     returns slice-aggregate-hex-in hex-in-requires (search needs) (search needs) returns-2
     (search needs) (search needs) (search needs) hex-in-requires-2 (search needs) (search needs)
     returns-3 (search needs) returns-4)

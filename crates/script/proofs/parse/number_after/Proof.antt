@@ -1,8 +1,5 @@
 -- `number_after`: what follows from the number, by the letter.
-use mathlib.Core.Path.{_≡_, sym, _∙_, ap}
-use Prim.Native.Nat.{ℕ}
-use borrow.Author.Needs.{needs}
-use borrow.Author.Tests.{ne-eqb}
+use Rattle.basics.proofs.Prelude.{_≡_, ℕ, ne-eqb, needs}
 use Rattle.script.specs.Grammar.{numberIs, numberLine, numberAfter}
 use Rattle.script.proofs.Readers.{read}
 use Rattle.script.proofs.parse.number_after.Statement.{statement}
@@ -20,8 +17,7 @@ module _ (c : tie.After-known-told) where
   by-letter : (letter : ℕ) → start .args .letter ≡ letter
       → numberLine letter (start .args .earlier) (c .before .value .given .0 .0)
       ≡ numberAfter (start .args .letter) (start .args .earlier) (start .args .text .now)
-  by-letter letter e =
-      ap (λ (l : ℕ). numberLine l (start .args .earlier) (c .before .value .given .0 .0)) (sym e) ∙ says
+  by-letter letter e = cc (e, says)
 
 returns : tie.Need-returns
 returns c = read numberIs _ _ (c .before .before .number-in .ensures) (c .enum-told .given .1)
@@ -34,9 +30,7 @@ other c =
     (says (c .before))
 
 pub number-after-spec : {M : Type 1} → statement M
-number-after-spec =
-    tie.close
-    (tie.spec
+number-after-spec = tie.close (tie.spec
     (search needs) (search needs) (search needs) returns
     (λ c. by-letter (c .before) 82 (c .match2 .keys1))
     (λ c. by-letter (c .before) 67 (c .match2 .keys2))

@@ -1,16 +1,10 @@
 -- `number_in`: the loop keeps the value of the digits that it has passed.
-use Prim.Native.Nat.{ℕ, _≤_, _<_, _-_, _*_, _^_}
-use mathlib.Core.Path.{_≡_, refl, sym, _∙_}
-use mathlib.Core.Bool.{true, _&&_}
-use mathlib.Core.List.{List}
-use native.Mathlib.Omega.{arith}
-use borrow.Author.Needs.{needs}
-use borrow.Author.Tests.{le-leb, lt-leb, not-true, not-false}
-use lib.Dec.{leb}
-use lib.ListN.{length, getD, take}
+use Rattle.basics.proofs.Prelude.{_≡_, refl, sym, _∙_, true, _&&_, List, length, getD, take, ℕ, _-_, _*_, _^_}
+use Rattle.basics.proofs.Prelude.{_≤_, _<_, arith, leb, le-leb, lt-leb, not-true, not-false, needs}
 use lib.Seq.{take-all}
 use Rattle.script.specs.Numbers.{isDigit, digitValue, allBytes, valueFrom, numberIn}
-use Rattle.script.proofs.Texts.{all-longer, value-longer, digits-lt, fits-more, all-fails, range}
+use Rattle.script.proofs.Texts.{all-longer, value-longer, digits-lt, fits-more}
+use Rattle.script.proofs.Texts.{all-fails, range, sized}
 use Rattle.script.proofs.parse.number_in.Statement.{statement}
 use Rattle.script.proofs.parse.number_in.Tie as tie
 
@@ -35,24 +29,18 @@ unfolding allBytes valueFrom
 loop-holds c = (search needs, refl, refl, search needs)
 
 -- where the loop stands, in a text of 1 to 7 bytes
-module _ (at : tie.At-loop Inv-loop μ-loop) where
-  abbrev text : List ℕ
-  text = at .before .before .before .before .args .text .now
+abbrev text : tie.At-loop Inv-loop μ-loop → List ℕ
+text at = at .before .before .before .before .args .text .now
 
-  sized : leb 1 (length text) && leb (length text) 7 ≡ true
-  sized =
-      rw (
-        le-leb 1 (length text) (at .before .before .if1 .left),
-        le-leb (length text) 7
-            (at .before .if2 .left),
-      ) refl
+fits : (at : tie.At-loop Inv-loop μ-loop) → leb 1 (length (text at)) && leb (length (text at)) 7 ≡ true
+fits at = sized (text at) 7 (at .before .before .if1 .left) (at .before .if2 .left)
 
 returns-3 : tie.Need-returns-3 Inv-loop μ-loop
 unfolding numberIn
 returns-3 c =
     let at = c .before .before .before .before in
     let no-digit = sym (c .before .is-digit .ensures) ∙ not-true _ (c .if3 .taken) in
-    simp (sized at, all-fails isDigit (text at) (at .loop .i) (omega arith) no-digit)
+    simp (fits at, all-fails isDigit (text at) (at .loop .i) (omega arith) no-digit)
 
 -- where the loop goes on: the byte is a digit, and the value so far has fewer than 7
 module _ (c : tie.Else3 Inv-loop μ-loop) where
@@ -88,12 +76,10 @@ returns-4 c =
     let l = c .before .loop in
     let whole : take (l .i) (text (c .before)) ≡ text (c .before) =
     take-all (l .i) (text (c .before)) (omega arith) in
-    simp (sized (c .before), rw whole at (l .inv .1), l .inv .2, whole)
+    simp (fits (c .before), rw whole at (l .inv .1), l .inv .2, whole)
 
 pub number-in-spec : {M : Type 1} → statement M
-number-in-spec =
-    tie.close
-    (tie.spec
+number-in-spec = tie.close (tie.spec
     Inv-loop μ-loop returns returns-2 loop-holds (search needs) (search needs) returns-3
     (λ c. omega (arith, small c)) (λ c. within c .0) (λ c. omega (arith, within c .1))
     (λ c. omega (arith, small c, within c .1)) (search needs) (search needs) loop-again returns-4)

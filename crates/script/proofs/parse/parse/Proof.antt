@@ -1,10 +1,5 @@
 -- `parse`: a letter, a blank and arguments, in at most 64 bytes.
-use mathlib.Core.Path.{_∙_, ap}
-use mathlib.Core.List.{List}
-use Prim.Native.Nat.{ℕ}
-use borrow.Author.Needs.{needs}
-use borrow.Author.Tests.{le-leb, lt-leb, eq-eqb, ne-eqb}
-use lib.ListN.{getD}
+use Rattle.basics.proofs.Prelude.{ap, _∙_, List, getD, ℕ, eq-eqb, ne-eqb, le-leb, lt-leb, needs}
 use Rattle.script.specs.Grammar.{lineOf, argumentsOf}
 use Rattle.script.proofs.Readers.{rest-is}
 use Rattle.script.proofs.parse.parse.Statement.{statement}
@@ -40,8 +35,6 @@ returns-4 c =
     (c .arguments .ensures ∙ ap (λ (l : List ℕ). argumentsOf (getD text 0 0) l) (rest-is text 2))
 
 pub parse-spec : {M : Type 1} → statement M
-parse-spec =
-    tie.close
-    (tie.spec
+parse-spec = tie.close (tie.spec
     returns returns-2 (search needs) returns-3 (search needs) (search needs) (search needs)
     (search needs) (search needs) returns-4)

@@ -1,6 +1,5 @@
 -- `digit`: a digit from 0 on, or a letter from A on.
-use borrow.Author.Needs.{needs}
-use borrow.Author.Tests.{lt-ltb, le-ltb}
+use Rattle.basics.proofs.Prelude.{lt-ltb, le-ltb, needs}
 use Rattle.script.proofs.print.digit.Statement.{statement}
 use Rattle.script.proofs.print.digit.Tie as tie
 
@@ -11,7 +10,5 @@ returns-2 : tie.Need-returns-2
 returns-2 c = simp (le-ltb _ 10 (c .if1 .left))
 
 pub digit-spec : {M : Type 1} → statement M
-digit-spec =
-    tie.close
-    (tie.spec
+digit-spec = tie.close (tie.spec
     (search needs) (search needs) (search needs) (search needs) returns returns-2)

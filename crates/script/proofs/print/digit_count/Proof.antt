@@ -1,11 +1,7 @@
 -- `digit_count`: the loop keeps the power of ten that n digits stay below, and that there are n digits at
 -- least.
-use mathlib.Core.Path.{_≡_}
-use Prim.Native.Nat.{ℕ, suc, _+_, _-_, _*_, _^_, _≤_, _<_}
+use Rattle.basics.proofs.Prelude.{_≡_, ℕ, suc, _+_, _-_, _*_, _^_, _≤_, _<_, add-one, arith, needs}
 use native.Mathlib.Nat.{zero-lt-suc, pow-suc, pow-le-pow-right}
-use native.Mathlib.Numerals.{add-one}
-use native.Mathlib.Omega.{arith}
-use borrow.Author.Needs.{needs}
 use Rattle.script.specs.Numbers.{digitCount}
 use Rattle.script.proofs.Digits.{count-some, count-few, count-many, count-most}
 use Rattle.script.proofs.print.digit_count.Statement.{statement}
@@ -58,7 +54,5 @@ returns-2 c =
     omega (arith, few)
 
 pub digit-count-spec : {M : Type 1} → statement M
-digit-count-spec =
-    tie.close
-    (tie.spec
+digit-count-spec = tie.close (tie.spec
     Inv-loop μ-loop loop-holds (search needs) returns mul-power (search needs) loop-again returns-2)

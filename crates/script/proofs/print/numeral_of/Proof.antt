@@ -1,13 +1,6 @@
 -- `numeral_of`: the digits of the hundreds are written if they are kept; else none are.
-use mathlib.Core.Path.{refl, ap, sym, _∙_}
-use mathlib.Core.List.{List}
-use mathlib.Core.Logic.{⊎-elim}
-use Prim.Native.Nat.{ℕ, _/_, _<_}
-use native.Mathlib.Omega.{arith}
-use native.Mathlib.Nat.{zero-add}
-use lib.ListN.{length, replicate}
-use borrow.Author.Needs.{needs}
-use borrow.Author.Tests.{ltb-true, ltb-false}
+use Rattle.basics.proofs.Prelude.{refl, sym, ap, _∙_, ⊎-elim, List, length, replicate, ℕ, _/_, _%_, _<_}
+use Rattle.basics.proofs.Prelude.{zero-add, arith, ltb-true, ltb-false, needs}
 use Rattle.script.specs.Numbers.{decimal}
 use Rattle.script.specs.Writing.{written}
 use Rattle.script.specs.Numerals.{numeralOf}
@@ -30,7 +23,7 @@ returns c =
     let all = sym (kept-all (value / 100) (omega arith) few) in
     let text = w .holds ∙ ap (λ (l : List ℕ). written (replicate 8 0) 0 l) all in
     let kept = w .ends ∙ zero-add (length (decimal (value / 100))) ∙ ap length all in
-    λ i. record { number = value; text = text i; kept = kept i }
+    λ i. record { number = value; text = text i; kept = kept i; «last_two» = value % 100 }
 
 returns-2 : tie.Need-returns-2
 unfolding numeralOf
@@ -41,7 +34,4 @@ returns-2 c =
     rw none refl
 
 pub numeral-of-spec : {M : Type 1} → statement M
-numeral-of-spec =
-    tie.close
-    (tie.spec
-    (search needs) put-decimal-requires returns returns-2)
+numeral-of-spec = tie.close (tie.spec (search needs) (search needs) put-decimal-requires returns returns-2)

@@ -1,7 +1,5 @@
 -- `print`: the line of the number's numeral.
-use mathlib.Core.Path.{ap, subst, _∙_}
-use Prim.Native.Nat.{ℕ}
-use borrow.Author.Needs.{needs}
+use Rattle.basics.proofs.Prelude.{ap, _∙_, subst, ℕ, needs}
 use Rattle.script.specs.declared.print.Numeral.{Numeral}
 use Rattle.script.specs.Printed.{printed, Shown}
 use Rattle.script.proofs.Numerals.{number-is, own-number}
@@ -20,7 +18,4 @@ returns c =
     (c .before .before .print-numbered .last .0)) same (c .before .before .print-numbered .ensures)
 
 pub print-spec : {M : Type 1} → statement M
-print-spec =
-    tie.close
-    (tie.spec
-    (search needs) print-numbered-requires (search needs) returns)
+print-spec = tie.close (tie.spec (search needs) print-numbered-requires (search needs) returns)

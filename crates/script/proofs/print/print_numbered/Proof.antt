@@ -1,13 +1,7 @@
 -- `print_numbered`: the number, and what stands behind it; a buffer that could be too short is left as it is.
-use mathlib.Core.Path.{_∙_}
-use mathlib.Core.List.{_++_}
-use native.Mathlib.Nat.{zero-add}
-use native.Mathlib.Omega.{arith}
-use borrow.Author.Needs.{needs}
-use borrow.Author.Tests.{le-leb, lt-leb}
-use lib.ListN.{length}
+use Rattle.basics.proofs.Prelude.{_∙_, _++_, length, zero-add, arith, le-leb, lt-leb, needs}
 use Rattle.script.specs.Numbers.{decimal}
-use Rattle.script.specs.Printed.{behindNumber, printed}
+use Rattle.script.specs.Printed.{behindNumber, printed, longest}
 use Rattle.script.specs.Writing.{Written}
 use Rattle.script.proofs.Digits.{decimal-short}
 use Rattle.script.proofs.Lengths.{behind-long}
@@ -18,7 +12,7 @@ use Rattle.script.proofs.print.print_numbered.Tie as tie
 
 returns : tie.Need-returns
 returns c =
-    let short = lt-leb 80 (length (c .before .before .args .out .now)) (omega arith) in
+    let short = lt-leb longest (length (c .before .before .args .out .now)) (omega arith) in
     record { bytes = simp short; holds = simp short }
 
 put-output-requires : tie.Need-put-output-requires
@@ -46,12 +40,10 @@ module _ (c : tie.After-slice-known3) where
 returns-2 : tie.Need-returns-2
 unfolding printed
 returns-2 c =
-    let long = le-leb 80 (length (start c .args .out .now))
+    let long = le-leb longest (length (start c .args .out .now))
     (omega (arith, number c .before .before .if1 .left)) in
     record { bytes = simp long (line c .ends ∙ zero-add _); holds = simp long (line c .holds) }
 
 pub print-numbered-spec : {M : Type 1} → statement M
-print-numbered-spec =
-    tie.close
-    (tie.spec
+print-numbered-spec = tie.close (tie.spec
     returns (λ c κs. search needs) put-output-requires (λ c. keeps (line c)) returns-2)

@@ -1,12 +1,7 @@
--- `put_decimal`: the loop keeps the digits behind place i written. Where one is left at its end, the first
+-- `put_decimal`: the loop keeps the digits behind place i written. Where one is rest at its end, the first
 -- digit is written too.
-use mathlib.Core.Path.{_≡_, refl, sym}
-use mathlib.Core.List.{List}
-use mathlib.Core.Logic.{⊎-elim}
-use Prim.Native.Nat.{ℕ, _+_, _-_, _/_, _%_, _≤_}
-use native.Mathlib.Omega.{arith}
-use borrow.Author.Needs.{needs}
-use lib.ListN.{length, set}
+use Rattle.basics.proofs.Prelude.{_≡_, refl, sym, ⊎-elim, List, length, set, ℕ, _+_, _-_, _/_, _%_, _≤_}
+use Rattle.basics.proofs.Prelude.{arith, needs}
 use Rattle.script.specs.Numbers.{digitsOf, digitCount}
 use Rattle.script.specs.Writing.{Written}
 use Rattle.script.proofs.Digits.{digits-length, digit-below-ten}
@@ -16,10 +11,10 @@ use Rattle.script.proofs.print.put_decimal.Statement.{statement}
 use Rattle.script.proofs.print.put_decimal.Tie as tie
 
 abbrev Inv-loop : tie.InvT-loop
-Inv-loop out₀ at value n left₀ i₀ out left i = Trailing 10 out₀ at n value out left i
+Inv-loop out₀ at value n rest₀ i₀ out rest i = Trailing 10 out₀ at n value out rest i
 
 abbrev μ-loop : tie.MeasureT-loop
-μ-loop out₀ at value n left₀ i₀ out left i = i
+μ-loop out₀ at value n rest₀ i₀ out rest i = i
 
 loop-holds : tie.Need-loop-holds Inv-loop μ-loop
 loop-holds c =
@@ -55,13 +50,13 @@ slice-write-out c =
 add-result : tie.Need-add-result Inv-loop μ-loop
 add-result c = omega (arith, room (c .before .before .before))
 
--- where one digit is left, it is written
-alone : {before out after : List ℕ} {at n value left i : ℕ} → at + n ≤ length before → i ≡ 1
-    → after ≡ set out at (48 + left % 10)
-    → Trailing 10 before at n value out left i → Trailing 10 before at n value after (left / 10) 0
-alone {at} {left} fits e is t =
+-- where one digit is rest, it is written
+alone : {before out after : List ℕ} {at n value rest i : ℕ} → at + n ≤ length before → i ≡ 1
+    → after ≡ set out at (48 + rest % 10)
+    → Trailing 10 before at n value out rest i → Trailing 10 before at n value after (rest / 10) 0
+alone {at} {rest} fits e is t =
     let here : at + 0 ≡ at = omega arith in
-    one-more fits 0 e (rw (here, ← digit-below-ten (left % 10) (omega arith)) is) t
+    one-more fits 0 e (rw (here, ← digit-below-ten (rest % 10) (omega arith)) is) t
 
 all-digits : (c : tie.Joined1 Inv-loop μ-loop)
     → let start = c .before .before .before in
@@ -81,9 +76,7 @@ returns c =
     named (λ n. digitsOf 10 n value) (sym (start .digit-count .ensures)) (all-digits c)
 
 pub put-decimal-spec : {M : Type 1} → statement M
-put-decimal-spec =
-    tie.close
-    (tie.spec
-    Inv-loop μ-loop (search needs) loop-holds (search needs) add-put-two put-two-requires
-    (search needs) loop-again (search needs) (search needs) slice-write-out add-result
+put-decimal-spec = tie.close (tie.spec
+    Inv-loop μ-loop (search needs) loop-holds (search needs) add-put-two (search needs)
+    put-two-requires (search needs) loop-again (search needs) (search needs) slice-write-out add-result
     (λ c. keeps (all-digits c)) returns)

@@ -1,18 +1,14 @@
 -- `put_digits`: the loop keeps the digits behind place i written.
-use mathlib.Core.Path.{refl, ap}
-use Prim.Native.Nat.{ℕ, _+_, _-_}
-use native.Mathlib.Omega.{arith}
-use borrow.Author.Needs.{needs}
-use lib.ListN.{set}
+use Rattle.basics.proofs.Prelude.{refl, ap, set, ℕ, _+_, _-_, arith, needs}
 use Rattle.script.proofs.Trailing.{Trailing, none-yet, wide, one-more, all-written}
 use Rattle.script.proofs.print.put_digits.Statement.{statement}
 use Rattle.script.proofs.print.put_digits.Tie as tie
 
 abbrev Inv-loop : tie.InvT-loop
-Inv-loop out₀ at n value left₀ i₀ out left i = Trailing 16 out₀ at n value out left i
+Inv-loop out₀ at n value rest₀ i₀ out rest i = Trailing 16 out₀ at n value out rest i
 
 abbrev μ-loop : tie.MeasureT-loop
-μ-loop out₀ at n value left₀ i₀ out left i = i
+μ-loop out₀ at n value rest₀ i₀ out rest i = i
 
 loop-holds : tie.Need-loop-holds Inv-loop μ-loop
 loop-holds c =
@@ -37,8 +33,6 @@ returns : tie.Need-returns Inv-loop μ-loop
 returns c = all-written (c .before .before .before .pre) (omega arith) refl (c .before .loop .inv)
 
 pub put-digits-spec : {M : Type 1} → statement M
-put-digits-spec =
-    tie.close
-    (tie.spec
+put-digits-spec = tie.close (tie.spec
     Inv-loop μ-loop loop-holds (search needs) (search needs) (search needs) slice-write-out
     (λ c. omega arith) loop-again (search needs) same-length returns)

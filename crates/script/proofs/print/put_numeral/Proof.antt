@@ -1,9 +1,7 @@
 -- `put_numeral`: a numeral that keeps digits has their text written, and the last two behind them.
-use Prim.Native.Nat.{_≤_}
-use native.Mathlib.Omega.{arith}
-use borrow.Author.Needs.{needs}
+use Rattle.basics.proofs.Prelude.{_≤_, arith, needs}
 use Rattle.script.proofs.Digits.{decimal-short}
-use Rattle.script.proofs.Numerals.{few-kept, eight-bytes, numeral-begun}
+use Rattle.script.proofs.Numerals.{few-kept, eight-bytes, last-two, numeral-begun}
 use Rattle.script.proofs.Over.{begun-alone}
 use Rattle.script.proofs.Writing.{keeps}
 use Rattle.script.proofs.print.put_numeral.Statement.{statement}
@@ -32,7 +30,8 @@ few c = few-kept (start c .args .numeral) (start c .pre .0)
 put-two-requires : tie.Need-put-two-requires
 put-two-requires c κs =
     let text = c .before .before .before in
-    rw (keeps (text .put-text .ensures)) (omega (arith, start text .pre .1, few text))
+    let last = last-two (start text .args .numeral) (start text .pre .0) in
+    rw (keeps (text .put-text .ensures)) (omega (arith, start text .pre .1, few text, last))
 
 abbrev text-at : tie.After-struct-known2 → tie.After-put-text
 text-at c = c .before .before .before .before .before .before .before
@@ -52,8 +51,6 @@ returns-2 c =
     (c .before .before .before .put-two .ensures)
 
 pub put-numeral-spec : {M : Type 1} → statement M
-put-numeral-spec =
-    tie.close
-    (tie.spec
+put-numeral-spec = tie.close (tie.spec
     put-decimal-requires (search needs) returns (λ c. search needs) put-text-requires
     put-two-requires add-result (search needs) returns-2)

@@ -1,14 +1,8 @@
 -- `put_pair`: counter, client and entry, each behind a blank.
-use mathlib.Core.Path.{_≡_, refl, ap, _∙_}
-use mathlib.Core.List.{List, _∷_, _++_}
+use Rattle.basics.proofs.Prelude.{_≡_, refl, List, _∷_, _++_, length, ℕ, _≤_, arith, needs}
 use Prim.Native.Char.{code}
-use Prim.Native.Nat.{ℕ, _≤_}
-use native.Mathlib.Omega.{arith}
-use borrow.Author.Needs.{needs}
-use lib.ListN.{length}
 use Rattle.message.specs.declared.Entry.{Entry}
 use Rattle.message.specs.declared.Pair.{Pair}
-use Rattle.message.specs.declared.WriteCounter.{WriteCounter}
 use Rattle.message.specs.Pair.{counter, client, entry}
 use Rattle.script.specs.Numbers.{hexEntry}
 use Rattle.script.specs.Printed.{spaced, pairText}
@@ -73,14 +67,12 @@ returns c =
     let both = client-at blank in
     let word = counter-at both .before in
     named (λ l. l)
-    (parts _ _ _ _ (word .counter-word .ensures ∙ ap (λ (w : WriteCounter). w .0) (word .before .counter-of .ensures))
+    (parts _ _ _ _ (cc (word .counter-word .ensures, word .before .counter-of .ensures))
     (both .before .client-of .ensures) (last .before .entry-of .ensures))
     (then (two both) (then (blank .put-text .ensures) (last .put-digits .ensures)))
 
 pub put-pair-spec : {M : Type 1} → statement M
-put-pair-spec =
-    tie.close
-    (tie.spec
+put-pair-spec = tie.close (tie.spec
     (search needs) (search needs) (search needs) (search needs) (search needs) put-spaced-requires-2
     (search needs) put-text-requires (search needs) put-digits-requires (λ c. keeps (returns c))
     returns)

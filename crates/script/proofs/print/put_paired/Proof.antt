@@ -1,7 +1,5 @@
 -- `put_paired`: a word, a pair and the line's end.
-use native.Mathlib.Omega.{arith}
-use borrow.Author.Needs.{needs}
-use lib.ListN.{length}
+use Rattle.basics.proofs.Prelude.{length, arith, needs}
 use Rattle.script.proofs.Lengths.{pair-short}
 use Rattle.script.proofs.Writing.{keeps, room, then}
 use Rattle.script.proofs.print.put_paired.Statement.{statement}
@@ -12,10 +10,7 @@ abbrev word : tie.After-put-pair → tie.After-put-text
 word c = c .before .before .before .before
 
 put-pair-requires : tie.Need-put-pair-requires
-put-pair-requires c κs =
-    let w = c .before .before .before in
-    let text = w .before .before .before .before .args .word .now in
-    room (w .put-text .ensures) (length text) 53 (omega arith) (omega arith)
+put-pair-requires c κs = search needs
 
 put-text-requires-2 : tie.Need-put-text-requires-2
 put-text-requires-2 c κs =
@@ -31,8 +26,6 @@ returns c =
     then (then (word pair .put-text .ensures) (pair .put-pair .ensures)) (end .put-text2 .ensures)
 
 pub put-paired-spec : {M : Type 1} → statement M
-put-paired-spec =
-    tie.close
-    (tie.spec
+put-paired-spec = tie.close (tie.spec
     (search needs) put-pair-requires (search needs) put-text-requires-2 (λ c. keeps (returns c))
     returns)

@@ -1,10 +1,6 @@
 -- `put_refused`: the word, the refusal's number and the line's end.
-use mathlib.Core.Path.{sym}
-use mathlib.Core.List.{List, [], _∷_, _++_}
+use Rattle.basics.proofs.Prelude.{sym, List, [], _∷_, _++_, ℕ, arith, needs}
 use Prim.Native.Char.{code}
-use Prim.Native.Nat.{ℕ}
-use native.Mathlib.Omega.{arith}
-use borrow.Author.Needs.{needs}
 use Rattle.script.specs.Spelt.{spelt}
 use Rattle.script.specs.Printed.{spaced}
 use Rattle.script.proofs.Lengths.{spaced-short}
@@ -17,9 +13,7 @@ abbrev word : tie.After-put-spaced → tie.After-put-text
 word c = c .before .before .before .before .before
 
 put-spaced-requires : tie.Need-put-spaced-requires
-put-spaced-requires c κs =
-    let w = c .before .before .before .before in
-    room (w .put-text .ensures) 8 21 (omega arith) (omega arith)
+put-spaced-requires c κs = search needs
 
 put-text-requires-2 : tie.Need-put-text-requires-2
 put-text-requires-2 c κs =
@@ -32,7 +26,6 @@ abbrev text : ℕ → List ℕ
 text value = code " " ∷ spelt "REFUSED" ++ spaced value ++ code "\n" ∷ []
 
 returns : tie.Need-returns
-unfolding spelt
 returns c =
     let end = c .before .before in
     let number = end .before .before .before .before .before in
@@ -40,8 +33,6 @@ returns c =
     (then (then (word number .put-text .ensures) (number .put-spaced .ensures)) (end .put-text2 .ensures))
 
 pub put-refused-spec : {M : Type 1} → statement M
-put-refused-spec =
-    tie.close
-    (tie.spec
+put-refused-spec = tie.close (tie.spec
     (search needs) (search needs) (search needs) (search needs) put-spaced-requires (search needs)
     put-text-requires-2 (λ c. keeps (returns c)) returns)

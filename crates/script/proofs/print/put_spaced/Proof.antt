@@ -1,7 +1,5 @@
 -- `put_spaced`: a blank, and a number behind it.
-use native.Mathlib.Omega.{arith}
-use borrow.Author.Needs.{needs}
-use lib.ListN.{length}
+use Rattle.basics.proofs.Prelude.{length, arith, needs}
 use Rattle.script.specs.Numbers.{decimal}
 use Rattle.script.proofs.Digits.{decimal-short}
 use Rattle.script.proofs.Writing.{keeps, room, then}
@@ -21,7 +19,5 @@ returns c =
     then (number .before .before .before .before .put-text .ensures) (number .put-decimal .ensures)
 
 pub put-spaced-spec : {M : Type 1} → statement M
-put-spaced-spec =
-    tie.close
-    (tie.spec
+put-spaced-spec = tie.close (tie.spec
     (search needs) (search needs) put-decimal-requires (λ c. keeps (returns c)) returns)

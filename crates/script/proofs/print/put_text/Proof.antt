@@ -1,11 +1,6 @@
 -- `put_text`: the loop keeps the first i bytes written.
-use mathlib.Core.Path.{_≡_, ap, _∙_}
-use mathlib.Core.List.{List}
-use Prim.Native.Nat.{ℕ, _+_, _-_, _≤_}
-use native.Mathlib.Numerals.{add-one}
-use native.Mathlib.Omega.{arith}
-use borrow.Author.Needs.{needs}
-use lib.ListN.{length, getD, set}
+use Rattle.basics.proofs.Prelude.{_≡_, ap, _∙_, List, length, getD, set, ℕ, _+_, _-_, _≤_, add-one, arith}
+use Rattle.basics.proofs.Prelude.{needs}
 use lib.Seq.{paste, paste-zero, paste-suc, length-paste, take-all}
 use Rattle.script.proofs.print.put_text.Statement.{statement}
 use Rattle.script.proofs.print.put_text.Tie as tie
@@ -54,8 +49,6 @@ returns c =
     }
 
 pub put-text-spec : {M : Type 1} → statement M
-put-text-spec =
-    tie.close
-    (tie.spec
+put-text-spec = tie.close (tie.spec
     Inv-loop μ-loop loop-holds (search needs) (search needs) slice-write-out (search needs)
     (search needs) loop-again (search needs) same-length returns)

@@ -1,15 +1,11 @@
 -- `raise`: a number of 32 bits is kept whole in 64, and 2 ^ 31 more than it is none below 0.
 -- Assumes nothing.
-use mathlib.Core.Path.{_≡_, refl, ap, _∙_}
-use Prim.Native.Nat.{suc, _-_, _^_, _<_}
-use native.Mathlib.Omega.{arith}
+use Rattle.basics.proofs.Prelude.{_≡_, refl, ap, _∙_, suc, _-_, _^_, _<_, arith, le-ltb, needs}
 use lib.IntN.{ℤ, pos, negsuc, _+ℤ_}
 use lib.Signed.{mag}
 use mir.Syntax.{w32, w64}
 use mir.Val.{toZ, ofZ, SFits}
 use mir.ValLaws.{toZ-ofZ}
-use borrow.Author.Needs.{needs}
-use borrow.Author.Tests.{le-ltb}
 use Rattle.sheets.specs.Digest.{raised}
 use Rattle.sheets.proofs.digest.raise.Statement.{statement}
 use Rattle.sheets.proofs.digest.raise.Tie as tie
@@ -42,22 +38,24 @@ module _ (z : ℤ) (f : SFits w32 z) where
       ap (λ (y : ℤ). toZ w64 (ofZ w64 y)) (ap (λ (y : ℤ). y +ℤ pos 2147483648) wide ∙ sum-is z (f .sfits))
       ∙ toZ-ofZ w64 (pos (raised z)) fits-raised
 
-fits : (c : tie.Start) → SFits w32 (c .args .z)
+fits : (c : tie.Start) → SFits w32 (c .args .number)
 fits c = search needs
 
 cast-result : tie.Need-cast-result
-cast-result c = rw (narrow (c .args .z) (fits c)) (fits-wide (c .args .z) (fits c))
+cast-result c = rw (narrow (c .args .number) (fits c)) (fits-wide (c .args .number) (fits c))
 
 add-result : tie.Need-add-result
 add-result c =
-    rw (wide (c .args .z) (fits c), sum-is (c .args .z) (fits c .sfits)) (fits-raised (c .args .z) (fits c))
+    let number = c .args .number in
+    rw (wide number (fits c), sum-is number (fits c .sfits)) (fits-raised number (fits c))
 
 cast-result-2 : tie.Need-cast-result-2
 cast-result-2 c =
-    rw (whole (c .args .z) (fits c)) (tt, record { fits = omega (arith, raised-small (c .args .z) (fits c .sfits)) })
+    rw (whole (c .args .number) (fits c))
+    (tt, record { fits = omega (arith, raised-small (c .args .number) (fits c .sfits)) })
 
 returns : tie.Need-returns
-returns c = rw (whole (c .args .z) (fits c)) refl
+returns c = rw (whole (c .args .number) (fits c)) refl
 
 pub raise-spec : {M : Type 1} → statement M
 raise-spec = tie.close (tie.spec cast-result add-result cast-result-2 returns)

@@ -1,11 +1,7 @@
 -- `sample`: each arm knows its kind.
 -- Assumes nothing.
-use mathlib.Core.Path.{ap, _∙_}
-use Prim.Native.Nat.{ℕ}
+use Rattle.basics.proofs.Prelude.{ap, _∙_, ℕ, arith, ne-eqb, needs}
 use native.Mathlib.Nat.{mod-eq-of-lt}
-use native.Mathlib.Omega.{arith}
-use borrow.Author.Needs.{needs}
-use borrow.Author.Tests.{ne-eqb}
 use Rattle.sheets.specs.Messages.{sampleOf}
 use Rattle.sheets.proofs.messages.sample.Statement.{statement}
 use Rattle.sheets.proofs.messages.sample.Tie as tie
@@ -50,4 +46,5 @@ returns-6 c =
 
 pub sample-spec : {M : Type 1} → statement M
 sample-spec = tie.close (tie.spec
-    (search needs) (search needs) (search needs) returns returns-2 returns-3 returns-4 returns-5 returns-6)
+    (search needs) (search needs) (search needs) returns returns-2 returns-3 returns-4 returns-5
+    returns-6)

@@ -1,68 +1,31 @@
 -- `with_buffers`: after n turns the digest is that of the buffers below n bytes.
 -- Assumes nothing.
-use mathlib.Core.Path.{_≡_, refl, sym}
-use Prim.Native.Nat.{ℕ, _-_, _≤_}
-use native.Mathlib.Omega.{arith}
-use borrow.Author.Needs.{needs}
+use Rattle.basics.proofs.Prelude.{_≡_, sym, take, replicate, length-take-le, ℕ, _-_, _≤_, arith, needs}
 use Rattle.sheets.specs.Digest.{inTurn}
-use Rattle.sheets.proofs.Turns.{one-more, at-end}
-use lib.ListN.{take, replicate}
-use lib.Seq.{length-take-le}
 use Rattle.message.specs.declared.Message.{Message}
 use Rattle.sheets.specs.Messages.{withPacked, withBuffers}
+use Rattle.sheets.proofs.Turns.{no-turn, one-more}
 use Rattle.sheets.proofs.messages.with_buffers.Statement.{statement}
 use Rattle.sheets.proofs.messages.with_buffers.Tie as tie
 
 abbrev step : Message → ℕ → ℕ → ℕ
-step m n = withPacked m (take n (replicate 13 0xA5))
+step message n = withPacked message (take n (replicate 13 0xA5))
 
 abbrev Inv-loop : tie.InvT-loop
-Inv-loop h m d₀ n₀ d n = (n ≤ 14) × (d ≡ inTurn (step m) n h)
+Inv-loop start message digest₀ n₀ digest n = (n ≤ 14) × (digest ≡ inTurn (step message) n start)
 
 abbrev μ-loop : tie.MeasureT-loop
-μ-loop h m d₀ n₀ d n = 14 - n
-
-loop-holds : tie.Need-loop-holds Inv-loop μ-loop
-unfolding inTurn
-loop-holds c = (omega arith, refl)
-
-array-borrow-prefix-space : tie.Need-array-borrow-prefix-space Inv-loop μ-loop
-array-borrow-prefix-space c = omega arith
+μ-loop start message digest₀ n₀ digest n = 14 - n
 
 slice-aggregate-with-packed : tie.Need-slice-aggregate-with-packed Inv-loop μ-loop
-slice-aggregate-with-packed c = sym (length-take-le (c .before .before .loop .n) (replicate 13 0xA5) (omega arith))
-
-with-packed-requires : tie.Need-with-packed-requires Inv-loop μ-loop
-with-packed-requires c κs = search needs
-
-add-n : tie.Need-add-n Inv-loop μ-loop
-add-n c = omega arith
-
-loop-less : tie.Need-loop-less Inv-loop μ-loop
-loop-less c = omega arith
-
-loop-again : tie.Need-loop-again Inv-loop μ-loop
-loop-again c =
-    let m = c .before .before .before .before .before .args .m in
-    let loop = c .before .before .before .before .loop in
-    (omega arith, one-more (step m) _ _ _ _ (loop .inv .1) (c .before .with-packed .ensures .0))
+slice-aggregate-with-packed c =
+    sym (length-take-le (c .before .before .loop .n) (replicate 13 0xA5) (omega arith))
 
 returns : tie.Need-returns Inv-loop μ-loop
 unfolding withBuffers
-returns c =
-    at-end (step (c .before .before .args .m)) _ 14 _ _ (omega arith) (omega arith) (c .before .loop .inv .1)
+returns c = let ended : c .before .loop .n ≡ 14 = omega arith in cc
 
 pub with-buffers-spec : {M : Type 1} → statement M
-with-buffers-spec =
-    tie.close
-    (tie.spec
-    Inv-loop
-    μ-loop
-    loop-holds
-    array-borrow-prefix-space
-    slice-aggregate-with-packed
-    with-packed-requires
-    add-n
-    loop-less
-    loop-again
-    returns)
+with-buffers-spec = tie.close (tie.spec
+    Inv-loop μ-loop (λ c. (omega arith, no-turn _ _)) (search needs) slice-aggregate-with-packed
+    (search needs) (search needs) (search needs) (λ c. (omega arith, rw one-more (cc))) returns)

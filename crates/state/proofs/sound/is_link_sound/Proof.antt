@@ -1,21 +1,16 @@
 -- `is_link_sound`: the channel up, and the one back. Assumes nothing.
-use mathlib.Core.Path.{sym, _∙_}
 use borrow.Author.Needs.{needs}
-use borrow.Author.Tests.{not-true, not-false}
+use Rattle.channel.proofs.Passing.{passed, failed}
 use Rattle.state.specs.Sound.{isLinkSound}
 use Rattle.state.proofs.sound.is_link_sound.Statement.{statement}
 use Rattle.state.proofs.sound.is_link_sound.Tie as tie
 
-returns : tie.Need-returns
-unfolding isLinkSound
-returns c = rw (sym (c .before .is-up-sound .ensures) ∙ not-true _ (c .if1 .taken))
-
-returns-2 : tie.Need-returns-2
-unfolding isLinkSound
-returns-2 c =
-    rw (sym (c .before .before .is-up-sound .ensures) ∙ not-false _ (c .before .if1 .left))
-    (c .is-down-sound .ensures)
-
 pub is-link-sound-spec : {M : Type 1} → statement M
+unfolding isLinkSound
 is-link-sound-spec =
-    tie.close (tie.spec (search needs) returns (search needs) returns-2)
+    tie.close
+    (tie.spec (search needs)
+    (λ c. rw (failed (c .before .is-up-sound .ensures) (c .if1 .taken)))
+    (search needs)
+    (λ c. let up = c .before in
+    rw (passed (up .before .is-up-sound .ensures) (up .if1 .left)) (c .is-down-sound .ensures)))

@@ -1,80 +1,32 @@
 -- `is_sound`: test by test. Assumes nothing.
-use Prim.Native.Nat.{_≤_}
-use mathlib.Core.Path.{_≡_, sym, _∙_}
-use mathlib.Core.Bool.{true}
-use borrow.Author.Needs.{needs}
-use borrow.Author.Tests.{eqb-true, not-true, not-false}
-use Rattle.basics.proofs.Tests.{Each, each}
-use Rattle.state.specs.Sound.{areAllowed, areLong, lengthTests, soundTests, isSound}
-use Rattle.state.proofs.Tested.{few-clients, one-false, last-of-six}
+use Rattle.basics.proofs.Prelude.{_≡_, sym, _∙_, true, needs}
+use mathlib.Core.Bool.{and-true, and-false}
+use Rattle.channel.proofs.Passing.{passed, failed}
+use Rattle.state.specs.Sound.{areAllowed, isSound}
+use Rattle.state.proofs.Tested.{few-clients, lengths}
 use Rattle.state.proofs.sound.is_sound.Statement.{statement}
 use Rattle.state.proofs.sound.is_sound.Tie as tie
 
--- what the first two tests say
-allowed : (c : tie.Else1) → areAllowed (c .before .before .args .t) ≡ true
-allowed c = sym (c .before .is-allowed .ensures) ∙ not-false _ (c .if1 .left)
+-- e1 to e5 are the places behind each test; from the second to the first
+abbrev first : tie.Else2 → tie.Else1
+first c = c .before .before .before .before .before
 
-long : (c : tie.Else2) → let a = c .before .before .before .before .before .before .before .args in
-    areLong (a .s .now) (a .c .now) (a .b .now) ≡ true
-long c = sym (c .before .is-long .ensures) ∙ not-false _ (c .if2 .left)
-
-lengths : (c : tie.Else2) → let a = c .before .before .before .before .before .before .before .args in
-    Each (lengthTests (a .s .now) (a .c .now) (a .b .now))
-unfolding areLong
-lengths c =
-    let a = c .before .before .before .before .before .before .before .args in
-    each (lengthTests (a .s .now) (a .c .now) (a .b .now)) (long c)
-
-few : (c : tie.Else2) → c .before .before .before .before .before .before .before .args .t .clients ≤ 6
-few c = few-clients _ (allowed (c .before .before .before .before .before))
-
-returns : tie.Need-returns
-unfolding isSound
-returns c =
-    let a = c .before .before .args in
-    sym (one-false (soundTests (a .t) (a .s .now) (a .c .now) (a .b .now)) 0
-    (sym (c .before .is-allowed .ensures) ∙ not-true _ (c .if1 .taken)))
-
-returns-2 : tie.Need-returns-2
-unfolding isSound
-returns-2 c =
-    let a = c .before .before .before .before .before .before .before .args in
-    sym (one-false (soundTests (a .t) (a .s .now) (a .c .now) (a .b .now)) 1
-    (sym (c .before .is-long .ensures) ∙ not-true _ (c .if2 .taken)))
-
-is-within-requires : tie.Need-is-within-requires
-is-within-requires c κs = few (c .before)
-
-returns-3 : tie.Need-returns-3
-unfolding isSound
-returns-3 c =
-    let a = c .before .before .before .before .before .before .before .before .before .before .args in
-    sym (one-false (soundTests (a .t) (a .s .now) (a .c .now) (a .b .now)) 2
-    (sym (c .before .is-within .ensures) ∙ not-true _ (c .if3 .taken)))
+allowed : (e2 : tie.Else2) → areAllowed (first e2 .before .before .args .settings) ≡ true
+allowed e2 = let e1 = first e2 in passed (e1 .before .is-allowed .ensures) (e1 .if1 .left)
 
 are-servers-sound-requires : tie.Need-are-servers-sound-requires
 are-servers-sound-requires c κs =
-    let e2 = c .before .before .before .before in (few e2, eqb-true _ 26 (lengths e2 .0))
-
-returns-4 : tie.Need-returns-4
-unfolding isSound
-returns-4 c =
-    let e2 = c .before .before .before .before .before .before in
-    let a = e2 .before .before .before .before .before .before .before .args in
-    sym (one-false (soundTests (a .t) (a .s .now) (a .c .now) (a .b .now)) 3
-    (sym (c .before .are-servers-sound .ensures) ∙ not-true _ (c .if4 .taken)))
+    let e3 = c .before in
+    let e2 = e3 .before .before .before in
+    let long = passed (e2 .before .is-long .ensures) (e2 .if2 .left) in
+    (few-clients _ (allowed e2), lengths _ _ _ long .0)
 
 are-clients-sound-requires : tie.Need-are-clients-sound-requires
 are-clients-sound-requires c κs =
-    eqb-true _ 571 (lengths (c .before .before .before .before .before .before .before) .1 .0)
-
-returns-5 : tie.Need-returns-5
-unfolding isSound
-returns-5 c =
-    let e2 = c .before .before .before .before .before .before .before .before .before in
-    let a = e2 .before .before .before .before .before .before .before .args in
-    sym (one-false (soundTests (a .t) (a .s .now) (a .c .now) (a .b .now)) 4
-    (sym (c .before .are-clients-sound .ensures) ∙ not-true _ (c .if5 .taken)))
+    let e4 = c .before in
+    let e3 = e4 .before .before .before in
+    let e2 = e3 .before .before .before in
+    lengths _ _ _ (passed (e2 .before .is-long .ensures) (e2 .if2 .left)) .1
 
 returns-6 : tie.Need-returns-6
 unfolding isSound
@@ -83,14 +35,27 @@ returns-6 c =
     let e4 = e5 .before .before .before in
     let e3 = e4 .before .before .before in
     let e2 = e3 .before .before .before in
-    c .are-channels-sound .ensures
-    ∙ sym (last-of-six (allowed (e2 .before .before .before .before .before)) (long e2)
-    (sym (e3 .before .is-within .ensures) ∙ not-false _ (e3 .if3 .left))
-    (sym (e4 .before .are-servers-sound .ensures) ∙ not-false _ (e4 .if4 .left))
-    (sym (e5 .before .are-clients-sound .ensures) ∙ not-false _ (e5 .if5 .left)))
+    rw (
+      allowed e2,
+      passed (e2 .before .is-long .ensures) (e2 .if2 .left),
+      passed (e3 .before .is-within .ensures) (e3 .if3 .left),
+      passed (e4 .before .are-servers-sound .ensures) (e4 .if4 .left),
+      passed (e5 .before .are-clients-sound .ensures) (e5 .if5 .left),
+    ) (c .are-channels-sound .ensures ∙ sym (and-true _))
 
 pub is-sound-spec : {M : Type 1} → statement M
+unfolding isSound
 is-sound-spec =
     tie.close
-    (tie.spec (search needs) returns (search needs) returns-2 (search needs) is-within-requires returns-3
-    are-servers-sound-requires returns-4 are-clients-sound-requires returns-5 (search needs) returns-6)
+    (tie.spec (search needs)
+    (λ c. simp (failed (c .before .is-allowed .ensures) (c .if1 .taken), and-false))
+    (search needs)
+    (λ c. simp (failed (c .before .is-long .ensures) (c .if2 .taken), and-false))
+    (search needs)
+    (λ c κs. few-clients _ (allowed (c .before)))
+    (λ c. simp (failed (c .before .is-within .ensures) (c .if3 .taken), and-false))
+    are-servers-sound-requires
+    (λ c. simp (failed (c .before .are-servers-sound .ensures) (c .if4 .taken), and-false))
+    are-clients-sound-requires
+    (λ c. simp (failed (c .before .are-clients-sound .ensures) (c .if5 .taken), and-false))
+    (search needs) returns-6)

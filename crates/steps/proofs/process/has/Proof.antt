@@ -1,8 +1,5 @@
 -- `has`: the one with number n is at place n - 1. Assumes nothing.
-use Prim.Native.Nat.{suc, _-_}
-use mathlib.Core.Path.{_≡_, ap, _∙_}
-use native.Mathlib.Omega.{arith}
-use borrow.Author.Needs.{needs}
+use Rattle.basics.proofs.Prelude.{_≡_, ap, _∙_, suc, _-_, arith, needs}
 use Rattle.server.specs.State.{contains}
 use Rattle.steps.proofs.process.has.Statement.{statement}
 use Rattle.steps.proofs.process.has.Tie as tie

@@ -1,6 +1,5 @@
 -- `is_client`: the two tests in turn. Assumes nothing.
-use borrow.Author.Needs.{needs}
-use borrow.Author.Tests.{lt-leb, le-leb}
+use Rattle.basics.proofs.Prelude.{le-leb, lt-leb, needs}
 use Rattle.register.specs.Settings.{isClient}
 use Rattle.state.specs.State.{settingsOf}
 use Rattle.steps.proofs.process.is_client.Statement.{statement}

@@ -1,8 +1,5 @@
 -- `is_server`: the two tests in turn. Assumes nothing.
-use mathlib.Core.Path.{ap}
-use borrow.Author.Needs.{needs}
-use borrow.Author.Tests.{lt-leb, le-leb}
-use lib.Dec.{leb}
+use Rattle.basics.proofs.Prelude.{ap, leb, le-leb, lt-leb, needs}
 use Rattle.register.specs.Settings.{isServer}
 use Rattle.state.specs.State.{settingsOf}
 use Rattle.steps.proofs.process.is_server.Statement.{statement}

@@ -1,6 +1,6 @@
 -- `read`: a start whose entry is not asked for. Assumes nothing.
 use borrow.Author.Needs.{needs}
-use Rattle.steps.specs.Inner.{readStep}
+use Rattle.steps.specs.InMemory.{readStep}
 use Rattle.steps.proofs.step.read.Statement.{statement}
 use Rattle.steps.proofs.step.read.Tie as tie
 

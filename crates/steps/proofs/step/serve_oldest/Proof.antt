@@ -1,18 +1,27 @@
 -- `serve_oldest`: what is no message goes off its channel; a message is served. Assumes nothing.
-use mathlib.Core.Path.{_≡_, sym, ap, _∙_}
-use borrow.Author.Needs.{needs}
+use Rattle.basics.proofs.Prelude.{_≡_, sym, ap, _∙_, false, ℕ, arith, needs}
+use Rattle.message.specs.Layout.{goes}
 use Rattle.state.specs.State.{messageAt}
-use Rattle.steps.specs.Inner.{requestAt}
+use Rattle.steps.specs.InMemory.{requestAt}
 use Rattle.steps.proofs.Serving.{drop-gives}
 use Rattle.steps.proofs.step.serve_oldest.Statement.{statement}
 use Rattle.steps.proofs.step.serve_oldest.Tie as tie
 
-abbrev start-of : tie.After-oldest → tie.Start
+oldest-request-requires : tie.Need-oldest-request-requires
+oldest-request-requires c κs =
+    let s = c .before .before .before in (
+      omega (arith, c .before .up .ensures, s .pre),
+      ap (λ (n : ℕ). goes false (messageAt (s .args .slots .now) n)) (c .before .up .ensures) ∙ s .pre .8,
+    )
+
+abbrev start-of : tie.After-oldest-request → tie.Start
 start-of c = c .before .before .before .before
 
 -- what is found is the oldest request
-oldest-is : (c : tie.After-oldest) → let a = start-of c .args in c .oldest .result ≡ requestAt (a .b .now) (a .k) (a .d)
-oldest-is c = c .oldest .ensures ∙ ap (messageAt (start-of c .args .b .now)) (c .before .before .up .ensures)
+oldest-is : (c : tie.After-oldest-request)
+    → let a = start-of c .args in c .oldest-request .result ≡ requestAt (a .slots .now) (a .k) (a .d)
+oldest-is c = c .oldest-request .ensures
+    ∙ ap (messageAt (start-of c .args .slots .now)) (c .before .before .up .ensures)
 
 returns : tie.Need-returns
 returns c =
@@ -20,7 +29,8 @@ returns c =
     let s = start-of o in
     let a = s .args in
     let told = c .before .before .enum-told .given in
-    drop-gives (a .t) (a .stopped) (a .s .now) (a .b .now) (a .k) (a .d) (s .pre .3) (s .pre .4) (s .pre .0) (s .pre .7)
+    drop-gives (a .settings) (a .stopped) (a .servers .now) (a .slots .now) (a .k) (a .d) (s .pre .3)
+    (s .pre .4) (s .pre .0) (s .pre .7)
     (s .pre .6) _ (sym (oldest-is o) ∙ told .1) _ _ (o .before .before .up .ensures) (c .take .ensures)
 
 serve-message-requires : tie.Need-serve-message-requires
@@ -34,7 +44,7 @@ serve-message-requires c κs =
       s .pre .4,
       s .pre .5,
       s .pre .6,
-      sym (oldest-is o) ∙ c .before .before .before .m .given .1,
+      sym (oldest-is o) ∙ c .before .before .before .message .given .1,
       s .pre .7,
     )
 
@@ -45,16 +55,6 @@ pub serve-oldest-spec : {M : Type 1} → statement M
 serve-oldest-spec =
     tie.close
     (tie.spec
-    (search needs)
-    (search needs)
-    (search needs)
-    (search needs)
-    (search needs)
-    (search needs)
-    (search needs)
-    (search needs)
-    (search needs)
-    returns
-    serve-message-requires
-    (search needs)
-    returns-2)
+    (search needs) (search needs) (search needs) (search needs) (search needs) oldest-request-requires
+    (search needs) (search needs) (search needs) returns serve-message-requires
+    (search needs) returns-2)

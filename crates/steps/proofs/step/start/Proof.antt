@@ -1,28 +1,25 @@
 -- `start`: the rungs in turn, and what is left to refuse. Assumes nothing.
-use Prim.Native.Nat.{ℕ, _-_, _≤_}
-use mathlib.Core.Bool.{true}
-use mathlib.Core.Path.{_≡_, sym, ap, _∙_}
-use native.Mathlib.Omega.{arith}
-use borrow.Author.Needs.{needs}
-use borrow.Author.Tests.{not-true, not-false}
+use Rattle.basics.proofs.Prelude.{_≡_, sym, ap, _∙_, true, _-_, _≤_, arith, not-true, not-false, needs}
 use Rattle.register.specs.Client.{isIdle}
 use Rattle.register.specs.Settings.{isClient}
 use Rattle.server.specs.State.{contains}
 use Rattle.client.specs.declared.Client.{Client}
 use Rattle.client.specs.Memory as client
 use Rattle.state.specs.State.{settingsOf, stoppedIn, clientStart, clientAt}
-use Rattle.steps.specs.Inner.{shown, beginStep}
+use Rattle.steps.specs.InMemory.{shown}
 use Rattle.steps.proofs.Lent.{lent}
 use Rattle.steps.proofs.Named.{client-within}
 use Rattle.steps.proofs.step.start.Statement.{statement}
 use Rattle.steps.proofs.step.start.Tie as tie
 
 -- the client is there
-is-there : (c : tie.Else1) → let a = c .before .before .before .args in isClient (settingsOf (a .t)) (a .d) ≡ true
+is-there : (c : tie.Else1)
+    → let a = c .before .before .before .args in isClient (settingsOf (a .settings)) (a .d) ≡ true
 is-there c = sym (c .before .is-client .ensures) ∙ not-false _ (c .if1 .left)
 
-there : (c : tie.Else1) → let a = c .before .before .before .args in (1 ≤ a .d) × (a .d ≤ a .t .clients)
-there c = let a = c .before .before .before .args in client-within (a .t) (a .d) (is-there c)
+there : (c : tie.Else1) → let a = c .before .before .before .args in (1 ≤ a .d)
+    × (a .d ≤ a .settings .clients)
+there c = let a = c .before .before .before .args in client-within (a .settings) (a .d) (is-there c)
 
 -- where a place comes from
 abbrev passed : tie.After-load → tie.Else1
@@ -33,46 +30,28 @@ start-of c = passed c .before .before .before
 
 -- the client that is loaded
 loaded : (c : tie.After-load) → let a = start-of c .args in
-    c .load .result ≡ client.loaded (a .d) (a .t .f) (clientAt (a .c .now) (a .d - 1))
+    c .load .result ≡ client.loaded (a .d) (a .settings .f) (clientAt (a .clients .now) (a .d - 1))
 loaded c =
     let a = start-of c .args in
     c .load .ensures
-    ∙ ap (client.loaded (a .d) (a .t .f))
-    (lent (clientStart (a .d - 1)) 95 (a .c .now) _ (c .before .before .before .client-start .ensures))
-
-number : (c : tie.After-load) → c .load .result .number ≡ start-of c .args .d
-number c = ap (λ (x : Client). x .number) (loaded c)
+    ∙ ap (client.loaded (a .d) (a .settings .f))
+    (lent (clientStart (a .d - 1)) 95 (a .clients .now) _ (c .before .before .before .client-start .ensures))
 
 -- whether it is idle
 abbrev load-of : tie.After-is-idle → tie.After-load
 load-of c = c .before .before .before
 
 idle : (c : tie.After-is-idle) → let a = start-of (load-of c) .args in
-    isIdle (shown (a .t) (a .c .now) (a .b .now) (a .d) .phase) ≡ c .is-idle .result
+    isIdle (shown (a .settings) (a .clients .now) (a .slots .now) (a .d) .phase) ≡ c .is-idle .result
 idle c = sym (c .is-idle .ensures ∙ ap (λ (x : Client). isIdle (x .phase)) (loaded (load-of c)))
-
--- whether it has stopped
-stopped : (c : tie.After-is-idle) → let a = start-of (load-of c) .args in
-    contains (stoppedIn (a .c .now)) (a .d) ≡ c .before .has .result
-stopped c = sym (c .before .has .ensures)
 
 returns : tie.Need-returns
 returns c = rw (sym (c .before .is-client .ensures) ∙ not-true _ (c .if1 .taken))
 
-sub-client-start : tie.Need-sub-client-start
-sub-client-start c = omega (arith, there c)
-
-client-start-requires : tie.Need-client-start-requires
-client-start-requires c κs = omega (arith, there c)
-
-part-load-end : tie.Need-part-load-end
-part-load-end c = omega (arith, c .before .client-start .ensures, there (c .before .before))
-
-cast-load : tie.Need-cast-load
-cast-load c = omega (arith, there (c .before .before .before))
-
-has-requires : tie.Need-has-requires
-has-requires c κs = omega (arith, there (passed (c .before)))
+-- whether it has stopped
+stopped : (c : tie.After-is-idle) → let a = start-of (load-of c) .args in
+    contains (stoppedIn (a .clients .now)) (a .d) ≡ c .before .has .result
+stopped c = sym (c .before .has .ensures)
 
 returns-2 : tie.Need-returns-2
 returns-2 c = rw (is-there (passed (load-of (c .before))), stopped (c .before) ∙ c .if2 .taken)
@@ -94,61 +73,31 @@ returns-4 c =
 
 begin-requires : tie.Need-begin-requires
 begin-requires c κs =
-    let if2 = c .before .before .before .before in
-    let l = load-of (if2 .before) in
-    let s = start-of l in
-    let a = s .args in
-    let n = number l in
-    let p = there (passed l) in (
-      s .pre .0,
-      s .pre .2,
-      omega (arith, n, p),
-      omega (arith, n, p, s .pre .1),
-      s .pre .3,
-      loaded l ∙ ap (λ (d : ℕ). client.loaded d (a .t .f) (clientAt (a .c .now) (d - 1))) (sym n),
-      s .pre .4,
-    )
+    let l = load-of (c .before .before .before .before .before) in
+    let named = there (passed l) in
+    let high : start-of l .args .d ≤ 6 = omega (arith, named, start-of l .pre .1) in
+    let same = loaded l in
+    search needs
 
 returns-5 : tie.Need-returns-5
 returns-5 c =
     let at-begin = c .before .before in
     let at-if4 = at-begin .before .before .before in
     let i = at-if4 .before .before .before in
-    let a = start-of (load-of i) .args in
     rw (
       is-there (passed (load-of i)),
       stopped i ∙ at-if4 .before .before .if2 .left,
       idle i ∙ not-false _ (at-if4 .before .if3 .left),
       at-if4 .if4 .left,
-    )
-    (at-begin .begin .ensures
-    ∙ ap (λ (d : ℕ). beginStep (a .t) (a .c .now) (a .b .now) d (a .ph) (a .more)) (number (load-of i)))
+    ) (at-begin .begin .ensures)
 
 pub start-spec : {M : Type 1} → statement M
 start-spec =
     tie.close
     (tie.spec
-    (search needs)
-    returns
-    sub-client-start
-    (search needs)
-    client-start-requires
-    (search needs)
-    (search needs)
-    (search needs)
-    (search needs)
-    part-load-end
-    cast-load
-    (search needs)
-    (search needs)
-    has-requires
-    (search needs)
-    (search needs)
-    returns-2
-    (search needs)
-    returns-3
-    (search needs)
-    returns-4
-    begin-requires
-    (search needs)
-    returns-5)
+    (search needs) returns (λ c. omega (arith, there c)) (search needs)
+    (λ c κs. omega (arith, there c)) (search needs) (search needs) (search needs) (search needs)
+    (λ c. omega (arith, c .before .client-start .ensures, there (c .before .before)))
+    (λ c. omega (arith, there (c .before .before .before))) (search needs) (search needs)
+    (λ c κs. omega (arith, there (passed (c .before)))) (search needs) (search needs) returns-2
+    (search needs) returns-3 (search needs) returns-4 begin-requires (search needs) returns-5)

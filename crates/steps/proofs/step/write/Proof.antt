@@ -1,9 +1,7 @@
 -- `write`: a start with an entry, which must be a licence. Assumes nothing.
-use mathlib.Core.Bool.{Bool, not}
-use mathlib.Core.Path.{ap, _∙_}
-use borrow.Author.Needs.{needs}
+use Rattle.basics.proofs.Prelude.{ap, _∙_, Bool, not, needs}
 use Rattle.register.specs.declared.Phase.the-variants.{ReadingForWrite}
-use Rattle.steps.specs.Inner.{startStep, writeStep}
+use Rattle.steps.specs.InMemory.{startStep, writeStep}
 use Rattle.steps.proofs.step.write.Statement.{statement}
 use Rattle.steps.proofs.step.write.Tie as tie
 
@@ -14,7 +12,8 @@ returns c =
     let at-is-licence = at-start .before .before .before in
     let a = at-is-licence .before .before .args in
     at-start .start .ensures
-    ∙ ap (λ (y : Bool). startStep (a .t) (a .c .now) (a .b .now) (a .d) (ReadingForWrite (a .e)) (not y) 3)
+    ∙ ap (λ (y : Bool). startStep (a .settings) (a .clients .now) (a .slots .now) (a .d)
+    (ReadingForWrite (a .entry)) (not y) 3)
     (at-is-licence .is-licence .ensures)
 
 pub write-spec : {M : Type 1} → statement M

@@ -1,12 +1,8 @@
 -- `forward`: the loop has sent to those readers that it passed. Assumes nothing.
-use Prim.Native.Nat.{ℕ, _≤_, _-_}
-use mathlib.Core.Logic.{⊎-elim}
-use mathlib.Core.Path.{_≡_, refl, sym, ap, _∙_}
-use native.Mathlib.Omega.{arith}
-use borrow.Author.Needs.{needs}
+use Rattle.basics.proofs.Prelude.{_≡_, refl, sym, ap, _∙_, ⊎-elim, ℕ, _-_, _≤_, arith, needs}
 use Rattle.register.specs.Server.{forwards}
 use Rattle.server.specs.State.{contains}
-use Rattle.steps.specs.Inner.{sendDown}
+use Rattle.steps.specs.InMemory.{sendDown}
 use Rattle.steps.proofs.SendLaws.{forward-reader, forward-other}
 use Rattle.steps.proofs.transport.forward.Statement.{statement}
 use Rattle.steps.proofs.transport.forward.Tie as tie
@@ -21,23 +17,19 @@ loop-holds : tie.Need-loop-holds Inv-loop μ-loop
 unfolding sendDown forwards
 loop-holds c = (search needs, refl)
 
-is-in-requires : tie.Need-is-in-requires Inv-loop μ-loop
-is-in-requires c κs = omega arith
-
-send-one-requires : tie.Need-send-one-requires Inv-loop μ-loop
-send-one-requires c κs = omega arith
-
 loop-again : tie.Need-loop-again Inv-loop μ-loop
 loop-again c =
     let l = c .before .before .before in
     let a = l .before .args in (
       omega arith,
       ⊎-elim
-          (λ w. forward-reader (a .stopped) (a .b .now) (l .loop .b) (a .j) (a .set) (a .p) (l .loop .i)
+          (λ w. forward-reader (a .stopped) (a .slots .now) (l .loop .slots) (a .j) (a .set) (a .pair)
+          (l .loop .i)
           (l .loop .inv .1) _
           (sym (c .before .is-in .ensures) ∙ w .0 .taken) (w .3 ∙ w .2 .ensures))
           (λ w. w .1
-          ∙ forward-other (a .stopped) (a .b .now) (l .loop .b) (a .j) (a .set) (a .p) (l .loop .i) (l .loop .inv .1)
+          ∙ forward-other (a .stopped) (a .slots .now) (l .loop .slots) (a .j) (a .set) (a .pair) (l .loop .i)
+          (l .loop .inv .1)
           (sym (c .before .is-in .ensures) ∙ w .0 .left)) (c .if1 .came),
     )
 
@@ -45,19 +37,12 @@ returns : tie.Need-returns Inv-loop μ-loop
 returns c =
     let a = c .before .before .args in
     let last : c .before .loop .i ≡ 6 = omega arith in
-    c .before .loop .inv .1 ∙ ap (λ (n : ℕ). sendDown (a .stopped) (a .b .now) (a .j) (forwards (contains
-    (a .set)) (a .p) n)) last
+    c .before .loop .inv .1 ∙ ap (λ (n : ℕ). sendDown (a .stopped) (a .slots .now) (a .j) (forwards (contains
+    (a .set)) (a .pair) n)) last
 
 pub forward-spec : {M : Type 1} → statement M
 forward-spec =
     tie.close
     (tie.spec
-    Inv-loop
-    μ-loop
-    loop-holds
-    is-in-requires
-    send-one-requires
-    (search needs)
-    (search needs)
-    loop-again
-    returns)
+    Inv-loop μ-loop loop-holds (λ c κs. omega arith) (λ c κs. omega arith) (search needs)
+    (search needs) loop-again returns)

@@ -1,11 +1,8 @@
--- `has_room`: the count is the channel's, and is at most what is left of the slots exactly where the sum is at most the slots.
+-- `has_room`: the count is the channel's, and is at most what is left of the slots exactly where the sum is
+-- at most the slots.
 -- Assumes nothing.
-use Prim.Native.Nat.{ℕ, _+_, _-_, _≤_}
-use mathlib.Core.Path.{_≡_, sym, ap, _∙_}
-use native.Mathlib.Omega.{arith}
-use borrow.Author.Needs.{needs}
-use borrow.Author.Tests.{leb-true, leb-false, le-leb, lt-leb}
-use lib.Dec.{leb}
+use Rattle.basics.proofs.Prelude.{_≡_, sym, ap, _∙_, ℕ, _+_, _-_, _≤_, arith, leb, leb-true, leb-false}
+use Rattle.basics.proofs.Prelude.{le-leb, lt-leb, needs}
 use Rattle.basics.proofs.Cases.{by-test}
 use Rattle.steps.proofs.transport.has_room.Statement.{statement}
 use Rattle.steps.proofs.transport.has_room.Tie as tie

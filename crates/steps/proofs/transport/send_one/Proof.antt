@@ -1,7 +1,5 @@
 -- `send_one`: the message is put where the client works, and dropped where it has stopped. Assumes nothing.
-use mathlib.Core.Path.{sym, _∙_}
-use borrow.Author.Needs.{needs}
-use borrow.Author.Tests.{not-true, not-false}
+use Rattle.basics.proofs.Prelude.{sym, _∙_, not-true, not-false, needs}
 use Rattle.steps.proofs.SendLaws.{put-message, send-working, send-stopped}
 use Rattle.steps.proofs.transport.send_one.Statement.{statement}
 use Rattle.steps.proofs.transport.send_one.Tie as tie
@@ -11,15 +9,16 @@ returns c =
     let at-if1 = c .before .before .before .before in
     let s = at-if1 .before in
     let a = s .before .args in
-    put-message (a .b .now) _ _ _ _ (a .m) (c .before .before .down .ensures) (c .before .words-of .ensures)
+    put-message (a .slots .now) _ _ _ _ (a .message) (c .before .before .down .ensures)
+    (c .before .words-of .ensures)
     (c .put .ensures)
-    ∙ sym (send-working (a .stopped) (a .b .now) (a .i) (a .j) (a .m)
+    ∙ sym (send-working (a .stopped) (a .slots .now) (a .i) (a .j) (a .message)
     (sym (s .is-in .ensures) ∙ not-true _ (at-if1 .if1 .taken)))
 
 returns-2 : tie.Need-returns-2
 returns-2 c =
     let a = c .before .before .args in
-    sym (send-stopped (a .stopped) (a .b .now) (a .i) (a .j) (a .m)
+    sym (send-stopped (a .stopped) (a .slots .now) (a .i) (a .j) (a .message)
     (sym (c .before .is-in .ensures) ∙ not-false _ (c .if1 .left)))
 
 pub send-one-spec : {M : Type 1} → statement M

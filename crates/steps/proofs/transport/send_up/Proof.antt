@@ -1,18 +1,15 @@
 -- `send_up`: what is sent goes by its kind. Assumes nothing.
-use Prim.Native.Nat.{ℕ}
-use mathlib.Core.List.{List}
-use mathlib.Core.Path.{sym, ap, _∙_}
-use borrow.Author.Needs.{needs}
+use Rattle.basics.proofs.Prelude.{sym, ap, _∙_, List, ℕ, needs}
 use Rattle.message.specs.declared.Message.the-variants.{WriteInfo}
-use Rattle.client.specs.Sends.{messagesOf}
+use Rattle.client.specs.Outcome.{messagesOf}
 use Rattle.client.specs.declared.Sends.{Sends}
-use Rattle.steps.specs.Inner.{toAll, sendUp}
+use Rattle.steps.specs.InMemory.{toAll, sendUp}
 use Rattle.steps.proofs.transport.send_up.Statement.{statement}
 use Rattle.steps.proofs.transport.send_up.Tie as tie
 
 -- the slots after what is sent
 abbrev sent : (c : tie.Start) → Sends → List ℕ
-sent c x = sendUp (c .args .t) (c .args .b .now) (c .args .i) (messagesOf x)
+sent c x = sendUp (c .args .settings) (c .args .slots .now) (c .args .i) (messagesOf x)
 
 returns : tie.Need-returns
 unfolding sendUp
@@ -22,7 +19,7 @@ returns-2 : tie.Need-returns-2
 unfolding sendUp
 returns-2 c =
     let at-5 = c .before .before .before .before .before in
-    c .broadcast .ensures ∙ ap (sent at-5) (sym (c .before .before .before .s .given .1))
+    c .broadcast .ensures ∙ ap (sent at-5) (sym (c .before .before .before .sends .given .1))
 
 returns-3 : tie.Need-returns-3
 unfolding sendUp
@@ -37,23 +34,13 @@ returns-4 c =
     let s = at-s2 .before .before in
     let a = s .args in
     c .broadcast4 .ensures
-    ∙ ap (λ (y : List ℕ). toAll (a .t) y (a .i) (WriteInfo (at-s2 .s2 .given .0 .0)))
+    ∙ ap (λ (y : List ℕ). toAll (a .settings) y (a .i) (WriteInfo (at-s2 .sends2 .given .0 .0)))
     (c .before .before .broadcast3 .ensures)
-    ∙ ap (sent s) (sym (at-s2 .s2 .given .1))
+    ∙ ap (sent s) (sym (at-s2 .sends2 .given .1))
 
 pub send-up-spec : {M : Type 1} → statement M
 send-up-spec =
     tie.close
     (tie.spec
-    (search needs)
-    (search needs)
-    (search needs)
-    (search needs)
-    (search needs)
-    (search needs)
-    (search needs)
-    (search needs)
-    returns
-    returns-2
-    returns-3
-    returns-4)
+    (search needs) (search needs) (search needs) (search needs) (search needs) (search needs)
+    (search needs) (search needs) returns returns-2 returns-3 returns-4)

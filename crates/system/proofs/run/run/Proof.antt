@@ -1,11 +1,7 @@
--- `run`: a refused setup leaves everything; an accepted one is allowed, so its run is the history's, and demand 3
--- holds of it.
+-- `run`: a refused setup leaves everything; an accepted one is allowed, so its run is the history's, and
+-- demand 3 holds of it.
 -- Assumes nothing.
-use Prim.Native.Nat.{ℕ}
-use mathlib.Core.Path.{_≡_, refl, sym, subst, _∙_}
-use mathlib.Core.List.{List}
-use native.Mathlib.Omega.{arith}
-use borrow.Author.Needs.{needs}
+use Rattle.basics.proofs.Prelude.{_≡_, refl, sym, _∙_, subst, List, ℕ, arith, needs}
 use Rattle.register.proofs.Theorem.{demand-three}
 use Rattle.state.specs.declared.Settings.{Settings}
 use Rattle.state.proofs.SoundFacts.{allowed-of}
@@ -17,24 +13,24 @@ use Rattle.system.proofs.run.run.Statement.{statement}
 use Rattle.system.proofs.run.run.Tie as tie
 
 -- a run of as many steps
-run-for : (t : Settings) (xs out : List ℕ) (n m : ℕ) → n ≡ m → (s c b new : List ℕ) → Run t xs out n n s c b new
-    → Run t xs out m m s c b new
+run-for : (t : Settings) (xs out : List ℕ) (n m : ℕ) → n ≡ m
+    → (s c b new : List ℕ) → Run t xs out n n s c b new → Run t xs out m m s c b new
 run-for t xs out n m e s c b new = subst (λ (k : ℕ). Run t xs out k k s c b new) e
 
 -- where places come from
 abbrev start : tie.After-set-up → tie.Start
 start c = c .before .before .before .before .before .before
 
-abbrev counted : tie.After-take-all-arg4 → tie.After-least
+abbrev counted : tie.After-step-all-arg4 → tie.After-least
 counted c = c .before .before .before .before
 
 -- the setup is accepted
 accepted : (c : tie.After-setup) → let a = start (c .before .before) .args in
-    setupOf (a .f) (a .clients) (a .faulty) ≡ Set (c .setup .given .0 .0)
+    setupOf (a .f) (a .count) (a .faulty) ≡ Set (c .setup .given .0 .0)
 accepted c = sym (set-up-answer _ _ _ _ _ _ _ _ (c .before .before .set-up .ensures)) ∙ c .setup .given .1
 
-take-all-requires : tie.Need-take-all-requires
-take-all-requires c κs =
+step-all-requires : tie.Need-step-all-requires
+step-all-requires c κs =
     let n = counted c in
     let told = n .before .before in
     let many = n .least .ensures in (
@@ -62,20 +58,12 @@ returns-2 c =
     let many = howMany (a .steps .now) (a .out .now) in (
       sym e,
       rw e (
-        run-for _ (a .steps .now) (a .out .now) _ many (n .least .ensures) _ _ _ _ (all .take-all .ensures),
+        run-for _ (a .steps .now) (a .out .now) _ many (n .least .ensures) _ _ _ _ (all .step-all .ensures),
         demand-three _ (allowed-set _ _ _ _ e .accepted) (stepsIn (a .steps .now) many),
       ),
     )
 
 pub run-spec : {M : Type 1} → statement M
-run-spec =
-    tie.close
-    (tie.spec
-    (search needs)
-    (search needs)
-    (search needs)
-    (search needs)
-    take-all-requires
-    returns
-    (search needs)
-    returns-2)
+run-spec = tie.close (tie.spec
+    (search needs) (search needs) (search needs) (search needs) step-all-requires returns
+    (search needs) returns-2)

@@ -1,8 +1,6 @@
 -- `settings_of`: each test is one of the definition's, or follows from one (`SetupLaws`).
 -- Assumes nothing.
-use mathlib.Core.Path.{sym, _∙_}
-use borrow.Author.Needs.{needs}
-use borrow.Author.Tests.{not-true, not-false}
+use Rattle.basics.proofs.Prelude.{sym, _∙_, not-true, not-false, needs}
 use Rattle.system.proofs.SetupLaws.{over-marks, over-f, over-clients, out-of-range, too-many, is-set}
 use Rattle.system.proofs.setup.settings_of.Statement.{statement}
 use Rattle.system.proofs.setup.settings_of.Tie as tie
@@ -47,8 +45,6 @@ returns-6 c =
     (rw (counted .count-faulty .ensures) at (c .if5 .left)))
 
 pub settings-of-spec : {M : Type 1} → statement M
-settings-of-spec =
-    tie.close
-    (tie.spec
-    returns returns-2 returns-3 (search needs) (search needs) (search needs)
-    (search needs) (search needs) returns-4 returns-5 returns-6)
+settings-of-spec = tie.close (tie.spec
+    returns returns-2 returns-3 (search needs) (search needs) (search needs) (search needs)
+    (search needs) returns-4 returns-5 returns-6)

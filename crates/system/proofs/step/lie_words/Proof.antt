@@ -1,12 +1,6 @@
 -- `lie_words`: eleven bytes are loaded whole. Assumes nothing.
-use mathlib.Core.Path.{ap, _∙_}
-use mathlib.Core.List.{List}
-use Prim.Native.Nat.{ℕ}
-use native.Mathlib.Omega.{arith}
-use lib.ListN.{length}
+use Rattle.basics.proofs.Prelude.{ap, _∙_, List, length, ℕ, arith, eq-eqb, ne-eqb, needs}
 use lib.Seq.{take-all}
-use borrow.Author.Needs.{needs}
-use borrow.Author.Tests.{eq-eqb, ne-eqb}
 use Rattle.basics.specs.Bytes.{spelt}
 use Rattle.message.specs.Layout.{words}
 use Rattle.system.specs.Step.{wordsIn}

@@ -1,9 +1,6 @@
--- `step`: an unsound state is refused, and a sound one has what the step asks and takes it (`StepLaws`).
+-- `step`: an unsound state is refused, and a sound one has what the step asks (`StepLaws`).
 -- Assumes nothing.
-use mathlib.Core.Path.{_≡_, sym, _∙_}
-use mathlib.Core.Bool.{true}
-use borrow.Author.Needs.{needs}
-use borrow.Author.Tests.{not-true, not-false}
+use Rattle.basics.proofs.Prelude.{_≡_, sym, _∙_, true, not-true, not-false, needs}
 use Rattle.state.specs.Sound.{isSound}
 use Rattle.state.proofs.SoundFacts.{facts}
 use Rattle.system.specs.Step.{stepped}
@@ -21,21 +18,15 @@ unfolding stepped
 returns c = rw (sym (c .before .is-sound .ensures) ∙ not-true _ (c .if1 .taken))
 
 -- what the test has shown
-sound : (c : tie.Else1) → let a = start (c .before) .args in isSound (a .t) (a .s .now) (a .c .now) (a .b .now) ≡ true
+sound : (c : tie.Else1) → let a = start (c .before) .args in
+    isSound (a .settings) (a .servers .now) (a .clients .now) (a .slots .now) ≡ true
 sound c = sym (c .before .is-sound .ensures) ∙ not-false _ (c .if1 .left)
 
 take-step-requires : tie.Need-take-step-requires
-take-step-requires c κs =
-    let e = c .before .before .before in
-    let a = start (e .before) .args in
-    ready (a .t) (a .s .now) (a .c .now) (a .b .now) (facts (a .t) (a .s .now) (a .c .now) (a .b .now) (sound e))
+take-step-requires c κs = ready _ _ _ _ (facts _ _ _ _ (sound (c .before .before .before)))
 
 returns-2 : tie.Need-returns-2
-returns-2 c =
-    let args = c .before .before .before in
-    let e = args .before in
-    let a = start (e .before) .args in
-    step-law (a .t) (a .s .now) (a .c .now) (a .b .now) (sound e) (a .x) _ (c .take-step .ensures)
+returns-2 c = step-law _ _ _ _ (sound (c .before .before .before .before)) _ _ (c .take-step .ensures)
 
 pub step-spec : {M : Type 1} → statement M
 step-spec = tie.close (tie.spec (search needs) returns take-step-requires returns-2)

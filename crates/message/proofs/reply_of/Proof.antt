@@ -1,0 +1,42 @@
+-- `reply_of`: FWD and WRITE_ACK by their kinds; what else goes down is INFO.
+use Rattle.basics.proofs.Prelude.{_≡_, sym, ap, _∙_, true, false, _&&_, ℕ, _/_, _%_, _^_, arith, eqb, needs}
+use lib.Bits.{bitAnd}
+use Rattle.message.specs.declared.Message.the-variants.{Fwd, WriteAck}
+use Rattle.message.specs.Pair.{counterAt}
+use Rattle.message.specs.Layout.{tagBits, lastRead}
+use Rattle.message.proofs.Fields.{byWords, found-as}
+use Rattle.message.proofs.Going.{kind-known, last-down}
+use Rattle.message.proofs.reply_of.Statement.{statement}
+use Rattle.message.proofs.reply_of.Tie as tie
+
+returns : tie.Need-returns
+unfolding byWords
+returns c =
+    let start = c .before .before in
+    let words = start .args .words in
+    kind-known true (eqb (bitAnd (words .0) lastRead) 0 && true) _
+    (found-as words (omega arith) 5 (omega arith)) (start .pre)
+
+returns-2 : tie.Need-returns-2
+unfolding byWords
+returns-2 c =
+    let start = c .before .before .before .before in
+    let words = start .args .words in
+    kind-known true (eqb (bitAnd (words .0) lastRead) 0 && eqb (words .1 % 2 ^ counterAt) 0) _
+    (found-as words (omega arith) 6 (omega arith)) (start .pre)
+
+returns-3 : tie.Need-returns-3
+returns-3 c =
+    let start = c .before .before .before .before in
+    let words = start .args .words in
+    let kind = words .0 / 2 ^ tagBits in
+    let is = found-as words (omega arith) kind (omega arith) in
+    last-down kind (bitAnd (words .0) lastRead) (words .1) (λ e. omega arith) (λ e. omega arith)
+    (rw is at (start .pre))
+    ∙ sym is
+
+pub reply-of-spec : {M : Type 1} → statement M
+reply-of-spec =
+    tie.close
+    (tie.spec
+    returns (search needs) (search needs) (search needs) returns-2 returns-3)
