@@ -31,139 +31,147 @@ pos-256 (suc k) = rw (pow-succ' 256 k) (omega (arith, pos-256 k))
 
 -- ---- lists of bytes
 
-pub are-bytes : (s : List ℕ) → ((i : ℕ) → getD s i 0 < 256) → areBytes s ≡ true
-are-bytes [] f = refl
-are-bytes (b ∷ s) f = both-of (ltb b 256) (areBytes s) (lt-ltb b 256 (f 0)) (are-bytes s (λ i. f (suc i)))
+pub are-bytes : (bytes : List ℕ) → ((i : ℕ) → getD bytes i 0 < 256) → areBytes bytes ≡ true
+are-bytes [] small = refl
+are-bytes (byte ∷ bytes) small =
+    both-of (ltb byte 256) (areBytes bytes) (lt-ltb byte 256 (small 0)) (are-bytes bytes (λ i. small (suc i)))
 
-pub bytes-length : (k n : ℕ) → length (bigEndian k n) ≡ k
+pub bytes-length : (k number : ℕ) → length (bigEndian k number) ≡ k
 unfolding bigEndian
-bytes-length zero n = refl
-bytes-length (suc k) n = ap suc (bytes-length k n)
+bytes-length zero number = refl
+bytes-length (suc k) number = ap suc (bytes-length k number)
 
-pub bytes-are : (k n : ℕ) → areBytes (bigEndian k n) ≡ true
+pub bytes-are : (k number : ℕ) → areBytes (bigEndian k number) ≡ true
 unfolding bigEndian
-bytes-are zero n = refl
-bytes-are (suc k) n =
-    both-of (ltb (n / 256 ^ k % 256) 256) (areBytes (bigEndian k n))
-    (lt-ltb (n / 256 ^ k % 256) 256 (mod-lt (n / 256 ^ k) (omega arith))) (bytes-are k n)
+bytes-are zero number = refl
+bytes-are (suc k) number =
+    both-of (ltb (number / 256 ^ k % 256) 256) (areBytes (bigEndian k number))
+    (lt-ltb (number / 256 ^ k % 256) 256 (mod-lt (number / 256 ^ k) (omega arith))) (bytes-are k number)
 
 -- ---- a number, its bytes, the number that they spell
 
-pub spelt-back : (k a n : ℕ) → spelt a (bigEndian k n) ≡ a * 256 ^ k + n % 256 ^ k
+pub spelt-back : (k before number : ℕ)
+    → spelt before (bigEndian k number) ≡ before * 256 ^ k + number % 256 ^ k
 unfolding spelt bigEndian
-spelt-back zero a n = rw (pow-zero 256) (omega arith)
-spelt-back (suc k) a n =
-    spelt-back k (a * 256 + n / 256 ^ k % 256) n
-    ∙ rw (pow-succ' 256 k, mod-mul n {m = 256} {c = 256 ^ k} (omega arith) (pos-256 k))
+spelt-back zero before number = rw (pow-zero 256) (omega arith)
+spelt-back (suc k) before number =
+    spelt-back k (before * 256 + number / 256 ^ k % 256) number
+    ∙ rw (pow-succ' 256 k, mod-mul number {m = 256} {c = 256 ^ k} (omega arith) (pos-256 k))
     (simp (add-mul, mul-assoc, add-assoc))
 
 -- a number of k bytes is spelt by them
-pub spelt-is : (k n : ℕ) → n < 256 ^ k → spelt 0 (bigEndian k n) ≡ n
-spelt-is k n h = spelt-back k 0 n ∙ rw (zero-mul, zero-add) (mod-eq-of-lt h)
+pub spelt-is : (k number : ℕ) → number < 256 ^ k → spelt 0 (bigEndian k number) ≡ number
+spelt-is k number h = spelt-back k 0 number ∙ rw (zero-mul, zero-add) (mod-eq-of-lt h)
 
 -- ---- bytes, the number that they spell, its bytes
 
 -- what bytes spell behind a, and alone
-pub spelt-split : (a : ℕ) (s : List ℕ) → spelt a s ≡ a * 256 ^ length s + spelt 0 s
+pub spelt-split : (before : ℕ) (bytes : List ℕ)
+    → spelt before bytes ≡ before * 256 ^ length bytes + spelt 0 bytes
 unfolding spelt
-spelt-split a [] = rw (pow-zero 256) (omega arith)
-spelt-split a (b ∷ s) =
-    spelt-split (a * 256 + b) s
-    ∙ rw (spelt-split (0 * 256 + b) s, pow-succ' 256 (length s))
+spelt-split before [] = rw (pow-zero 256) (omega arith)
+spelt-split before (byte ∷ bytes) =
+    spelt-split (before * 256 + byte) bytes
+    ∙ rw (spelt-split (0 * 256 + byte) bytes, pow-succ' 256 (length bytes))
     (simp (add-mul, mul-assoc, add-assoc, zero-mul, zero-add))
 
-pub spelt-lt : (s : List ℕ) → areBytes s ≡ true → spelt 0 s < 256 ^ length s
+pub spelt-lt : (bytes : List ℕ) → areBytes bytes ≡ true → spelt 0 bytes < 256 ^ length bytes
 unfolding spelt
-spelt-lt [] f = rw (pow-zero 256) (omega arith)
-spelt-lt (b ∷ s) f =
-    let p = both (ltb b 256) (areBytes s) f in
-    rw (spelt-split (0 * 256 + b) s, pow-succ' 256 (length s), zero-mul, zero-add)
-    (digits-lt (ltb-true b 256 (p .0)) (spelt-lt s (p .1)))
+spelt-lt [] small = rw (pow-zero 256) (omega arith)
+spelt-lt (byte ∷ bytes) small =
+    let p = both (ltb byte 256) (areBytes bytes) small in
+    rw (spelt-split (0 * 256 + byte) bytes, pow-succ' 256 (length bytes), zero-mul, zero-add)
+    (digits-lt (ltb-true byte 256 (p .0)) (spelt-lt bytes (p .1)))
 
-pub bytes-back : (a : ℕ) (s : List ℕ) → areBytes s ≡ true → bigEndian (length s) (spelt a s) ≡ s
+pub bytes-back : (before : ℕ) (bytes : List ℕ) → areBytes bytes ≡ true
+    → bigEndian (length bytes) (spelt before bytes) ≡ bytes
 unfolding spelt bigEndian
-bytes-back a [] f = refl
-bytes-back a (b ∷ s) f =
-    let p = both (ltb b 256) (areBytes s) f in
-    let q : spelt (a * 256 + b) s / 256 ^ length s ≡ a * 256 + b =
-    rw (spelt-split (a * 256 + b) s) (digits-div (a * 256 + b) (spelt-lt s (p .1))) in
-    rw (q, digits-mod a (ltb-true b 256 (p .0)), bytes-back (a * 256 + b) s (p .1))
+bytes-back before [] small = refl
+bytes-back before (byte ∷ bytes) small =
+    let p = both (ltb byte 256) (areBytes bytes) small in
+    let q : spelt (before * 256 + byte) bytes / 256 ^ length bytes ≡ before * 256 + byte =
+    rw (spelt-split (before * 256 + byte) bytes) (digits-div (before * 256 + byte) (spelt-lt bytes (p .1))) in
+    rw (q, digits-mod before (ltb-true byte 256 (p .0)), bytes-back (before * 256 + byte) bytes (p .1))
 
 -- ---- a number in two parts
 
 -- what stands before the last k bytes does not show in them
-low-bytes : (k h l : ℕ) → bigEndian k (h * 256 ^ k + l) ≡ bigEndian k l
+low-bytes : (k high low : ℕ) → bigEndian k (high * 256 ^ k + low) ≡ bigEndian k low
 unfolding bigEndian
-low-bytes zero h l = refl
-low-bytes (suc k) h l =
-    let e : h * 256 ^ suc k + l ≡ h * 256 * 256 ^ k + l = rw (pow-succ' 256 k, mul-assoc h 256 (256 ^ k)) in
+low-bytes zero high low = refl
+low-bytes (suc k) high low =
+    let e : high * 256 ^ suc k + low ≡ high * 256 * 256 ^ k + low =
+    rw (pow-succ' 256 k, mul-assoc high 256 (256 ^ k)) in
     rw (
       e,
-      mul-add-div-right (pos-256 k) (h * 256) l,
-      mul-add-mod-self-right h 256 (l / 256 ^ k),
-      low-bytes k (h * 256) l,
+      mul-add-div-right (pos-256 k) (high * 256) low,
+      mul-add-mod-self-right high 256 (low / 256 ^ k),
+      low-bytes k (high * 256) low,
     )
 
 -- the bytes before the last k are those of the quotient
-high-bytes : (j k n : ℕ) → bigEndian (j + k) n ≡ bigEndian j (n / 256 ^ k) ++ bigEndian k n
+high-bytes : (j k number : ℕ)
+    → bigEndian (j + k) number ≡ bigEndian j (number / 256 ^ k) ++ bigEndian k number
 unfolding bigEndian
-high-bytes zero k n = ap (λ (i : ℕ). bigEndian i n) (zero-add k)
-high-bytes (suc j) k n =
-    let d : n / 256 ^ (j + k) % 256 ≡ n / 256 ^ k / 256 ^ j % 256 =
-    ap (λ (x : ℕ). n / 256 ^ x % 256) (add-comm j k) ∙ ap (λ (x : ℕ). n / x % 256) (pow-add 256 k j)
-    ∙ sym (ap (λ (x : ℕ). x % 256) (div-div-eq-div-mul n (256 ^ k) (256 ^ j))) in
-    ap (λ (i : ℕ). bigEndian i n) (suc-add j k) ∙ ap (λ (b : ℕ). b ∷ bigEndian (j + k) n) d
-    ∙ ap (λ (s : List ℕ). n / 256 ^ k / 256 ^ j % 256 ∷ s) (high-bytes j k n)
+high-bytes zero k number = ap (λ (i : ℕ). bigEndian i number) (zero-add k)
+high-bytes (suc j) k number =
+    let d : number / 256 ^ (j + k) % 256 ≡ number / 256 ^ k / 256 ^ j % 256 =
+    ap (λ (x : ℕ). number / 256 ^ x % 256) (add-comm j k) ∙ ap (λ (x : ℕ). number / x % 256) (pow-add 256 k j)
+    ∙ sym (ap (λ (x : ℕ). x % 256) (div-div-eq-div-mul number (256 ^ k) (256 ^ j))) in
+    ap (λ (i : ℕ). bigEndian i number) (suc-add j k) ∙ ap (λ (byte : ℕ). byte ∷ bigEndian (j + k) number) d
+    ∙ ap (λ (bytes : List ℕ). number / 256 ^ k / 256 ^ j % 256 ∷ bytes) (high-bytes j k number)
 
--- j bytes of h, then k bytes of l
-pub bytes-join : (j k h l : ℕ) → l < 256 ^ k
-    → bigEndian (j + k) (h * 256 ^ k + l) ≡ bigEndian j h ++ bigEndian k l
-bytes-join j k h l small =
-    high-bytes j k (h * 256 ^ k + l)
-    ∙ ap (λ (x : ℕ). bigEndian j x ++ bigEndian k (h * 256 ^ k + l)) (digits-div h small)
-    ∙ ap (λ (s : List ℕ). bigEndian j h ++ s) (low-bytes k h l)
+-- j bytes of the high part, then k bytes of the low part
+pub bytes-join : (j k high low : ℕ) → low < 256 ^ k
+    → bigEndian (j + k) (high * 256 ^ k + low) ≡ bigEndian j high ++ bigEndian k low
+bytes-join j k high low small =
+    high-bytes j k (high * 256 ^ k + low)
+    ∙ ap (λ (x : ℕ). bigEndian j x ++ bigEndian k (high * 256 ^ k + low)) (digits-div high small)
+    ∙ ap (λ (bytes : List ℕ). bigEndian j high ++ bytes) (low-bytes k high low)
 
 -- bytes after bytes spell behind them
-pub spelt-join : (a : ℕ) (s t : List ℕ) → spelt a (s ++ t) ≡ spelt (spelt a s) t
+pub spelt-join : (before : ℕ) (bytes more : List ℕ)
+    → spelt before (bytes ++ more) ≡ spelt (spelt before bytes) more
 unfolding spelt
-spelt-join a [] t = refl
-spelt-join a (b ∷ s) t = spelt-join (a * 256 + b) s t
+spelt-join before [] more = refl
+spelt-join before (byte ∷ bytes) more = spelt-join (before * 256 + byte) bytes more
 
 -- one byte more from place at on
-pub spelt-more : (s : List ℕ) (at j : ℕ) → at + j < length s
-    → spelt 0 (take (suc j) (drop at s)) ≡ spelt 0 (take j (drop at s)) * 256 + getD s (at + j) 0
+pub spelt-more : (bytes : List ℕ) (at j : ℕ) → at + j < length bytes
+    → spelt 0 (take (suc j) (drop at bytes)) ≡ spelt 0 (take j (drop at bytes)) * 256 + getD bytes (at + j) 0
 unfolding spelt
-spelt-more s at j h =
-    let l : length (drop at s) ≡ length s - at = length-drop at s in
-    ap (λ (t : List ℕ). spelt 0 t) (take-suc (drop at s) j 0 (omega arith))
-    ∙ spelt-join 0 (take j (drop at s)) (getD (drop at s) j 0 ∷ [])
-    ∙ ap (λ (b : ℕ). spelt 0 (take j (drop at s)) * 256 + b) (getD-drop at s j 0)
+spelt-more bytes at j h =
+    let long : length (drop at bytes) ≡ length bytes - at = length-drop at bytes in
+    ap (λ (part : List ℕ). spelt 0 part) (take-suc (drop at bytes) j 0 (omega arith))
+    ∙ spelt-join 0 (take j (drop at bytes)) (getD (drop at bytes) j 0 ∷ [])
+    ∙ ap (λ (byte : ℕ). spelt 0 (take j (drop at bytes)) * 256 + byte) (getD-drop at bytes j 0)
 
 -- j bytes and k bytes behind them
-pub spelt-two : (s : List ℕ) (at j k : ℕ) → at + (j + k) ≤ length s
-    → spelt 0 (take (j + k) (drop at s))
-    ≡ spelt 0 (take j (drop at s)) * 256 ^ k + spelt 0 (take k (drop (at + j) s))
-spelt-two s at j k h =
-    let t = take k (drop (at + j) s) in
-    let l : length t ≡ k =
-    length-take-le k (drop (at + j) s) (simp length-drop (omega arith)) in
-    ap (λ (u : List ℕ). spelt 0 u)
-    (take-add j k (drop at s) ∙ ap (λ (u : List ℕ). take j (drop at s) ++ take k u) (drop-drop j at s))
-    ∙ spelt-join 0 (take j (drop at s)) t ∙ spelt-split (spelt 0 (take j (drop at s))) t
-    ∙ ap (λ (n : ℕ). spelt 0 (take j (drop at s)) * 256 ^ n + spelt 0 t) l
+pub spelt-two : (bytes : List ℕ) (at j k : ℕ) → at + (j + k) ≤ length bytes
+    → spelt 0 (take (j + k) (drop at bytes))
+    ≡ spelt 0 (take j (drop at bytes)) * 256 ^ k + spelt 0 (take k (drop (at + j) bytes))
+spelt-two bytes at j k h =
+    let last = take k (drop (at + j) bytes) in
+    let long : length last ≡ k =
+    length-take-le k (drop (at + j) bytes) (simp length-drop (omega arith)) in
+    ap (λ (part : List ℕ). spelt 0 part) (take-add j k (drop at bytes)
+    ∙ ap (λ (part : List ℕ). take j (drop at bytes) ++ take k part) (drop-drop j at bytes))
+    ∙ spelt-join 0 (take j (drop at bytes)) last ∙ spelt-split (spelt 0 (take j (drop at bytes))) last
+    ∙ ap (λ (n : ℕ). spelt 0 (take j (drop at bytes)) * 256 ^ n + spelt 0 last) long
 
 -- stored one part after the other
-sets-join : (xs ys s : List ℕ) (at : ℕ) → sets s at (xs ++ ys) ≡ sets (sets s at xs) (at + length xs) ys
-sets-join [] ys s at = ap (λ (n : ℕ). sets s n ys) (sym (add-zero at))
-sets-join (x ∷ xs) ys s at =
-    sets-join xs ys (set s at x) (suc at)
-    ∙ ap (λ (n : ℕ). sets (sets (set s at x) (suc at) xs) n ys)
-    (suc-add at (length xs) ∙ sym (add-suc at (length xs)))
+sets-join : (values others list : List ℕ) (at : ℕ)
+    → sets list at (values ++ others) ≡ sets (sets list at values) (at + length values) others
+sets-join [] others list at = ap (λ (n : ℕ). sets list n others) (sym (add-zero at))
+sets-join (value ∷ values) others list at =
+    sets-join values others (set list at value) (suc at)
+    ∙ ap (λ (n : ℕ). sets (sets (set list at value) (suc at) values) n others)
+    (suc-add at (length values) ∙ sym (add-suc at (length values)))
 
-pub sets-two : (s : List ℕ) (at j k h l : ℕ) → l < 256 ^ k
-    → sets (sets s at (bigEndian j h)) (at + j) (bigEndian k l)
-    ≡ sets s at (bigEndian (j + k) (h * 256 ^ k + l))
-sets-two s at j k h l small =
-    ap (λ (n : ℕ). sets (sets s at (bigEndian j h)) (at + n) (bigEndian k l)) (sym (bytes-length j h))
-    ∙ sym (sets-join (bigEndian j h) (bigEndian k l) s at)
-    ∙ ap (λ (bs : List ℕ). sets s at bs) (sym (bytes-join j k h l small))
+pub sets-two : (list : List ℕ) (at j k high low : ℕ) → low < 256 ^ k
+    → sets (sets list at (bigEndian j high)) (at + j) (bigEndian k low)
+    ≡ sets list at (bigEndian (j + k) (high * 256 ^ k + low))
+sets-two list at j k high low small =
+    ap (λ (n : ℕ). sets (sets list at (bigEndian j high)) (at + n) (bigEndian k low))
+    (sym (bytes-length j high)) ∙ sym (sets-join (bigEndian j high) (bigEndian k low) list at)
+    ∙ ap (λ (bytes : List ℕ). sets list at bytes) (sym (bytes-join j k high low small))

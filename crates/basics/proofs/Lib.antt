@@ -11,3 +11,5 @@ pub mod Bytes
 pub mod Sorting
 pub mod Listed
 pub mod Tables
+pub mod BitSets
+pub mod UpTo

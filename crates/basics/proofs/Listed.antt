@@ -16,60 +16,70 @@ use Rattle.basics.proofs.Ranges.{at-last}
 use Rattle.basics.proofs.Update.{update-same, update-other}
 
 module _ {A : Type 0} where
-  pub listed-length : (v : ℕ → A) (n : ℕ) → length (listed v n) ≡ n
+  pub listed-length : (value : ℕ → A) (n : ℕ) → length (listed value n) ≡ n
   unfolding listed
-  listed-length v zero = refl
-  listed-length v (suc n) = length-append (listed v n) (v n ∷ []) ∙ rw (listed-length v n) (omega arith)
+  listed-length value zero = refl
+  listed-length value (suc n) =
+      length-append (listed value n) (value n ∷ []) ∙ rw (listed-length value n) (omega arith)
 
-  pub listed-same : (v w : ℕ → A) (n : ℕ) → ((j : ℕ) → j < n → v j ≡ w j) → listed v n ≡ listed w n
+  pub listed-same : (value other : ℕ → A) (n : ℕ) → ((j : ℕ) → j < n → value j ≡ other j)
+      → listed value n ≡ listed other n
   unfolding listed
-  listed-same v w zero h = refl
-  listed-same v w (suc n) h = rw (listed-same v w n (λ j less. h j (omega arith)), h n (omega arith))
+  listed-same value other zero h = refl
+  listed-same value other (suc n) h =
+      rw (listed-same value other n (λ j less. h j (omega arith)), h n (omega arith))
 
-  pub listed-join : (v : ℕ → A) (m n : ℕ) → listed v (m + n) ≡ listed v m ++ listed (λ j. v (m + j)) n
+  pub listed-join : (value : ℕ → A) (first n : ℕ)
+      → listed value (first + n) ≡ listed value first ++ listed (λ j. value (first + j)) n
   unfolding listed
-  listed-join v m zero = rw (add-zero m) (sym (append-nil (listed v m)))
-  listed-join v m (suc n) =
-      rw (add-suc m n, listed-join v m n, append-assoc (listed v m))
+  listed-join value first zero = rw (add-zero first) (sym (append-nil (listed value first)))
+  listed-join value first (suc n) =
+      rw (add-suc first n, listed-join value first n, append-assoc (listed value first))
 
-  pub listed-cons : (v : ℕ → A) (n : ℕ) → listed v (suc n) ≡ v 0 ∷ listed (λ j. v (suc j)) n
+  pub listed-cons : (value : ℕ → A) (n : ℕ) → listed value (suc n) ≡ value 0 ∷ listed (λ j. value (suc j)) n
   unfolding listed
-  listed-cons v zero = refl
-  listed-cons v (suc n) = rw (listed-cons v n)
+  listed-cons value zero = refl
+  listed-cons value (suc n) = rw (listed-cons value n)
 
-  pub listed-get : (v : ℕ → A) (n i : ℕ) (d : A) → i < n → getD (listed v n) i d ≡ v i
+  pub listed-get : (value : ℕ → A) (n i : ℕ) (otherwise : A) → i < n
+      → getD (listed value n) i otherwise ≡ value i
   unfolding listed
-  listed-get v zero i d h = absurd (not-suc-le-zero h)
-  listed-get v (suc n) i d h =
-      at-last i n h (λ q. rw q (getD-at (listed v n) (v n) [] d n (listed-length v n)))
-      (λ less. List·getD-append (listed v n) (v n ∷ []) d i (rw (listed-length v n) less)
-      ∙ listed-get v n i d less)
+  listed-get value zero i otherwise h = absurd (not-suc-le-zero h)
+  listed-get value (suc n) i otherwise h =
+      at-last i n h (λ q. rw q (getD-at (listed value n) (value n) [] otherwise n (listed-length value n)))
+      (λ less. List·getD-append (listed value n) (value n ∷ []) otherwise i (rw (listed-length value n) less)
+      ∙ listed-get value n i otherwise less)
 
-  pub listed-set : (v : ℕ → A) (n i : ℕ) (a : A) → i < n → set (listed v n) i a ≡ listed (update v i a) n
+  pub listed-set : (value : ℕ → A) (n i : ℕ) (new : A) → i < n
+      → set (listed value n) i new ≡ listed (update value i new) n
   unfolding listed
-  listed-set v zero i a h = absurd (not-suc-le-zero h)
-  listed-set v (suc n) i a h =
+  listed-set value zero i new h = absurd (not-suc-le-zero h)
+  listed-set value (suc n) i new h =
       at-last i n h
       (λ q. rw (
         ← q,
-        update-same v i a,
-        listed-same (update v i a) v i (λ j less. update-other v i j a (λ z. omega arith)),
-      ) (set-at (listed v i) (v i) [] a i (listed-length v i)))
-      (λ less. set-append-left (listed v n) (v n ∷ []) i a (rw (listed-length v n) less)
-      ∙ rw (listed-set v n i a less, update-other v i n a (λ z. omega arith)))
+        update-same value i new,
+        listed-same (update value i new) value i (λ j less. update-other value i j new (λ z. omega arith)),
+      ) (set-at (listed value i) (value i) [] new i (listed-length value i)))
+      (λ less. set-append-left (listed value n) (value n ∷ []) i new (rw (listed-length value n) less)
+      ∙ rw (listed-set value n i new less, update-other value i n new (λ z. omega arith)))
 
   -- the first n values of a list, and all of them
-  pub listed-first : (l : List A) (n : ℕ) (d : A) → n ≤ length l → listed (λ j. getD l j d) n ≡ take n l
+  pub listed-first : (list : List A) (n : ℕ) (otherwise : A) → n ≤ length list
+      → listed (λ j. getD list j otherwise) n ≡ take n list
   unfolding listed
-  listed-first l zero d h = refl
-  listed-first l (suc n) d h = rw (listed-first l n d (omega arith)) (sym (take-suc l n d (omega arith)))
+  listed-first list zero otherwise h = refl
+  listed-first list (suc n) otherwise h =
+      rw (listed-first list n otherwise (omega arith)) (sym (take-suc list n otherwise (omega arith)))
 
-  pub listed-all : (l : List A) (n : ℕ) (d : A) → length l ≡ n → listed (λ j. getD l j d) n ≡ l
-  listed-all l n d e = listed-first l n d (omega arith) ∙ take-all n l (omega arith)
+  pub listed-all : (list : List A) (n : ℕ) (otherwise : A) → length list ≡ n
+      → listed (λ j. getD list j otherwise) n ≡ list
+  listed-all list n otherwise e = listed-first list n otherwise (omega arith) ∙ take-all n list (omega arith)
 
   -- one value, n times
-  pub listed-replicate : (n : ℕ) (a : A) → listed (λ j. a) n ≡ replicate n a
+  pub listed-replicate : (n : ℕ) (new : A) → listed (λ j. new) n ≡ replicate n new
   unfolding listed
-  listed-replicate zero a = refl
-  listed-replicate (suc n) a =
-      rw (listed-replicate n a) (replicate-append-replicate n 1 a ∙ ap (λ (k : ℕ). replicate k a) (add-one n))
+  listed-replicate zero new = refl
+  listed-replicate (suc n) new =
+      rw (listed-replicate n new)
+      (replicate-append-replicate n 1 new ∙ ap (λ (k : ℕ). replicate k new) (add-one n))

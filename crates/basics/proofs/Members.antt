@@ -20,19 +20,20 @@ module _ {A : Type 0} where
   member-cases a (x ∷ s) t (inr m) = by-either (member-cases a s t m) (λ q. inl (inr q)) (λ q. inr q)
 
   -- a member of a list that is there or not
-  pub member-if : (b : Bool) (a : A) (l : List A) → Member a (cond b l []) → (b ≡ true) × Member a l
-  member-if true a l m = (refl, m)
-  member-if false a l m = absurd m
+  pub member-if : (test : Bool) (a : A) (list : List A) → Member a (cond test list [])
+      → (test ≡ true) × Member a list
+  member-if true a list m = (refl, m)
+  member-if false a list m = absurd m
 
   -- every member has the property
   abbrev pub Every : (A → Type 0) → List A → Type 0
   Every P [] = Unit {0}
   Every P (x ∷ xs) = P x × Every P xs
 
-  pub every-of : (P : A → Type 0) (l : List A) → ((a : A) → Member a l → P a) → Every P l
+  pub every-of : (P : A → Type 0) (list : List A) → ((a : A) → Member a list → P a) → Every P list
   every-of P [] h = tt
   every-of P (x ∷ xs) h = (h x (inl refl), every-of P xs (λ a m. h a (inr m)))
 
-  pub every-at : (P : A → Type 0) (l : List A) → Every P l → (a : A) → Member a l → P a
+  pub every-at : (P : A → Type 0) (list : List A) → Every P list → (a : A) → Member a list → P a
   every-at P (x ∷ xs) h a (inl e) = subst P (sym e) (h .0)
   every-at P (x ∷ xs) h a (inr m) = every-at P xs (h .1) a m

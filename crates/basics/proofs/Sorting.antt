@@ -17,13 +17,13 @@ use Rattle.basics.proofs.Members.{Every, every-of, every-at}
 
 -- ---- places
 
-pub place : (l : List ℕ) (a : ℕ) → Member a l → (i : ℕ) × At l a i
+pub place : (list : List ℕ) (a : ℕ) → Member a list → (i : ℕ) × At list a i
 place (x ∷ xs) a (inl e) = (0, record { inside = omega arith; is = sym e })
 place (x ∷ xs) a (inr m) =
     let r = place xs a m in
     (suc (r .0), record { inside = let g = r .1 .inside in omega arith; is = r .1 .is })
 
-pub place-member : (l : List ℕ) (i : ℕ) → i < length l → Member (getD l i 0) l
+pub place-member : (list : List ℕ) (i : ℕ) → i < length list → Member (getD list i 0) list
 place-member [] i h = absurd (not-suc-le-zero h)
 place-member (x ∷ xs) zero h = inl refl
 place-member (x ∷ xs) (suc i) h = inr (place-member xs i (le-of-suc-le-suc h))
@@ -45,8 +45,8 @@ module _ (key : ℕ → ℕ) where
   Apart (x ∷ xs) = Every (λ y. key x ≢ key y) xs × Apart xs
 
   -- keys that tell the members of a list without repetition apart
-  pub apart-of : (l : List ℕ) → ((a b : ℕ) → Member a l → Member b l → key a ≡ key b → a ≡ b) → Distinct l
-      → Apart l
+  pub apart-of : (list : List ℕ) → ((a b : ℕ) → Member a list → Member b list → key a ≡ key b → a ≡ b)
+      → Distinct list → Apart list
   apart-of [] tells h = tt
   apart-of (x ∷ xs) tells h = (
     every-of (λ y. key x ≢ key y) xs (λ y m e. h .0 (rw (← (tells x y (inl refl) (inr m) e)) at m)),
@@ -63,7 +63,7 @@ module _ (key : ℕ → ℕ) where
   sortBy [] = []
   sortBy (x ∷ xs) = insertBy x (sortBy xs)
 
-  member-insert : (a b : ℕ) (l : List ℕ) → Member b (insertBy a l) → (b ≡ a) ⊎ Member b l
+  member-insert : (a b : ℕ) (list : List ℕ) → Member b (insertBy a list) → (b ≡ a) ⊎ Member b list
   unfolding insertBy
   member-insert a b [] m = m
   member-insert a b (x ∷ xs) m =
@@ -71,7 +71,7 @@ module _ (key : ℕ → ℕ) where
       (λ e. by-either (rw e at m) (λ q. inr (inl q))
       (λ m′. by-either (member-insert a b xs m′) (λ q. inl q) (λ q. inr (inr q))))
 
-  insert-member : (a b : ℕ) (l : List ℕ) → (b ≡ a) ⊎ Member b l → Member b (insertBy a l)
+  insert-member : (a b : ℕ) (list : List ℕ) → (b ≡ a) ⊎ Member b list → Member b (insertBy a list)
   unfolding insertBy
   insert-member a b [] m = m
   insert-member a b (x ∷ xs) m =
@@ -79,19 +79,19 @@ module _ (key : ℕ → ℕ) where
       (λ e. rw e (by-either m (λ q. inr (insert-member a b xs (inl q)))
       (λ q. by-either q (λ r. inl r) (λ r. inr (insert-member a b xs (inr r))))))
 
-  pub mem-sort : (b : ℕ) (l : List ℕ) → Member b (sortBy l) → Member b l
+  pub mem-sort : (b : ℕ) (list : List ℕ) → Member b (sortBy list) → Member b list
   unfolding sortBy
   mem-sort b [] m = m
   mem-sort b (x ∷ xs) m =
       by-either (member-insert x b (sortBy xs) m) (λ q. inl q) (λ q. inr (mem-sort b xs q))
 
-  pub sort-mem : (b : ℕ) (l : List ℕ) → Member b l → Member b (sortBy l)
+  pub sort-mem : (b : ℕ) (list : List ℕ) → Member b list → Member b (sortBy list)
   unfolding sortBy
   sort-mem b (x ∷ xs) (inl q) = insert-member x b (sortBy xs) (inl q)
   sort-mem b (x ∷ xs) (inr q) = insert-member x b (sortBy xs) (inr (sort-mem b xs q))
 
-  insert-rises : (a : ℕ) (l : List ℕ) → Rises l → ((y : ℕ) → Member y l → key a ≢ key y)
-      → Rises (insertBy a l)
+  insert-rises : (a : ℕ) (list : List ℕ) → Rises list → ((y : ℕ) → Member y list → key a ≢ key y)
+      → Rises (insertBy a list)
   unfolding insertBy
   insert-rises a [] s h = (tt, tt)
   insert-rises a (x ∷ xs) s h =
@@ -114,7 +114,7 @@ module _ (key : ℕ → ℕ) where
           (λ y m. by-either (member-insert a y xs m) (λ q. less y q le)
           (λ q. every-at (λ z. key x < key z) xs (s .0) y q))
 
-  pub sort-rises : (l : List ℕ) → Apart l → Rises (sortBy l)
+  pub sort-rises : (list : List ℕ) → Apart list → Rises (sortBy list)
   unfolding sortBy
   sort-rises [] h = tt
   sort-rises (x ∷ xs) h =
@@ -123,8 +123,8 @@ module _ (key : ℕ → ℕ) where
 
   -- ---- a list that rises
 
-  pub rises-at : (l : List ℕ) → Rises l → (i j : ℕ) → i < j → j < length l
-      → key (getD l i 0) < key (getD l j 0)
+  pub rises-at : (list : List ℕ) → Rises list → (i j : ℕ) → i < j → j < length list
+      → key (getD list i 0) < key (getD list j 0)
   rises-at [] s i j h g = absurd (not-suc-le-zero g)
   rises-at (x ∷ xs) s zero zero h g = absurd (not-suc-le-zero h)
   rises-at (x ∷ xs) s (suc i) zero h g = absurd (not-suc-le-zero h)
@@ -133,44 +133,47 @@ module _ (key : ℕ → ℕ) where
   rises-at (x ∷ xs) s (suc i) (suc j) h g = rises-at xs (s .1) i j (le-of-suc-le-suc h) (le-of-suc-le-suc g)
 
   -- the lower key stands earlier
-  pub earlier : (l : List ℕ) → Rises l → {a b i j : ℕ} → At l a i → At l b j → key a < key b → i < j
-  earlier l s {a} {b} {i} {j} p q h =
+  pub earlier : (list : List ℕ) → Rises list → {a b i j : ℕ} → At list a i → At list b j → key a < key b
+      → i < j
+  earlier list s {a} {b} {i} {j} p q h =
       by-test (ltb i j) (λ e. ltb-true i j e)
       (λ e. at-last j i (let le = ltb-false i j e in omega arith) (λ g. let r = same g in omega arith)
-      (λ less. let r = rw (p .is, q .is) at (rises-at l s j i less (p .inside)) in omega arith))
+      (λ less. let r = rw (p .is, q .is) at (rises-at list s j i less (p .inside)) in omega arith))
     where
       same : j ≡ i → key a ≡ key b
-      same e = ap key (sym (p .is) ∙ ap (λ z. getD l z 0) (sym e) ∙ q .is)
+      same e = ap key (sym (p .is) ∙ ap (λ z. getD list z 0) (sym e) ∙ q .is)
 
   -- each member stands once
-  pub once : (l : List ℕ) → Rises l → {a i j : ℕ} → At l a i → At l a j → i ≡ j
-  once l s {a} {i} {j} p q = neither-below i j (apart p q) (apart q p)
+  pub once : (list : List ℕ) → Rises list → {a i j : ℕ} → At list a i → At list a j → i ≡ j
+  once list s {a} {i} {j} p q = neither-below i j (apart p q) (apart q p)
     where
-      apart : {i′ j′ : ℕ} → At l a i′ → At l a j′ → i′ < j′ → ⊥
-      apart {i′} {j′} p q h = let r = rw (p .is, q .is) at (rises-at l s i′ j′ h (q .inside)) in omega arith
+      apart : {i′ j′ : ℕ} → At list a i′ → At list a j′ → i′ < j′ → ⊥
+      apart {i′} {j′} p q h =
+          let r = rw (p .is, q .is) at (rises-at list s i′ j′ h (q .inside)) in omega arith
 
   -- b has a higher key than a and no key lies between: b stands right after a
-  pub next-to : (l : List ℕ) → Rises l → {a b i j : ℕ} → At l a i → At l b j → key a < key b
-      → ((c : ℕ) → Member c l → key a < key c → key b ≤ key c) → j ≡ suc i
-  next-to l s {a} {b} {i} {j} p q h gap =
+  pub next-to : (list : List ℕ) → Rises list → {a b i j : ℕ} → At list a i → At list b j → key a < key b
+      → ((c : ℕ) → Member c list → key a < key c → key b ≤ key c) → j ≡ suc i
+  next-to list s {a} {b} {i} {j} p q h gap =
       by-test (ltb (suc i) j) (λ e. absurd (between (ltb-true (suc i) j e)))
-      (λ e. let x = ltb-false (suc i) j e in let y = earlier l s p q h in omega arith)
+      (λ e. let x = ltb-false (suc i) j e in let y = earlier list s p q h in omega arith)
     where
       between : suc i < j → ⊥
       between lt =
           let g = q .inside in
-          let x = rw (p .is) at (rises-at l s i (suc i) (omega arith) (omega arith)) in
-          let y = rw (q .is) at (rises-at l s (suc i) j lt (q .inside)) in
-          let z = gap (getD l (suc i) 0) (place-member l (suc i) (omega arith)) x in
+          let x = rw (p .is) at (rises-at list s i (suc i) (omega arith) (omega arith)) in
+          let y = rw (q .is) at (rises-at list s (suc i) j lt (q .inside)) in
+          let z = gap (getD list (suc i) 0) (place-member list (suc i) (omega arith)) x in
           omega arith
 
   -- a has the lowest key: it stands first
-  pub first : (l : List ℕ) → Rises l → {a i : ℕ} → At l a i → ((c : ℕ) → Member c l → key a ≤ key c) → i ≡ 0
-  first l s {a} {i} p low = neither-below i 0 not-suc-le-zero later
+  pub first : (list : List ℕ) → Rises list → {a i : ℕ} → At list a i
+      → ((c : ℕ) → Member c list → key a ≤ key c) → i ≡ 0
+  first list s {a} {i} p low = neither-below i 0 not-suc-le-zero later
     where
       later : 0 < i → ⊥
       later lt =
           let g = p .inside in
-          let x = rw (p .is) at (rises-at l s 0 i lt (p .inside)) in
-          let y = low (getD l 0 0) (place-member l 0 (omega arith)) in
+          let x = rw (p .is) at (rises-at list s 0 i lt (p .inside)) in
+          let y = low (getD list 0 0) (place-member list 0 (omega arith)) in
           omega arith

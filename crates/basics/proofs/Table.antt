@@ -9,41 +9,45 @@ use Rattle.basics.proofs.Prelude.{eqb-true}
 use native.Mathlib.Nat.{add-suc, suc-add, le-of-suc-le-suc}
 use Rattle.basics.proofs.Cases.{both}
 
--- each entry is what the rule g says of its place, counted from i
+-- each entry is what the rule says of its place, counted from i
 abbrev pub every : (ℕ → ℕ) → ℕ → List ℕ → Bool
-every g i [] = true
-every g i (x ∷ xs) = eqb x (g i) && every g (suc i) xs
+every rule i [] = true
+every rule i (value ∷ values) = eqb value (rule i) && every rule (suc i) values
 
-entry-from : (g : ℕ → ℕ) (xs : List ℕ) (i k : ℕ) → k < length xs → every g i xs ≡ true
-    → getD xs k 0 ≡ g (i + k)
-entry-from g [] i k h t = absurd (not-suc-le-zero h)
-entry-from g (x ∷ xs) i zero h t = eqb-true x (g i) (both (eqb x (g i)) _ t .0) ∙ ap g (sym (add-zero i))
-entry-from g (x ∷ xs) i (suc k) h t =
-    entry-from g xs (suc i) k (le-of-suc-le-suc h) (both (eqb x (g i)) _ t .1)
-    ∙ ap g (suc-add i k ∙ sym (add-suc i k))
+entry-from : (rule : ℕ → ℕ) (values : List ℕ) (i k : ℕ) → k < length values → every rule i values ≡ true
+    → getD values k 0 ≡ rule (i + k)
+entry-from rule [] i k h tested = absurd (not-suc-le-zero h)
+entry-from rule (value ∷ values) i zero h tested =
+    eqb-true value (rule i) (both (eqb value (rule i)) _ tested .0) ∙ ap rule (sym (add-zero i))
+entry-from rule (value ∷ values) i (suc k) h tested =
+    entry-from rule values (suc i) k (le-of-suc-le-suc h) (both (eqb value (rule i)) _ tested .1)
+    ∙ ap rule (suc-add i k ∙ sym (add-suc i k))
 
-pub entry : (g : ℕ → ℕ) (xs : List ℕ) (k : ℕ) → k < length xs → every g 0 xs ≡ true → getD xs k 0 ≡ g k
-entry g xs k h t = entry-from g xs 0 k h t ∙ ap g (zero-add k)
+pub entry : (rule : ℕ → ℕ) (values : List ℕ) (k : ℕ) → k < length values → every rule 0 values ≡ true
+    → getD values k 0 ≡ rule k
+entry rule values k h tested = entry-from rule values 0 k h tested ∙ ap rule (zero-add k)
 
--- each row has w entries, and each entry is what the rule says of its row, counted from i, and place
+-- each row has as many entries as the width says, and each entry is what the rule says of its row, counted
+-- from i, and place
 abbrev pub every-row : (ℕ → ℕ → ℕ) → ℕ → ℕ → List (List ℕ) → Bool
-every-row g w i [] = true
-every-row g w i (xs ∷ xss) = eqb (length xs) w && every (g i) 0 xs && every-row g w (suc i) xss
+every-row rule width i [] = true
+every-row rule width i (row ∷ rows) =
+    eqb (length row) width && every (rule i) 0 row && every-row rule width (suc i) rows
 
-row-from : (g : ℕ → ℕ → ℕ) (w : ℕ) (xss : List (List ℕ)) (b i k : ℕ) → i < length xss → k < w
-    → every-row g w b xss ≡ true
-    → getD (getD xss i []) k 0 ≡ g (b + i) k
-row-from g w [] b i k h q t = absurd (not-suc-le-zero h)
-row-from g w (xs ∷ xss) b zero k h q t =
-    let row = both (eqb (length xs) w && every (g b) 0 xs) _ t .0 in
-    let p = both (eqb (length xs) w) (every (g b) 0 xs) row in
-    let wide : length xs ≡ w = eqb-true _ _ (p .0) in
-    entry (g b) xs k (omega arith) (p .1) ∙ ap (λ (n : ℕ). g n k) (sym (add-zero b))
-row-from g w (xs ∷ xss) b (suc i) k h q t =
-    row-from g w xss (suc b) i k (le-of-suc-le-suc h) q (both (eqb (length xs) w && every (g b) 0 xs) _ t .1)
-    ∙ ap (λ (n : ℕ). g n k) (suc-add b i ∙ sym (add-suc b i))
+row-from : (rule : ℕ → ℕ → ℕ) (width : ℕ) (rows : List (List ℕ)) (base i k : ℕ) → i < length rows → k < width
+    → every-row rule width base rows ≡ true → getD (getD rows i []) k 0 ≡ rule (base + i) k
+row-from rule width [] base i k h q tested = absurd (not-suc-le-zero h)
+row-from rule width (row ∷ rows) base zero k h q tested =
+    let all = both (eqb (length row) width && every (rule base) 0 row) _ tested .0 in
+    let p = both (eqb (length row) width) (every (rule base) 0 row) all in
+    let wide : length row ≡ width = eqb-true _ _ (p .0) in
+    entry (rule base) row k (omega arith) (p .1) ∙ ap (λ (n : ℕ). rule n k) (sym (add-zero base))
+row-from rule width (row ∷ rows) base (suc i) k h q tested =
+    row-from rule width rows (suc base) i k (le-of-suc-le-suc h) q
+    (both (eqb (length row) width && every (rule base) 0 row) _ tested .1)
+    ∙ ap (λ (n : ℕ). rule n k) (suc-add base i ∙ sym (add-suc base i))
 
-pub row-entry : (g : ℕ → ℕ → ℕ) (w : ℕ) (xss : List (List ℕ)) (i k : ℕ) → i < length xss → k < w
-    → every-row g w 0 xss ≡ true
-    → getD (getD xss i []) k 0 ≡ g i k
-row-entry g w xss i k h q t = row-from g w xss 0 i k h q t ∙ ap (λ (n : ℕ). g n k) (zero-add i)
+pub row-entry : (rule : ℕ → ℕ → ℕ) (width : ℕ) (rows : List (List ℕ)) (i k : ℕ) → i < length rows → k < width
+    → every-row rule width 0 rows ≡ true → getD (getD rows i []) k 0 ≡ rule i k
+row-entry rule width rows i k h q tested =
+    row-from rule width rows 0 i k h q tested ∙ ap (λ (n : ℕ). rule n k) (zero-add i)

@@ -11,29 +11,29 @@ use Rattle.basics.proofs.Ranges.{at-last}
 
 abbrev pub Each : List Bool → Type 0
 Each [] = Unit {0}
-Each (b ∷ bs) = (b ≡ true) × Each bs
+Each (test ∷ tests) = (test ≡ true) × Each tests
 
-pub each : (bs : List Bool) → allPass bs ≡ true → Each bs
+pub each : (tests : List Bool) → allPass tests ≡ true → Each tests
 each [] e = tt
-each (b ∷ bs) e = let p = both b (allPass bs) e in (p .0, each bs (p .1))
+each (test ∷ tests) e = let p = both test (allPass tests) e in (p .0, each tests (p .1))
 
-pub all-of : (bs : List Bool) → Each bs → allPass bs ≡ true
+pub all-of : (tests : List Bool) → Each tests → allPass tests ≡ true
 all-of [] e = refl
-all-of (b ∷ bs) e = both-of b (allPass bs) (e .0) (all-of bs (e .1))
+all-of (test ∷ tests) e = both-of test (allPass tests) (e .0) (all-of tests (e .1))
 
-pub below : (p : ℕ → Bool) (n : ℕ) → allBelow p n ≡ true → (i : ℕ) → i < n → p i ≡ true
+pub below : (test : ℕ → Bool) (n : ℕ) → allBelow test n ≡ true → (i : ℕ) → i < n → test i ≡ true
 unfolding allBelow
-below p zero e i h = absurd (not-suc-le-zero h)
-below p (suc n) e i h =
-    let q = both (allBelow p n) (p n) e in
-    at-last i n h (λ same. ap p same ∙ q .1) (λ less. below p n (q .0) i less)
+below test zero e i h = absurd (not-suc-le-zero h)
+below test (suc n) e i h =
+    let q = both (allBelow test n) (test n) e in
+    at-last i n h (λ same. ap test same ∙ q .1) (λ less. below test n (q .0) i less)
 
-pub below-of : (p : ℕ → Bool) (n : ℕ) → ((i : ℕ) → i < n → p i ≡ true) → allBelow p n ≡ true
+pub below-of : (test : ℕ → Bool) (n : ℕ) → ((i : ℕ) → i < n → test i ≡ true) → allBelow test n ≡ true
 unfolding allBelow
-below-of p zero h = refl
-below-of p (suc n) h =
-    both-of (allBelow p n) (p n) (below-of p n (λ i less. h i (omega arith))) (h n (omega arith))
+below-of test zero h = refl
+below-of test (suc n) h =
+    both-of (allBelow test n) (test n) (below-of test n (λ i less. h i (omega arith))) (h n (omega arith))
 
-pub below-fails : (p : ℕ → Bool) (n i : ℕ) → i < n → p i ≡ false → allBelow p n ≡ false
-below-fails p n i h e =
-    by-test (allBelow p n) (λ yes. absurd (true-or-false (p i) (below p n yes i h) e)) (λ no. no)
+pub below-fails : (test : ℕ → Bool) (n i : ℕ) → i < n → test i ≡ false → allBelow test n ≡ false
+below-fails test n i h e =
+    by-test (allBelow test n) (λ yes. absurd (true-or-false (test i) (below test n yes i h) e)) (λ no. no)

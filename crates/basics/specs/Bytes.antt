@@ -5,10 +5,10 @@ use mathlib.Core.List.{List, [], _∷_}
 
 -- the last k bytes of a number
 unfoldable pub bigEndian : ℕ → ℕ → List ℕ
-bigEndian zero n = []
-bigEndian (suc k) n = n / 256 ^ k % 256 ∷ bigEndian k n
+bigEndian zero number = []
+bigEndian (suc k) number = number / 256 ^ k % 256 ∷ bigEndian k number
 
--- the number that bytes spell behind the number a
+-- the number that bytes spell behind another number
 unfoldable pub spelt : ℕ → List ℕ → ℕ
-spelt a [] = a
-spelt a (b ∷ bs) = spelt (a * 256 + b) bs
+spelt before [] = before
+spelt before (byte ∷ rest) = spelt (before * 256 + byte) rest

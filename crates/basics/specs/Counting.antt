@@ -6,5 +6,5 @@ use mir.Val.{boolByte}
 
 -- how many of 0 .. n - 1 pass
 unfoldable pub countBelow : (ℕ → Bool) → ℕ → ℕ
-countBelow p zero = 0
-countBelow p (suc n) = countBelow p n + boolByte (p n)
+countBelow test zero = 0
+countBelow test (suc n) = countBelow test n + boolByte (test n)

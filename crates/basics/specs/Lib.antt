@@ -3,4 +3,7 @@ pub mod Counting
 pub mod Update
 pub mod Members
 pub mod Bytes
+pub mod Digits
 pub mod Tables
+pub mod Fields
+pub mod BitSets

@@ -13,6 +13,6 @@ module _ {A : Type 0} where
   Member a (x ∷ xs) = (a ≡ x) ⊎ Member a xs
 
 -- a stands at place i of the list, counted from 0
-pub record At (l : List ℕ) (a i : ℕ) : Type 0 where
-  pub inside : i < length l
-  pub is : getD l i 0 ≡ a
+pub record At (list : List ℕ) (a i : ℕ) : Type 0 where
+  pub inside : i < length list
+  pub is : getD list i 0 ≡ a

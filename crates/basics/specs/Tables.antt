@@ -5,20 +5,20 @@ use mathlib.Core.List.{List, [], _∷_, _++_}
 use lib.ListN.{take, drop}
 
 module _ {A : Type 0} where
-  -- v 0, v 1 and so on, n of them
+  -- value 0, value 1 and so on, n of them
   unfoldable pub listed : (ℕ → A) → ℕ → List A
-  listed v zero = []
-  listed v (suc n) = listed v n ++ v n ∷ []
+  listed value zero = []
+  listed value (suc n) = listed value n ++ value n ∷ []
 
-  -- r 0, r 1 and so on, n rows one behind the other
+  -- row 0, row 1 and so on, n rows one behind the other
   unfoldable pub tabled : (ℕ → List A) → ℕ → List A
-  tabled r zero = []
-  tabled r (suc n) = tabled r n ++ r n
+  tabled row zero = []
+  tabled row (suc n) = tabled row n ++ row n
 
-  -- the w values from `at` on
+  -- so many values from `at` on
   abbrev pub partAt : ℕ → ℕ → List A → List A
-  partAt at w l = take w (drop at l)
+  partAt at width list = take width (drop at list)
 
-  -- x in place of the w values from `at` on
+  -- a part in place of so many values from `at` on
   abbrev pub putPart : ℕ → ℕ → List A → List A → List A
-  putPart at w l x = take at l ++ x ++ drop (at + w) l
+  putPart at width list part = take at list ++ part ++ drop (at + width) list

@@ -5,6 +5,6 @@ use mathlib.Core.Bool.{cond}
 use lib.Dec.{eqb}
 
 module _ {A : Type 0} where
-  -- f, but a at i
+  -- the old function, but another value at i
   unfoldable pub update : (ℕ → A) → ℕ → A → ℕ → A
-  update f i a j = cond (eqb i j) a (f j)
+  update old i new j = cond (eqb i j) new (old j)

@@ -21,17 +21,17 @@ module _ (year month day : ℕ) where
   day-refused e = rw e
 
   -- an answer with a number: the date is real and the number is its
-  pub day-is : (a : ℕ) → dayNumber year month day ≡ Day a
-      → (isDate year month day ≡ true) × (dayOf year month day ≡ a)
-  day-is a e =
+  pub day-is : (answer : ℕ) → dayNumber year month day ≡ Day answer
+      → (isDate year month day ≡ true) × (dayOf year month day ≡ answer)
+  day-is answer e =
       by-test (isDate year month day) (λ yes. (yes, let given = day-given yes in cc))
       (λ broken. absurd (let refused = day-refused broken in let z : _≡_ {A = ℕ} 0 1 = cc in omega arith))
 
-  pub day-range : (a : ℕ) → dayNumber year month day ≡ Day a → (1 ≤ a) × (a ≤ lastNumber)
-  day-range a e =
-      let is = day-is a e in
+  pub day-range : (answer : ℕ) → dayNumber year month day ≡ Day answer → (1 ≤ answer) × (answer ≤ lastNumber)
+  day-range answer e =
+      let is = day-is answer e in
       let range = in-range (date year month day) (is .0) in
       (omega (arith, is .1, range .0), omega (arith, is .1, range .1))
 
-  pub day-small : (a : ℕ) → dayNumber year month day ≡ Day a → a < 2 ^ 31
-  day-small a e = let range = day-range a e in omega (arith, range .1)
+  pub day-small : (answer : ℕ) → dayNumber year month day ≡ Day answer → answer < 2 ^ 31
+  day-small answer e = let range = day-range answer e in omega (arith, range .1)

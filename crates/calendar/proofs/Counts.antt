@@ -9,12 +9,13 @@ use Rattle.basics.proofs.Prelude.{_≤_, le-refl, not-suc-le-zero, arith, eqb, 
 use Rattle.basics.proofs.Cases.{by-test}
 use Rattle.calendar.specs.Calendar.{firstYear, leap, yearLength, firstDay, monthLength, daysBefore}
 
-pub month-up : (l : Bool) (month : ℕ) → 1 ≤ month
-    → daysBefore l month ≡ daysBefore l (month - 1) + monthLength l month
+pub month-up : (leapYear : Bool) (month : ℕ) → 1 ≤ month
+    → daysBefore leapYear month ≡ daysBefore leapYear (month - 1) + monthLength leapYear month
 unfolding daysBefore
-month-up l zero h = absurd (not-suc-le-zero h)
-month-up l (suc k) h =
-    let back : k ≡ suc k - 1 = omega arith in ap (λ (j : ℕ). daysBefore l j + monthLength l (suc k)) back
+month-up leapYear zero h = absurd (not-suc-le-zero h)
+month-up leapYear (suc k) h =
+    let back : k ≡ suc k - 1 = omega arith in
+    ap (λ (j : ℕ). daysBefore leapYear j + monthLength leapYear (suc k)) back
 
 pub year-up : (year : ℕ) → firstYear ≤ year
     → firstDay (year + 1 - firstYear) ≡ firstDay (year - firstYear) + yearLength year
@@ -36,9 +37,9 @@ grows f step j (suc k) h =
     by-test (leb j k) (λ e. let less = leb-true j k e in omega (arith, grows f step j k less, step k))
     (λ e. let same : j ≡ suc k = omega (arith, leb-false j k e) in rw same (le-refl _))
 
-pub before-grows : (l : Bool) (j k : ℕ) → j ≤ k → daysBefore l j ≤ daysBefore l k
+pub before-grows : (leapYear : Bool) (j k : ℕ) → j ≤ k → daysBefore leapYear j ≤ daysBefore leapYear k
 unfolding daysBefore
-before-grows l = grows (daysBefore l) (λ k. omega arith)
+before-grows leapYear = grows (daysBefore leapYear) (λ k. omega arith)
 
 pub first-grows : (j k : ℕ) → j ≤ k → firstDay j ≤ firstDay k
 unfolding firstDay
@@ -48,9 +49,9 @@ cond-least : (b : Bool) (x y n : ℕ) → n ≤ x → n ≤ y → n ≤ cond b x
 cond-least true x y n p q = p
 cond-least false x y n p q = q
 
-pub month-least : (l : Bool) (month : ℕ) → 28 ≤ monthLength l month
+pub month-least : (leapYear : Bool) (month : ℕ) → 28 ≤ monthLength leapYear month
 unfolding monthLength
-month-least l month =
-    cond-least (eqb month 2) _ _ 28 (cond-least l 29 28 28 (omega arith) (omega arith))
+month-least leapYear month =
+    cond-least (eqb month 2) _ _ 28 (cond-least leapYear 29 28 28 (omega arith) (omega arith))
     (cond-least (eqb month 4 || eqb month 6 || eqb month 9 || eqb month 11) 30 31 28
     (omega arith) (omega arith))

@@ -35,23 +35,25 @@ module _ {year month day : ℕ} where
   pub last-test : firstYear ≤ year → year ≤ lastYear → 1 ≤ month → month ≤ 12 → 1 ≤ day
       → isDate year month day ≡ leb day (monthLength (leap year) month)
   unfolding isDate
-  last-test a b c d e =
+  last-test year-low year-high month-low month-high day-low =
       rw (
-        le-leb firstYear year a,
-        le-leb year lastYear b,
-        le-leb 1 month c,
-        le-leb month 12 d,
-        le-leb 1 day e,
+        le-leb firstYear year year-low,
+        le-leb year lastYear year-high,
+        le-leb 1 month month-low,
+        le-leb month 12 month-high,
+        le-leb 1 day day-low,
       )
       (and-true _)
 
   pub bounds-date : firstYear ≤ year → year ≤ lastYear → 1 ≤ month → month ≤ 12 → 1 ≤ day
       → day ≤ monthLength (leap year) month → isDate year month day ≡ true
-  bounds-date a b c d e f = last-test a b c d e ∙ le-leb _ _ f
+  bounds-date year-low year-high month-low month-high day-low day-high =
+      last-test year-low year-high month-low month-high day-low ∙ le-leb _ _ day-high
 
   pub real-date : Real year month day → isDate year month day ≡ true
-  real-date r =
-      bounds-date (r .year-least) (r .year-most) (r .month-least) (r .month-most) (r .day-least) (r .day-most)
+  real-date bounds =
+      bounds-date (bounds .year-least) (bounds .year-most) (bounds .month-least) (bounds .month-most)
+      (bounds .day-least) (bounds .day-most)
 
   pub no-date : (Real year month day → ⊥) → isDate year month day ≡ false
   no-date broken = by-test (isDate year month day) (λ e. absurd (broken (real e))) (λ e. e)

@@ -9,58 +9,63 @@ use Rattle.basics.proofs.Prelude.{eqb-true, eqb-false, ltb-true, ltb-false}
 use native.Mathlib.Nat.{add-sub-cancel}
 use Rattle.basics.proofs.Cases.{by-test}
 use Rattle.calendar.specs.Calendar.{lastYear, leap, monthLength, daysBefore, dayOf}
-use Rattle.calendar.specs.Order.{Date, date, lastDate, isReal, number, nextDate}
+use Rattle.calendar.specs.Order.{Date, date, lastDate, isReal, number, monthDays, nextDate}
 use Rattle.calendar.proofs.Dates.{real, bounds-date}
 use Rattle.calendar.proofs.Counts.{month-up, year-up, twelve-months, month-least}
 
-pub same-date : (s t : Date) → s .year ≡ t .year → s .month ≡ t .month → s .day ≡ t .day → s ≡ t
-same-date s t y m d = λ i. record { year = y i; month = m i; day = d i }
+pub same-date : (one other : Date) → one .year ≡ other .year → one .month ≡ other .month
+    → one .day ≡ other .day → one ≡ other
+same-date one other same-year same-month same-day =
+    λ i. record { year = same-year i; month = same-month i; day = same-day i }
 
 -- the three cases of the next date, each with the place of the date
-by-place {ℓ} : (P : Date → Type ℓ) (t : Date)
-    → (t .day < monthLength (leap (t .year)) (t .month) → P (date (t .year) (t .month) (t .day + 1)))
-    → (monthLength (leap (t .year)) (t .month) ≤ t .day → t .month < 12 → P (date (t .year) (t .month + 1) 1))
-    → (monthLength (leap (t .year)) (t .month) ≤ t .day → 12 ≤ t .month → P (date (t .year + 1) 1 1))
-    → P (nextDate t)
+by-place {ℓ} : (P : Date → Type ℓ) (today : Date)
+    → (today .day < monthDays today → P (date (today .year) (today .month) (today .day + 1)))
+    → (monthDays today ≤ today .day → today .month < 12 → P (date (today .year) (today .month + 1) 1))
+    → (monthDays today ≤ today .day → 12 ≤ today .month → P (date (today .year + 1) 1 1))
+    → P (nextDate today)
 unfolding nextDate
-by-place P t inside month year =
-    by-test (ltb (t .day) (monthLength (leap (t .year)) (t .month))) (λ e. rw e (inside (ltb-true _ _ e)))
-    (λ e. rw e (by-test (ltb (t .month) 12) (λ e′. rw e′ (month (ltb-false _ _ e) (ltb-true _ _ e′)))
+by-place P today inside month year =
+    by-test (ltb (today .day) (monthDays today)) (λ e. rw e (inside (ltb-true _ _ e)))
+    (λ e. rw e (by-test (ltb (today .month) 12) (λ e′. rw e′ (month (ltb-false _ _ e) (ltb-true _ _ e′)))
     (λ e′. rw e′ (year (ltb-false _ _ e) (ltb-false _ _ e′)))))
 
 -- a date in December whose month is over, other than the last, is not in the last year
-year-follows : (t : Date) → isReal t ≡ true → monthLength (leap (t .year)) (t .month) ≤ t .day → 12 ≤ t .month
-    → (t ≡ lastDate → ⊥) → t .year + 1 ≤ lastYear
+year-follows : (today : Date) → isReal today ≡ true → monthDays today ≤ today .day → 12 ≤ today .month
+    → (today ≡ lastDate → ⊥) → today .year + 1 ≤ lastYear
 unfolding monthLength
-year-follows t e full december other =
-    let r = real e in
-    let month : t .month ≡ 12 = omega arith in
-    let day : monthLength (leap (t .year)) (t .month) ≡ 31 = rw month refl in
-    by-test (eqb (t .year) lastYear)
-    (λ same. absurd (other (same-date t lastDate (eqb-true _ _ same) month (omega arith))))
-    (λ differ. omega (arith, eqb-false (t .year) lastYear differ))
+year-follows today e full december other =
+    let bounds = real e in
+    let month : today .month ≡ 12 = omega arith in
+    let day : monthDays today ≡ 31 = rw month refl in
+    by-test (eqb (today .year) lastYear)
+    (λ same. absurd (other (same-date today lastDate (eqb-true _ _ same) month (omega arith))))
+    (λ differ. omega (arith, eqb-false (today .year) lastYear differ))
 
-pub next-is-date : (t : Date) → isReal t ≡ true → (t ≡ lastDate → ⊥) → isReal (nextDate t) ≡ true
-next-is-date t e other =
-    let r = real e in
-    by-place (λ (n : Date). isReal n ≡ true) t
-    (λ inside. bounds-date (r .year-least) (r .year-most) (r .month-least) (r .month-most)
+pub next-is-date : (today : Date) → isReal today ≡ true → (today ≡ lastDate → ⊥)
+    → isReal (nextDate today) ≡ true
+next-is-date today e other =
+    let bounds = real e in
+    by-place (λ (next : Date). isReal next ≡ true) today
+    (λ inside. bounds-date (bounds .year-least) (bounds .year-most) (bounds .month-least) (bounds .month-most)
     (omega arith) (omega arith))
-    (λ full less. bounds-date (r .year-least) (r .year-most) (omega arith) (omega arith) (omega arith)
-    (omega (arith, month-least (leap (t .year)) (t .month + 1))))
-    (λ full december. bounds-date (omega arith) (year-follows t e full december other) (omega arith)
-    (omega arith) (omega arith) (omega (arith, month-least (leap (t .year + 1)) 1)))
+    (λ full less. bounds-date (bounds .year-least) (bounds .year-most) (omega arith) (omega arith)
+    (omega arith) (omega (arith, month-least (leap (today .year)) (today .month + 1))))
+    (λ full december. bounds-date (omega arith) (year-follows today e full december other) (omega arith)
+    (omega arith) (omega arith) (omega (arith, month-least (leap (today .year + 1)) 1)))
 
-pub next-counts-one : (t : Date) → isReal t ≡ true → number (nextDate t) ≡ number t + 1
+pub next-counts-one : (today : Date) → isReal today ≡ true → number (nextDate today) ≡ number today + 1
 unfolding dayOf daysBefore
-next-counts-one t e =
-    let r = real e in
-    by-place (λ (n : Date). number n ≡ number t + 1) t (λ inside. omega arith)
+next-counts-one today e =
+    let bounds = real e in
+    by-place (λ (next : Date). number next ≡ number today + 1) today (λ inside. omega arith)
     (λ full less.
-    rw (add-sub-cancel (t .month) 1) (omega (arith, month-up (leap (t .year)) (t .month) (r .month-least))))
+    rw (add-sub-cancel (today .month) 1)
+    (omega (arith, month-up (leap (today .year)) (today .month) (bounds .month-least))))
     (λ full december.
-    let l = leap (t .year) in
-    let month : t .month ≡ 12 = omega arith in
-    let days : daysBefore l 12 ≡ daysBefore l (t .month - 1) + monthLength l (t .month) =
-    ap (daysBefore l) (sym month) ∙ month-up l (t .month) (r .month-least) in
-    omega (arith, year-up (t .year) (r .year-least), twelve-months (t .year)))
+    let leapYear = leap (today .year) in
+    let month : today .month ≡ 12 = omega arith in
+    let days : daysBefore leapYear 12
+    ≡ daysBefore leapYear (today .month - 1) + monthLength leapYear (today .month) =
+    ap (daysBefore leapYear) (sym month) ∙ month-up leapYear (today .month) (bounds .month-least) in
+    omega (arith, year-up (today .year) (bounds .year-least), twelve-months (today .year)))

@@ -32,10 +32,10 @@ leap year = eqb (year % 4) 0 && (not (eqb (year % 100) 0) || eqb (year % 400) 0)
 unfoldable pub yearLength : ℕ → ℕ
 yearLength year = cond (leap year) 366 365
 
--- the day number of 1 January, k years after the first: 1 January 1900 is day 1
+-- the day number of 1 January, so many years after the first: 1 January 1900 is day 1
 unfoldable pub firstDay : ℕ → ℕ
 firstDay zero = 1
-firstDay (suc k) = firstDay k + yearLength (firstYear + k)
+firstDay (suc years) = firstDay years + yearLength (firstYear + years)
 
 -- the days of a month, counted from 1, of a leap year or another
 unfoldable pub monthLength : Bool → ℕ → ℕ
@@ -43,10 +43,10 @@ monthLength leapYear month =
     cond (eqb month 2) (cond leapYear 29 28)
     (cond (eqb month 4 || eqb month 6 || eqb month 9 || eqb month 11) 30 31)
 
--- the days of the first k months
+-- the days of the first so many months
 unfoldable pub daysBefore : Bool → ℕ → ℕ
 daysBefore leapYear zero = 0
-daysBefore leapYear (suc k) = daysBefore leapYear k + monthLength leapYear (suc k)
+daysBefore leapYear (suc months) = daysBefore leapYear months + monthLength leapYear (suc months)
 
 -- what makes a date real: a year of the calendar, a month, a day of that month; months and days are counted
 -- from 1
@@ -64,8 +64,8 @@ dayOf year month day = firstDay (year - firstYear) + daysBefore (leap year) (mon
 
 -- 01's answer: the 'day number', or refused 8, 'no such entry'
 abbrev pub dayAnswer : Option Refusal → ℕ → DayNumber
-dayAnswer none n = Day n
-dayAnswer (some r) n = Refused r
+dayAnswer none number = Day number
+dayAnswer (some why) number = Refused why
 
 -- the day number, refused for what is no real date
 unfoldable pub dayNumber : ℕ → ℕ → ℕ → DayNumber

@@ -23,20 +23,25 @@ abbrev pub lastNumber : ℕ
 lastNumber = 109573
 
 abbrev pub isReal : Date → Bool
-isReal t = isDate (t .year) (t .month) (t .day)
+isReal given = isDate (given .year) (given .month) (given .day)
 
 abbrev pub number : Date → ℕ
-number t = dayOf (t .year) (t .month) (t .day)
+number given = dayOf (given .year) (given .month) (given .day)
+
+-- how many days its month has
+abbrev pub monthDays : Date → ℕ
+monthDays given = monthLength (leap (given .year)) (given .month)
 
 -- by year, then month, then day
 unfoldable pub earlier : Date → Date → Bool
-earlier s t =
-    ltb (s .year) (t .year)
-    || eqb (s .year) (t .year)
-    && (ltb (s .month) (t .month) || eqb (s .month) (t .month) && ltb (s .day) (t .day))
+earlier first second =
+    ltb (first .year) (second .year)
+    || eqb (first .year) (second .year)
+    && (ltb (first .month) (second .month)
+    || eqb (first .month) (second .month) && ltb (first .day) (second .day))
 
 -- the next day of the month, or the first of the next month, or 1 January of the next year
 unfoldable pub nextDate : Date → Date
-nextDate t =
-    cond (ltb (t .day) (monthLength (leap (t .year)) (t .month))) (date (t .year) (t .month) (t .day + 1))
-    (cond (ltb (t .month) 12) (date (t .year) (t .month + 1) 1) (date (t .year + 1) 1 1))
+nextDate today =
+    cond (ltb (today .day) (monthDays today)) (date (today .year) (today .month) (today .day + 1))
+    (cond (ltb (today .month) 12) (date (today .year) (today .month + 1) 1) (date (today .year + 1) 1 1))

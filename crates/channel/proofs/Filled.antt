@@ -16,51 +16,58 @@ use Rattle.basics.proofs.Tables.{put-between}
 use Rattle.message.specs.declared.Words.{Words}
 use Rattle.channel.specs.Memory.{filled, stored}
 
-module _ (l : List ℕ) (at : ℕ) (v : ℕ → ℕ) where
-  pub filled-after : (n k : ℕ) → at + n ≤ k → getD (filled l at v n) k 0 ≡ getD l k 0
+module _ (list : List ℕ) (at : ℕ) (value : ℕ → ℕ) where
+  pub filled-after : (n k : ℕ) → at + n ≤ k → getD (filled list at value n) k 0 ≡ getD list k 0
   unfolding filled
   filled-after zero k h = refl
   filled-after (suc n) k h =
-      getD-set-other (filled l at v n) (at + n) k (v n) 0 (λ e. omega arith) ∙ filled-after n k (omega arith)
+      getD-set-other (filled list at value n) (at + n) k (value n) 0 (λ e. omega arith)
+      ∙ filled-after n k (omega arith)
 
-  pub filled-same : (w : ℕ → ℕ) (n : ℕ) → ((j : ℕ) → j < n → v j ≡ w j) → filled l at v n ≡ filled l at w n
+  pub filled-same : (other : ℕ → ℕ) (n : ℕ) → ((j : ℕ) → j < n → value j ≡ other j)
+      → filled list at value n ≡ filled list at other n
   unfolding filled
-  filled-same w zero h = refl
-  filled-same w (suc n) h = rw (filled-same w n (λ j less. h j (omega arith)), h n (omega arith))
+  filled-same other zero h = refl
+  filled-same other (suc n) h = rw (filled-same other n (λ j less. h j (omega arith)), h n (omega arith))
 
-  filled-put : (n : ℕ) → at + n ≤ length l → filled l at v n ≡ putPart at n l (listed v n)
+  filled-put : (n : ℕ) → at + n ≤ length list → filled list at value n ≡ putPart at n list (listed value n)
   unfolding filled listed
-  filled-put zero h = rw (add-zero at, append-nil (take at l)) (sym (take-append-drop at l))
+  filled-put zero h = rw (add-zero at, append-nil (take at list)) (sym (take-append-drop at list))
   filled-put (suc n) h =
-      let s = take at l ++ listed v n in
-      let t = drop (suc (at + n)) l in
-      let long : length s ≡ at + n =
-      length-append (take at l) (listed v n) ∙ rw (length-take-le at l (omega arith), listed-length v n) in
+      let front = take at list ++ listed value n in
+      let back = drop (suc (at + n)) list in
+      let long : length front ≡ at + n =
+      length-append (take at list) (listed value n)
+      ∙ rw (length-take-le at list (omega arith), listed-length value n) in
       rw (
         filled-put n (omega arith),
-        drop-cons l (at + n) 0 (omega arith),
+        drop-cons list (at + n) 0 (omega arith),
         add-suc at n,
-        ← append-assoc (take at l) (listed v n) (v n ∷ []),
+        ← append-assoc (take at list) (listed value n) (value n ∷ []),
       )
-      (set-at s (getD l (at + n) 0) t (v n) (at + n) long ∙ sym (append-snoc s (v n) t))
+      (set-at front (getD list (at + n) 0) back (value n) (at + n) long
+      ∙ sym (append-snoc front (value n) back))
 
--- ---- in the middle of a list, behind s
+-- ---- in the middle of a list, behind a front
 
-module _ (s : List ℕ) (at : ℕ) (e : length s ≡ at) where
-  pub filled-between : (y t : List ℕ) (v : ℕ → ℕ) (n : ℕ) → length y ≡ n
-      → filled (s ++ y ++ t) at v n ≡ s ++ listed v n ++ t
-  filled-between y t v n wide =
-      filled-put (s ++ y ++ t) at v n (rw (length-append (s ++ y) t, length-append s y) (omega arith))
-      ∙ put-between s y t at n e wide (listed v n)
+module _ (front : List ℕ) (at : ℕ) (e : length front ≡ at) where
+  pub filled-between : (part back : List ℕ) (value : ℕ → ℕ) (n : ℕ) → length part ≡ n
+      → filled (front ++ part ++ back) at value n ≡ front ++ listed value n ++ back
+  filled-between part back value n wide =
+      filled-put (front ++ part ++ back) at value n
+      (rw (length-append (front ++ part) back, length-append front part) (omega arith))
+      ∙ put-between front part back at n e wide (listed value n)
 
-  pub stored-between : (t : List ℕ) (x y : ℕ) (words : Words)
-      → stored (s ++ x ∷ y ∷ t) at words ≡ s ++ words .0 ∷ words .1 ∷ t
-  stored-between t x y words =
+  pub stored-between : (back : List ℕ) (old older : ℕ) (words : Words)
+      → stored (front ++ old ∷ older ∷ back) at words ≡ front ++ words .0 ∷ words .1 ∷ back
+  stored-between back old older words =
       let first = words .0 in
-      rw (set-at s x (y ∷ t) first at e, ← append-snoc s first (y ∷ t))
-      (set-at (s ++ first ∷ []) y t (words .1) (at + 1) (length-append s (first ∷ []) ∙ rw e)
-      ∙ append-snoc s first (words .1 ∷ t))
+      rw (set-at front old (older ∷ back) first at e, ← append-snoc front first (older ∷ back))
+      (set-at (front ++ first ∷ []) older back (words .1) (at + 1) (length-append front (first ∷ []) ∙ rw e)
+      ∙ append-snoc front first (words .1 ∷ back))
 
-  pub get-between : (r t : List ℕ) (o : ℕ) → o < length r → getD (s ++ r ++ t) (at + o) 0 ≡ getD r o 0
-  get-between r t o h =
-      rw (← e, append-assoc s r t) (getD-append-add s (r ++ t) o 0 ∙ List·getD-append r t 0 o h)
+  pub get-between : (part back : List ℕ) (offset : ℕ) → offset < length part
+      → getD (front ++ part ++ back) (at + offset) 0 ≡ getD part offset 0
+  get-between part back offset h =
+      rw (← e, append-assoc front part back)
+      (getD-append-add front (part ++ back) offset 0 ∙ List·getD-append part back 0 offset h)

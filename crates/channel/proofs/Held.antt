@@ -10,16 +10,14 @@ use Rattle.basics.proofs.Prelude.{add-zero, add-one, arith, eqb, ltb, eqb-true,
 use mathlib.Core.List.{map}
 use native.Mathlib.Nat.{add-assoc, mod-eq-of-lt}
 use lib.Seq.{append-snoc, getD-drop}
-use Rattle.basics.specs.Tables.{listed, partAt}
-use Rattle.basics.specs.Tests.{allPass}
+use Rattle.register.proofs.Vocabulary.{listed, partAt, allPass, Message, goes, messageOf, wordsNumber}
+use Rattle.register.proofs.Vocabulary.{wordsOf, pairBits, capacity}
 use Rattle.basics.proofs.Cases.{both, both-of}
 use Rattle.basics.proofs.Listed.{listed-length, listed-same, listed-join, listed-cons}
 use Rattle.basics.proofs.Listed.{listed-first, listed-replicate}
 use Rattle.basics.proofs.Tables.{tabled-same, tabled-back}
 use Rattle.basics.proofs.Tests.{each, below}
-use Rattle.message.specs.declared.Message.{Message}
-use Rattle.message.specs.Layout.{goes, messageOf, wordsNumber, wordsOf}
-use Rattle.channel.specs.Memory.{channels, capacity, perMessage, perChannel, slotsLength}
+use Rattle.channel.specs.Memory.{channels, perMessage, perChannel, slotsLength}
 use Rattle.channel.specs.Memory.{slotsStart, slot, countAt, oldestOn}
 use Rattle.channel.specs.Layout.{packed, row, layout}
 use Rattle.channel.specs.Sound.{isDown, slotGoes, messageAt, channelTests, sound, messages}
@@ -37,17 +35,17 @@ all-listed p f (suc n) h =
     (all-listed p (λ j. f (suc j)) n (λ j less. h (suc j) (omega arith))))
 
 -- n messages and their words, two numbers each
-packed-listed : (f : ℕ → Message) (v : ℕ → ℕ) (n : ℕ)
-    → ((j : ℕ) → j < n → (wordsOf (f j) .0 ≡ v (j * 2)) × (wordsOf (f j) .1 ≡ v (j * 2 + 1)))
-    → packed (listed f n) ≡ listed v (n * perMessage)
+packed-listed : (held : ℕ → Message) (number : ℕ → ℕ) (n : ℕ)
+    → ((j : ℕ) → j < n → (wordsOf (held j) .0 ≡ number (j * 2)) × (wordsOf (held j) .1 ≡ number (j * 2 + 1)))
+    → packed (listed held n) ≡ listed number (n * perMessage)
 unfolding listed packed
-packed-listed f v zero h = refl
-packed-listed f v (suc n) h =
+packed-listed held number zero h = refl
+packed-listed held number (suc n) h =
     let e : suc n * 2 ≡ suc (suc (n * 2)) = omega arith in
-    let w = h n (omega arith) in
-    let before = packed-listed f v n (λ j less. h j (omega arith)) in
-    rw (e, packed-more (listed f n) (f n), before, w .0, w .1, add-one (n * 2))
-    (sym (append-snoc (listed v (n * 2)) (v (n * 2)) (v (suc (n * 2)) ∷ [])))
+    let words = h n (omega arith) in
+    let before = packed-listed held number n (λ j less. h j (omega arith)) in
+    rw (e, packed-more (listed held n) (held n), before, words .0, words .1, add-one (n * 2))
+    (sym (append-snoc (listed number (n * 2)) (number (n * 2)) (number (suc (n * 2)) ∷ [])))
 
 module _ (slots : List ℕ) (h : sound slots ≡ true) (i : ℕ) (inside : i < channels) where
   abbrev count : ℕ
@@ -74,7 +72,8 @@ module _ (slots : List ℕ) (h : sound slots ≡ true) (i : ℕ) (inside : i < c
         few = leb-true count capacity (t .0);
         used = below (λ j. slotGoes (isDown i) slots (slot i j)) count (t .1 .0);
         unused = λ j less.
-            eqb-true _ 0 (below (λ x. eqb (getD slots (slot i count + x) 0) 0) free (t .1 .1 .0) j less);
+            eqb-true _ 0
+            (below (λ place. eqb (getD slots (slot i count + place) 0) 0) free (t .1 .1 .0) j less);
       }
 
   pub counts-fit : countAt slots i ≤ capacity
@@ -89,7 +88,7 @@ module _ (slots : List ℕ) (h : sound slots ≡ true) (i : ℕ) (inside : i < c
       let narrow : getD slots at 0 < 2 ^ 32 = rw (← holds i slots at first .high)
       (word-lt (heldAt slots at)) in
       rw (mod-eq-of-lt narrow)
-      (both (ltb (getD slots (at + 1) 0) (2 ^ 64)) (goes (isDown i) (messageAt slots at)) first .1)
+      (both (ltb (getD slots (at + 1) 0) (2 ^ pairBits)) (goes (isDown i) (messageAt slots at)) first .1)
 
   messages-count : length (messages slots i) ≡ count
   unfolding messages
@@ -107,21 +106,21 @@ module _ (slots : List ℕ) (h : sound slots ≡ true) (i : ℕ) (inside : i < c
   numbers : row (messages slots i) ≡ listed (λ j. getD slots (slotsStart i + j) 0) perChannel
   unfolding row messages
   numbers =
-      let v : ℕ → ℕ = λ j. getD slots (slotsStart i + j) 0 in
-      let place : (n j : ℕ) → getD slots (slotsStart i + n + j) 0 ≡ v (n + j) =
-      λ n j. ap (λ (x : ℕ). getD slots x 0) (add-assoc (slotsStart i) n j) in
+      let number : ℕ → ℕ = λ j. getD slots (slotsStart i + j) 0 in
+      let place : (n j : ℕ) → getD slots (slotsStart i + n + j) 0 ≡ number (n + j) =
+      λ n j. ap (λ (place : ℕ). getD slots place 0) (add-assoc (slotsStart i) n j) in
       let few = channel .few in
       let all : count * perMessage + free ≡ perChannel = omega arith in
-      let used : packed (listed held count) ≡ listed v (count * perMessage) =
-      packed-listed held v count
-      (λ j less. let w = holds i slots (slot i j) (channel .used j less) in
-      (w .high, w .low ∙ place (j * 2) 1)) in
-      let unused : listed (λ j. v (count * perMessage + j)) free ≡ replicate free 0 =
-      listed-same (λ j. v (count * perMessage + j)) (λ j. 0) free
+      let used : packed (listed held count) ≡ listed number (count * perMessage) =
+      packed-listed held number count
+      (λ j less. let words = holds i slots (slot i j) (channel .used j less) in
+      (words .high, words .low ∙ place (j * 2) 1)) in
+      let unused : listed (λ j. number (count * perMessage + j)) free ≡ replicate free 0 =
+      listed-same (λ j. number (count * perMessage + j)) (λ j. 0) free
       (λ j less. sym (place (count * perMessage) j) ∙ channel .unused j less)
       ∙ listed-replicate {A = ℕ} free 0 in
       rw (listed-length held count, used, ← unused)
-      (sym (listed-join v (count * perMessage) free) ∙ ap (listed v) all)
+      (sym (listed-join number (count * perMessage) free) ∙ ap (listed number) all)
 
   piece : length slots ≡ slotsLength → row (messages slots i) ≡ partAt (slotsStart i) perChannel slots
   piece long =

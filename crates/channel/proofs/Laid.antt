@@ -11,13 +11,11 @@ use mathlib.Core.List.{map}
 use native.Mathlib.Nat.{add-assoc}
 use lib.ListN.{getD-replicate}
 use lib.Seq.{getD-append-add}
-use Rattle.basics.specs.Tables.{listed}
-use Rattle.basics.specs.Tests.{allPass}
+use Rattle.register.proofs.Vocabulary.{listed, allPass, Message, capacity}
 use Rattle.basics.proofs.Cases.{both}
 use Rattle.basics.proofs.Listed.{listed-same, listed-cons}
 use Rattle.basics.proofs.Tests.{all-of, below-of}
-use Rattle.message.specs.declared.Message.{Message}
-use Rattle.channel.specs.Memory.{channels, capacity, perMessage, perChannel, slotsStart, slot}
+use Rattle.channel.specs.Memory.{channels, perMessage, perChannel, slotsStart, slot}
 use Rattle.channel.specs.Layout.{Fitting, packed, row, layout}
 use Rattle.channel.specs.Sound.{isDown, slotGoes, channelTests, sound, messages}
 use Rattle.channel.proofs.Channel.{packed-length}
@@ -28,39 +26,39 @@ use Rattle.channel.proofs.Slot.{suits, heldAt, held-at, passes-at}
 abbrev pub Suiting : (ℕ → List Message) → Type 0
 Suiting held = (i : ℕ) → i < channels → allPass (map (suits i) (held i)) ≡ true
 
--- ---- the slots of one channel, with z behind them
+-- ---- the slots of one channel, with others behind them
 
-module _ (z : List ℕ) (i : ℕ) where
-  -- slot j + 1 of m ∷ ms is slot j of ms
+module _ (back : List ℕ) (i : ℕ) where
+  -- slot j + 1 of all messages is slot j of those behind the first
   next-place : (j : ℕ) → suc j * 2 ≡ suc (suc (j * 2))
   next-place j = omega arith
 
   next-low : (j : ℕ) → suc j * 2 + 1 ≡ suc (suc (j * 2 + 1))
   next-low j = omega arith
 
-  slots-back : (ms : List Message) → allPass (map (suits i) ms) ≡ true
-      → listed (λ j. heldAt (packed ms ++ z) (j * 2)) (length ms) ≡ ms
+  slots-back : (held : List Message) → allPass (map (suits i) held) ≡ true
+      → listed (λ j. heldAt (packed held ++ back) (j * 2)) (length held) ≡ held
   unfolding listed packed
   slots-back [] h = refl
-  slots-back (m ∷ ms) h =
-      let l = packed (m ∷ ms) ++ z in
-      let q = both (suits i m) (allPass (map (suits i) ms)) h in
-      listed-cons (λ j. heldAt l (j * 2)) (length ms)
-      ∙ rw (held-at i m (q .0) l 0 refl refl)
-      (ap (λ (rest : List Message). m ∷ rest)
-      (listed-same (λ j. heldAt l (suc j * 2)) (λ j. heldAt (packed ms ++ z) (j * 2)) (length ms)
+  slots-back (message ∷ held) h =
+      let slots = packed (message ∷ held) ++ back in
+      let q = both (suits i message) (allPass (map (suits i) held)) h in
+      listed-cons (λ j. heldAt slots (j * 2)) (length held)
+      ∙ rw (held-at i message (q .0) slots 0 refl refl) (ap (λ (rest : List Message). message ∷ rest)
+      (listed-same (λ j. heldAt slots (suc j * 2)) (λ j. heldAt (packed held ++ back) (j * 2)) (length held)
       (λ j less. rw (next-low j, next-place j))
-      ∙ slots-back ms (q .1)))
+      ∙ slots-back held (q .1)))
 
-  slots-pass : (ms : List Message) (j : ℕ) → allPass (map (suits i) ms) ≡ true → j < length ms
-      → slotGoes (isDown i) (packed ms ++ z) (j * 2) ≡ true
+  slots-pass : (held : List Message) (j : ℕ) → allPass (map (suits i) held) ≡ true → j < length held
+      → slotGoes (isDown i) (packed held ++ back) (j * 2) ≡ true
   unfolding packed
   slots-pass [] j h less = absurd (not-suc-le-zero less)
-  slots-pass (m ∷ ms) zero h less =
-      passes-at i m (both (suits i m) (allPass (map (suits i) ms)) h .0) (packed (m ∷ ms) ++ z) 0 refl refl
-  slots-pass (m ∷ ms) (suc j) h less =
+  slots-pass (message ∷ held) zero h less =
+      passes-at i message (both (suits i message) (allPass (map (suits i) held)) h .0)
+      (packed (message ∷ held) ++ back) 0 refl refl
+  slots-pass (message ∷ held) (suc j) h less =
       rw (next-low j, next-place j)
-      (slots-pass ms j (both (suits i m) (allPass (map (suits i) ms)) h .1) (omega arith))
+      (slots-pass held j (both (suits i message) (allPass (map (suits i) held)) h .1) (omega arith))
 
 -- ---- all channels
 
@@ -77,9 +75,10 @@ module _ (held : ℕ → List Message) (fits : Fitting held) (good : Suiting hel
     unfolding row
     slots = row (held i)
 
-    place : (o : ℕ) → o < perChannel → getD (layout held) (slotsStart i + o) 0 ≡ getD slots o 0
+    place : (offset : ℕ) → offset < perChannel
+        → getD (layout held) (slotsStart i + offset) 0 ≡ getD slots offset 0
     unfolding slots
-    place o less = layout-get held fits i inside o less
+    place offset less = layout-get held fits i inside offset less
 
     behind : (n j : ℕ) → n + j < perChannel
         → getD (layout held) (slotsStart i + n + j) 0 ≡ getD slots (n + j) 0
@@ -105,17 +104,17 @@ module _ (held : ℕ → List Message) (fits : Fitting held) (good : Suiting hel
     unfolding slots row
     unused j less =
         behind (count * perMessage) j (omega arith)
-        ∙ ap (λ (x : ℕ). getD slots (x + j) 0) (sym (packed-length (held i)))
+        ∙ ap (λ (place : ℕ). getD slots (place + j) 0) (sym (packed-length (held i)))
         ∙ getD-append-add (packed (held i)) (replicate free 0) j 0 ∙ getD-replicate free j 0 0 less
 
     sound-channel : allPass (channelTests (layout held) i) ≡ true
     unfolding channelTests
     sound-channel =
-        let l = layout held in
-        let go = below-of (λ j. slotGoes (isDown i) l (slot i j)) count used in
-        let zero-behind = below-of (λ j. eqb (getD l (slot i count + j) 0) 0) free
-        (λ j less. eq-eqb (getD l (slot i count + j) 0) 0 (unused j less)) in
-        all-of (channelTests l i)
+        let memory = layout held in
+        let go = below-of (λ j. slotGoes (isDown i) memory (slot i j)) count used in
+        let zero-behind = below-of (λ j. eqb (getD memory (slot i count + j) 0) 0) free
+        (λ j less. eq-eqb (getD memory (slot i count + j) 0) 0 (unused j less)) in
+        all-of (channelTests memory i)
         (rw (layout-count held fits i inside)
         (le-leb count capacity (fits i inside), (go, (zero-behind, tt))))
 

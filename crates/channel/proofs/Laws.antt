@@ -1,4 +1,4 @@
--- The operations on the channels' memory are those on lists of messages: put appends, take leaves the tail,
+-- The operations on the channels' memory are those on lists of messages: put appends, remove leaves the tail,
 -- clear leaves none, the oldest message is the head, the count is the length. These are the laws that callers
 -- use.
 --
@@ -6,23 +6,19 @@
 -- the counts (`acts-row`), and then it stores the count (`acts`).
 -- Assumes nothing.
 use Rattle.basics.proofs.Prelude.{_≡_, refl, ap, _∙_, List, [], _∷_, _++_, length, getD, set, replicate}
-use Rattle.basics.proofs.Prelude.{length-append, ℕ, zero, suc, _+_, _*_, _^_, _≤_, _<_, add-zero, arith}
+use Rattle.basics.proofs.Prelude.{length-append, ℕ, zero, suc, _+_, _-_, _*_, _^_, _≤_, _<_, add-zero, arith}
 use Rattle.basics.proofs.Prelude.{ne-eqb, lt-ltb}
 use native.Mathlib.Nat.{zero-mul, suc-mul, mod-eq-of-lt}
 use lib.ListN.{replicate-append-replicate, List·getD-append}
 use lib.Seq.{set-append-left}
-use Rattle.basics.specs.Tables.{listed, tabled}
-use Rattle.basics.specs.Update.{update}
+use Rattle.register.proofs.Vocabulary.{listed, tabled, update, Message, Words, wordsOf, capacity}
 use Rattle.basics.proofs.Listed.{listed-length, listed-same, listed-get, listed-set, listed-replicate}
 use Rattle.basics.proofs.Tables.{update-map, tabled-same, tabled-update, tabled-length-behind}
 use Rattle.basics.proofs.Tables.{reads-row, acts-row}
-use Rattle.message.specs.declared.Message.{Message}
-use Rattle.message.specs.declared.Words.{Words}
-use Rattle.message.specs.Layout.{wordsOf}
 use Rattle.message.proofs.Numbers.{headOf, lowOf, head-lt, words-are}
-use Rattle.channel.specs.Memory.{channels, capacity, perMessage, perChannel, slotsLength}
+use Rattle.channel.specs.Memory.{channels, perMessage, perChannel, slotsLength}
 use Rattle.channel.specs.Memory.{slotsStart, slot, countAt, stored, zeroed, shifted}
-use Rattle.channel.specs.Memory.{putOn, oldestOn, taken, cleared}
+use Rattle.channel.specs.Memory.{putOn, oldestOn, removed, cleared}
 use Rattle.channel.specs.Layout.{Fitting, packed, row, layout}
 use Rattle.channel.proofs.Filled.{get-between}
 use Rattle.channel.proofs.Channel.{row-length, put-row, remove-row, clear-row}
@@ -43,11 +39,12 @@ layout-same held other h =
       tabled-same (rows held) (rows other) channels (λ i less. ap row (h i less)),
     )
 
--- n rows of w zeros
-pub zero-rows : (w n : ℕ) → tabled {A = ℕ} (λ i. replicate w 0) n ≡ replicate (n * w) 0
+-- n rows of zeros, each of one width
+pub zero-rows : (width n : ℕ) → tabled {A = ℕ} (λ i. replicate width 0) n ≡ replicate (n * width) 0
 unfolding tabled
-zero-rows w zero = rw (zero-mul w)
-zero-rows w (suc n) = rw (zero-rows w n, replicate-append-replicate {A = ℕ} (n * w) w 0, suc-mul n w)
+zero-rows width zero = rw (zero-mul width)
+zero-rows width (suc n) =
+    rw (zero-rows width n, replicate-append-replicate {A = ℕ} (n * width) width 0, suc-mul n width)
 
 -- no message anywhere: zeros
 pub layout-empty : layout (λ i. []) ≡ replicate slotsLength 0
@@ -57,8 +54,9 @@ layout-empty =
     (replicate-append-replicate {A = ℕ} channels (channels * perChannel) 0)
 
 -- the first word of a message has 32 bits
-pub word-lt : (m : Message) → wordsOf m .0 < 2 ^ 32
-word-lt m = rw (← words-are m (headOf m) (lowOf m) refl refl) (omega (arith, head-lt m))
+pub word-lt : (message : Message) → wordsOf message .0 < 2 ^ 32
+word-lt message =
+    rw (← words-are message (headOf message) (lowOf message) refl refl) (omega (arith, head-lt message))
 
 module _ (held : ℕ → List Message) (fits : Fitting held) where
   wide : (i : ℕ) → i < channels → length (rows held i) ≡ perChannel
@@ -78,72 +76,74 @@ module _ (held : ℕ → List Message) (fits : Fitting held) where
         List·getD-append (counts held) (tabled (rows held) channels) 0 i (rw many inside)
         ∙ listed-get (λ j. length (held j)) channels i 0 inside
 
-    -- place o of the slots of channel i
-    pub layout-get : (o : ℕ) → o < perChannel
-        → getD (layout held) (slotsStart i + o) 0 ≡ getD (rows held i) o 0
+    -- a place of the slots of channel i
+    pub layout-get : (offset : ℕ) → offset < perChannel
+        → getD (layout held) (slotsStart i + offset) 0 ≡ getD (rows held i) offset 0
     unfolding layout
-    layout-get o less =
+    layout-get offset less =
         reads-row perChannel (rows held) channels wide (counts held) i inside
-        (λ slots. getD slots (slotsStart i + o) 0)
-        (getD (rows held i) o 0)
-        (λ s t e. get-between s (slotsStart i) (rw many at e) (rows held i) t o (rw (wide i inside) less))
+        (λ slots. getD slots (slotsStart i + offset) 0) (getD (rows held i) offset 0)
+        (λ front back e. get-between front (slotsStart i) (rw many at e) (rows held i) back offset
+        (rw (wide i inside) less))
 
     -- what acts on the slots of channel i and then stores the count
-    acts : (f : List ℕ → List ℕ) (ms : List Message) (n : ℕ) → length ms ≡ n
-        → ((s t : List ℕ) → length s ≡ slotsStart i → f (s ++ rows held i ++ t) ≡ s ++ row ms ++ t)
-        → set (f (layout held)) i n ≡ layout (update held i ms)
+    acts : (act : List ℕ → List ℕ) (next : List Message) (size : ℕ) → length next ≡ size
+        → ((front back : List ℕ) → length front ≡ slotsStart i
+        → act (front ++ rows held i ++ back) ≡ front ++ row next ++ back)
+        → set (act (layout held)) i size ≡ layout (update held i next)
     unfolding layout
-    acts f ms n e h =
-        let k : ℕ → ℕ = λ j. length (held j) in
-        let slots : f (counts held ++ tabled (rows held) channels)
-        ≡ counts held ++ tabled (update (rows held) i (row ms)) channels =
-        acts-row perChannel (rows held) channels wide (counts held) i inside f (row ms)
-        (λ s t q. h s t (rw many at q)) in
-        let stored : set (counts held) i n ≡ counts (update held i ms) =
-        listed-set k channels i n inside ∙ rw (← e)
-        (listed-same (update k i (length ms)) (λ j. length (update held i ms j)) channels
-        (λ j less. update-map (λ (l : List Message). length l) held i j ms)) in
+    acts act next size e h =
+        let count : ℕ → ℕ = λ j. length (held j) in
+        let slots : act (counts held ++ tabled (rows held) channels)
+        ≡ counts held ++ tabled (update (rows held) i (row next)) channels =
+        acts-row perChannel (rows held) channels wide (counts held) i inside act (row next)
+        (λ front back q. h front back (rw many at q)) in
+        let stored : set (counts held) i size ≡ counts (update held i next) =
+        listed-set count channels i size inside ∙ rw (← e)
+        (listed-same (update count i (length next)) (λ j. length (update held i next j)) channels
+        (λ j less. update-map (λ (list : List Message). length list) held i j next)) in
         rw slots
-        (set-append-left (counts held) (tabled (update (rows held) i (row ms)) channels) i n (rw many inside)
-        ∙ rw (stored, tabled-update row held i ms channels))
+        (set-append-left (counts held) (tabled (update (rows held) i (row next)) channels) i size
+        (rw many inside) ∙ rw (stored, tabled-update row held i next channels))
 
-    pub layout-put : (m : Message) → length (held i) < capacity
-        → putOn (layout held) i (wordsOf m) ≡ layout (update held i (held i ++ m ∷ []))
+    pub layout-put : (message : Message) → length (held i) < capacity
+        → putOn (layout held) i (wordsOf message) ≡ layout (update held i (held i ++ message ∷ []))
     unfolding putOn
-    layout-put m room =
-        let k = length (held i) in
-        rw (layout-count, lt-ltb k capacity room)
-        (acts (λ slots. stored slots (slot i k) (wordsOf m)) (held i ++ m ∷ []) (k + 1)
-        (length-append (held i) (m ∷ []))
-        (λ s t e. put-row s t (slotsStart i) e (held i) m room))
+    layout-put message room =
+        let count = length (held i) in
+        rw (layout-count, lt-ltb count capacity room)
+        (acts (λ slots. stored slots (slot i count) (wordsOf message)) (held i ++ message ∷ []) (count + 1)
+        (length-append (held i) (message ∷ []))
+        (λ front back e. put-row front back (slotsStart i) e (held i) message room))
 
     -- a full channel stays as it is
     pub layout-full : (words : Words) → length (held i) ≡ capacity → putOn (layout held) i words ≡ layout held
     unfolding putOn
     layout-full words full = rw (layout-count, full)
 
-    pub layout-take : (m : Message) (ms : List Message) → held i ≡ m ∷ ms
-        → taken (layout held) i ≡ layout (update held i ms)
-    unfolding taken
-    layout-take m ms e =
-        let short : length (m ∷ ms) ≤ capacity = rw e at (fits i inside) in
-        let k : countAt (layout held) i ≡ suc (length ms) = layout-count ∙ rw e in
-        rw (k, ne-eqb (suc (length ms)) 0 (λ z. omega arith))
-        (acts (λ slots. zeroed (shifted slots (slotsStart i)) (slot i 7) perMessage) ms _ (omega arith)
-        (λ s t q. rw e (remove-row s t (slotsStart i) q m ms short)))
+    pub layout-remove : (oldest : Message) (rest : List Message) → held i ≡ oldest ∷ rest
+        → removed (layout held) i ≡ layout (update held i rest)
+    unfolding removed
+    layout-remove oldest rest e =
+        let short : length (oldest ∷ rest) ≤ capacity = rw e at (fits i inside) in
+        let k : countAt (layout held) i ≡ suc (length rest) = layout-count ∙ rw e in
+        rw (k, ne-eqb (suc (length rest)) 0 (λ z. omega arith))
+        (acts (λ slots. zeroed (shifted slots (slotsStart i)) (slot i (capacity - 1)) perMessage) rest _
+        (omega arith) (λ front back q. rw e (remove-row front back (slotsStart i) q oldest rest short)))
 
     pub layout-clear : cleared (layout held) i ≡ layout (update held i [])
     unfolding cleared
     layout-clear =
         acts (λ slots. zeroed slots (slotsStart i) perChannel) [] 0 refl
-        (λ s t e. clear-row s t (slotsStart i) e (held i) (fits i inside))
+        (λ front back e. clear-row front back (slotsStart i) e (held i) (fits i inside))
 
-    pub layout-oldest : (m : Message) (ms : List Message) → held i ≡ m ∷ ms
-        → oldestOn (layout held) i ≡ wordsOf m
+    pub layout-oldest : (oldest : Message) (rest : List Message) → held i ≡ oldest ∷ rest
+        → oldestOn (layout held) i ≡ wordsOf oldest
     unfolding oldestOn row packed
-    layout-oldest m ms e =
-        let zeroth : getD (layout held) (slotsStart i) 0 ≡ wordsOf m .0 =
+    layout-oldest oldest rest e =
+        let zeroth : getD (layout held) (slotsStart i) 0 ≡ wordsOf oldest .0 =
         rw add-zero at (layout-get 0 (omega arith)) ∙ rw e in
-        let next : getD (layout held) (slotsStart i + 1) 0 ≡ wordsOf m .1 =
+        let next : getD (layout held) (slotsStart i + 1) 0 ≡ wordsOf oldest .1 =
         layout-get 1 (omega arith) ∙ rw e in
-        rw (zeroth, next) (ap (λ (x : ℕ). record { 0 = x; 1 = wordsOf m .1 }) (mod-eq-of-lt (word-lt m)))
+        rw (zeroth, next)
+        (ap (λ (word : ℕ). record { 0 = word; 1 = wordsOf oldest .1 }) (mod-eq-of-lt (word-lt oldest)))

@@ -15,30 +15,31 @@ use Rattle.basics.proofs.Tests.{below-fails}
 use Rattle.channel.specs.Memory.{perChannel, slotsStart, slot, countAt}
 use Rattle.channel.specs.Sound.{zeroFrom, isDown, slotGoes, channelTests}
 
--- ---- what the code finds of a test b: a result r
+-- ---- what the code finds of a test: a result
 
-pub passed : {r b : Bool} → r ≡ b → not r ≡ false → b ≡ true
-passed {r} e h = sym e ∙ not-false r h
+pub passed : {result test : Bool} → result ≡ test → not result ≡ false → test ≡ true
+passed {result} e h = sym e ∙ not-false result h
 
-pub failed : {r b : Bool} → r ≡ b → not r ≡ true → b ≡ false
-failed {r} e h = sym e ∙ not-true r h
+pub failed : {result test : Bool} → result ≡ test → not result ≡ true → test ≡ false
+failed {result} e h = sym e ∙ not-true result h
 
--- ---- a loop that leaves at the first failure, of tests with results r
+-- ---- a loop that leaves at the first failure, of tests with results
 
-module _ (p : ℕ → Bool) where
-  pub none-passed : allBelow p 0 ≡ true
+module _ (test : ℕ → Bool) where
+  pub none-passed : allBelow test 0 ≡ true
   unfolding allBelow
   none-passed = refl
 
-  pub one-more : (i : ℕ) {r : Bool} → allBelow p i ≡ true → r ≡ p i → not r ≡ false
-      → allBelow p (i + 1) ≡ true
+  pub one-more : (i : ℕ) {result : Bool} → allBelow test i ≡ true → result ≡ test i → not result ≡ false
+      → allBelow test (i + 1) ≡ true
   unfolding allBelow
   one-more i h e left = rw (add-one, h) (passed e left)
 
-  pub fails-here : (n i : ℕ) {r : Bool} → i < n → r ≡ p i → not r ≡ true → false ≡ allBelow p n
-  fails-here n i less e taken = sym (below-fails p n i less (failed e taken))
+  pub fails-here : (n i : ℕ) {result : Bool} → i < n → result ≡ test i → not result ≡ true
+      → false ≡ allBelow test n
+  fails-here n i less e removed = sym (below-fails test n i less (failed e removed))
 
-  pub all-passed : {i n : ℕ} → i ≡ n → allBelow p i ≡ true → true ≡ allBelow p n
+  pub all-passed : {i n : ℕ} → i ≡ n → allBelow test i ≡ true → true ≡ allBelow test n
   all-passed e h = sym (rw (← e) h)
 
 -- ---- zeros

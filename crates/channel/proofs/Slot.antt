@@ -10,11 +10,10 @@ use Rattle.basics.proofs.Prelude.{_/_, _%_, _^_, _≤_, _<_, arith, ltb, ne-eqb
 use native.Mathlib.Nat.{mod-lt}
 use lib.Pow.{pow-pos}
 use Rattle.basics.proofs.Cases.{by-test, both, both-of, true-or-false}
-use Rattle.message.specs.declared.Message.{Message}
-use Rattle.message.specs.declared.Unpacked.{Unpacked}
-use Rattle.message.specs.declared.Unpacked.the-variants.{Good, Refused}
-use Rattle.message.specs.declared.Words.{Words}
-use Rattle.message.specs.Layout.{numberOf, goes, malformed, messageOf, wellFormed, words, wordsOf}
+use Rattle.register.proofs.Vocabulary.{Message, Unpacked, Good, Words, tagBits, goes, messageOf, wellFormed}
+use Rattle.register.proofs.Vocabulary.{words, wordsOf, pairBits}
+use Rattle.message.specs.declared.Unpacked.the-variants.{Refused}
+use Rattle.message.specs.Layout.{numberOf, malformed}
 use Rattle.message.proofs.Fields.{byWords, by-words}
 use Rattle.message.proofs.Numbers.{only, words-back}
 use Rattle.message.proofs.RoundTrip.{of-words-of}
@@ -22,15 +21,16 @@ use Rattle.channel.specs.Sound.{isDown, wordsGo, messageAt, slotGoes, me
 
 -- a message that may be on channel i: no field over its width, and it goes the channel's way
 abbrev pub suits : ℕ → Message → Bool
-suits i m = wellFormed m && goes (isDown i) (Good m)
+suits i message = wellFormed message && goes (isDown i) (Good message)
 
 -- the message in the slot at `at`
 abbrev pub heldAt : List ℕ → ℕ → Message
-heldAt b at = messageIn (messageAt b at)
+heldAt slots at = messageIn (messageAt slots at)
 
-held-is : (b : List ℕ) (at : ℕ) (m : Message) → messageAt b at ≡ Good m → heldAt b at ≡ m
+held-is : (slots : List ℕ) (at : ℕ) (message : Message) → messageAt slots at ≡ Good message
+    → heldAt slots at ≡ message
 unfolding messageIn
-held-is b at m e = ap messageIn e
+held-is slots at message e = ap messageIn e
 
 nowhere : (down : Bool) → goes down malformed ≡ false
 unfolding goes
@@ -38,79 +38,86 @@ nowhere down = refl
 
 -- ---- from the numbers to the message
 
-words-found : (h l : ℕ) (m : Message) → l < 2 ^ 64 → numberOf m ≡ h * 2 ^ 64 + l
-    → wordsOf m ≡ (record { 0 = h; 1 = l })
+words-found : (first second : ℕ) (message : Message) → second < 2 ^ pairBits
+    → numberOf message ≡ first * 2 ^ pairBits + second
+    → wordsOf message ≡ (record { 0 = first; 1 = second })
 unfolding wordsOf
-words-found h l m small e = ap words e ∙ sym (words-back h l small)
+words-found first second message small e = ap words e ∙ sym (words-back first second small)
 
 -- the slot's numbers are the words of the message in it, which suits channel i
-pub record Holds (i : ℕ) (b : List ℕ) (at : ℕ) : Type 0 where
-  pub high : wordsOf (heldAt b at) .0 ≡ getD b at 0
-  pub low : wordsOf (heldAt b at) .1 ≡ getD b (at + 1) 0
-  pub suited : suits i (heldAt b at) ≡ true
+pub record Holds (i : ℕ) (slots : List ℕ) (at : ℕ) : Type 0 where
+  pub high : wordsOf (heldAt slots at) .0 ≡ getD slots at 0
+  pub low : wordsOf (heldAt slots at) .1 ≡ getD slots (at + 1) 0
+  pub suited : suits i (heldAt slots at) ≡ true
 
-module _ (i : ℕ) (b : List ℕ) (at : ℕ) (e : slotGoes (isDown i) b at ≡ true) where
-  parts : (ltb (getD b (at + 1) 0) (2 ^ 64) ≡ true) × (goes (isDown i) (messageAt b at) ≡ true)
-  parts = both (ltb (getD b (at + 1) 0) (2 ^ 64)) (goes (isDown i) (messageAt b at)) e
+module _ (i : ℕ) (slots : List ℕ) (at : ℕ) (e : slotGoes (isDown i) slots at ≡ true) where
+  parts : (ltb (getD slots (at + 1) 0) (2 ^ pairBits) ≡ true) × (goes (isDown i) (messageAt slots at) ≡ true)
+  parts = both (ltb (getD slots (at + 1) 0) (2 ^ pairBits)) (goes (isDown i) (messageAt slots at)) e
 
-  holds-as : (u : Unpacked) → messageAt b at ≡ u → Holds i b at
+  holds-as : (unpacked : Unpacked) → messageAt slots at ≡ unpacked → Holds i slots at
   unfolding goes
-  holds-as (Refused r) q =
-      absurd (true-or-false (goes (isDown i) (messageAt b at)) (parts .1) (ap (goes (isDown i)) q))
-  holds-as (Good m) q =
-      let h = getD b at 0 in
-      let l = getD b (at + 1) 0 in
-      let f = only (h * 2 ^ 64 + l) m q in
-      let is = held-is b at m q in
-      let w = ap wordsOf is ∙ words-found h l m (ltb-true l (2 ^ 64) (parts .0)) (f .number) in
+  holds-as (Refused why) q =
+      absurd (true-or-false (goes (isDown i) (messageAt slots at)) (parts .1) (ap (goes (isDown i)) q))
+  holds-as (Good message) q =
+      let first = getD slots at 0 in
+      let second = getD slots (at + 1) 0 in
+      let f = only (first * 2 ^ pairBits + second) message q in
+      let is = held-is slots at message q in
+      let same =
+      ap wordsOf is
+      ∙ words-found first second message (ltb-true second (2 ^ pairBits) (parts .0)) (f .number) in
       record {
-        high = ap (λ (x : Words). x .0) w;
-        low = ap (λ (x : Words). x .1) w;
-        suited = rw is (both-of (wellFormed m) _ (f .within) (sym (ap (goes (isDown i)) q) ∙ parts .1));
+        high = ap (λ (words : Words). words .0) same;
+        low = ap (λ (words : Words). words .1) same;
+        suited = rw is (both-of (wellFormed message) _ (f .within) (sym (ap (goes (isDown i)) q) ∙ parts .1));
       }
 
-  pub holds : Holds i b at
-  holds = holds-as (messageAt b at) refl
+  pub holds : Holds i slots at
+  holds = holds-as (messageAt slots at) refl
 
 -- ---- from the message to the numbers
 
-low-word : (m : Message) → wordsOf m .1 < 2 ^ 64
+low-word : (message : Message) → wordsOf message .1 < 2 ^ pairBits
 unfolding wordsOf
-low-word m = mod-lt (numberOf m) (pow-pos 64)
+low-word message = mod-lt (numberOf message) (pow-pos pairBits)
 
-module _ (i : ℕ) (m : Message) (good : suits i m ≡ true) (b : List ℕ) (at : ℕ)
-    (high : getD b at 0 ≡ wordsOf m .0) (low : getD b (at + 1) 0 ≡ wordsOf m .1) where
-  found-at : messageAt b at ≡ Good m
-  found-at = rw (high, low) (of-words-of m (both (wellFormed m) (goes (isDown i) (Good m)) good .0))
+module _ (i : ℕ) (message : Message) (good : suits i message ≡ true) (slots : List ℕ) (at : ℕ)
+    (high : getD slots at 0 ≡ wordsOf message .0) (low : getD slots (at + 1) 0 ≡ wordsOf message .1) where
+  found-at : messageAt slots at ≡ Good message
+  found-at =
+      rw (high, low)
+      (of-words-of message (both (wellFormed message) (goes (isDown i) (Good message)) good .0))
 
-  pub held-at : heldAt b at ≡ m
-  held-at = held-is b at m found-at
+  pub held-at : heldAt slots at ≡ message
+  held-at = held-is slots at message found-at
 
-  pub passes-at : slotGoes (isDown i) b at ≡ true
+  pub passes-at : slotGoes (isDown i) slots at ≡ true
   passes-at =
-      both-of (ltb (getD b (at + 1) 0) (2 ^ 64)) (goes (isDown i) (messageAt b at))
-      (rw low (lt-ltb (wordsOf m .1) (2 ^ 64) (low-word m)))
-      (ap (goes (isDown i)) found-at ∙ both (wellFormed m) (goes (isDown i) (Good m)) good .1)
+      both-of (ltb (getD slots (at + 1) 0) (2 ^ pairBits)) (goes (isDown i) (messageAt slots at))
+      (rw low (lt-ltb (wordsOf message .1) (2 ^ pairBits) (low-word message)))
+      (ap (goes (isDown i)) found-at ∙ both (wellFormed message) (goes (isDown i) (Good message)) good .1)
 
 -- ---- a first number over 32 bits
 
-no-kind : (k t l : ℕ) → 7 ≤ k → byWords k t l ≡ malformed
+no-kind : (kind tag second : ℕ) → 7 ≤ kind → byWords kind tag second ≡ malformed
 unfolding byWords
-no-kind k t l h =
+no-kind kind tag second h =
     rw (
-      ne-eqb k 1 (λ z. omega arith),
-      ne-eqb k 2 (λ z. omega arith),
-      ne-eqb k 3 (λ z. omega arith),
-      ne-eqb k 4 (λ z. omega arith),
-      ne-eqb k 5 (λ z. omega arith),
-      ne-eqb k 6 (λ z. omega arith),
+      ne-eqb kind 1 (λ z. omega arith),
+      ne-eqb kind 2 (λ z. omega arith),
+      ne-eqb kind 3 (λ z. omega arith),
+      ne-eqb kind 4 (λ z. omega arith),
+      ne-eqb kind 5 (λ z. omega arith),
+      ne-eqb kind 6 (λ z. omega arith),
     )
 
-over-malformed : (h l : ℕ) → 2 ^ 32 ≤ h → l < 2 ^ 64 → messageOf (h * 2 ^ 64 + l) ≡ malformed
-over-malformed h l over small = by-words h l small ∙ no-kind (h / 2 ^ 20) (h % 2 ^ 20) l (omega arith)
+over-malformed : (first second : ℕ) → 2 ^ 32 ≤ first → second < 2 ^ pairBits
+    → messageOf (first * 2 ^ pairBits + second) ≡ malformed
+over-malformed first second over small =
+    by-words first second small ∙ no-kind (first / 2 ^ tagBits) (first % 2 ^ tagBits) second (omega arith)
 
-pub over-fails : (down : Bool) (h l : ℕ) → 2 ^ 32 ≤ h → wordsGo down h l ≡ false
-over-fails down h l over =
-    by-test (ltb l (2 ^ 64))
-    (λ e. rw (e, over-malformed h l over (ltb-true l (2 ^ 64) e)) (nowhere down))
+pub over-fails : (down : Bool) (first second : ℕ) → 2 ^ 32 ≤ first → wordsGo down first second ≡ false
+over-fails down first second over =
+    by-test (ltb second (2 ^ pairBits))
+    (λ e. rw (e, over-malformed first second over (ltb-true second (2 ^ pairBits) e)) (nowhere down))
     (λ e. rw e)

@@ -10,7 +10,8 @@ use lib.ListN.{length, replicate}
 use Rattle.basics.specs.Tables.{listed, tabled}
 use Rattle.message.specs.declared.Message.{Message}
 use Rattle.message.specs.Layout.{wordsOf}
-use Rattle.channel.specs.Memory.{channels, capacity, perMessage, perChannel}
+use Rattle.register.specs.Settings.{capacity}
+use Rattle.channel.specs.Memory.{channels, perMessage, perChannel}
 
 -- no channel holds more messages than it has slots
 abbrev pub Fitting : (ℕ → List Message) → Type 0

@@ -4,7 +4,7 @@
 -- message first. A message in a slot is its two words. What the numbers mean is said in `Layout`; here is
 -- what each operation does to any list of numbers.
 --
--- In order: sizes; parts of a channel; numbers written; put, oldest, take and clear.
+-- In order: sizes; parts of a channel; numbers written; put, oldest, remove and clear.
 -- Assumes nothing.
 use Prim.Native.Nat.{ℕ, zero, suc, _+_, _-_, _*_, _%_, _^_}
 use mathlib.Core.Bool.{cond}
@@ -12,25 +12,15 @@ use mathlib.Core.List.{List}
 use lib.Dec.{eqb, ltb}
 use lib.ListN.{getD, set}
 use Rattle.message.specs.declared.Words.{Words}
-
--- servers and clients that there are places for
-abbrev pub servers : ℕ
-servers = 13
-
-abbrev pub clients : ℕ
-clients = 6
+use Rattle.register.specs.Settings.{mostServers, mostClients, capacity}
 
 -- channels from clients to servers
 abbrev pub upward : ℕ
-upward = clients * servers
+upward = mostClients * mostServers
 
 -- all channels: as many go back
 abbrev pub channels : ℕ
 channels = 2 * upward
-
--- messages that a channel holds at most
-abbrev pub capacity : ℕ
-capacity = 8
 
 -- numbers of a message
 abbrev pub perMessage : ℕ
@@ -60,10 +50,10 @@ slot i j = slotsStart i + j * perMessage
 abbrev pub countAt : List ℕ → ℕ → ℕ
 countAt slots i = getD slots i 0
 
--- n numbers from `at` on become v 0, v 1 and so on
+-- n numbers from `at` on become value 0, value 1 and so on
 unfoldable pub filled : List ℕ → ℕ → (ℕ → ℕ) → ℕ → List ℕ
-filled slots at v zero = slots
-filled slots at v (suc n) = set (filled slots at v n) (at + n) (v n)
+filled slots at value zero = slots
+filled slots at value (suc n) = set (filled slots at value n) (at + n) (value n)
 
 -- n numbers from `at` on become zero
 abbrev pub zeroed : List ℕ → ℕ → ℕ → List ℕ
@@ -89,8 +79,8 @@ unfoldable pub shifted : List ℕ → ℕ → List ℕ
 shifted slots at = filled slots at (λ j. getD slots (at + perMessage + j) 0) moved
 
 -- channel i without its oldest message: the rest moves down, and the slot that falls free is zeroed
-unfoldable pub taken : List ℕ → ℕ → List ℕ
-taken slots i =
+unfoldable pub removed : List ℕ → ℕ → List ℕ
+removed slots i =
     let held = countAt slots i in
     let rest = zeroed (shifted slots (slotsStart i)) (slot i (capacity - 1)) perMessage in
     cond (eqb held 0) slots (set rest i (held - 1))

@@ -8,7 +8,7 @@
 -- hold.
 -- Assumes nothing.
 use Prim.Native.Nat.{ℕ, _+_, _-_, _*_, _^_, _≤_, _<_}
-use mathlib.Core.Bool.{Bool, false, not, _&&_}
+use mathlib.Core.Bool.{Bool, _&&_}
 use mathlib.Core.List.{List, [], _∷_}
 use lib.Dec.{eqb, leb, ltb}
 use lib.ListN.{getD}
@@ -19,7 +19,9 @@ use Rattle.message.specs.declared.Message.the-variants.{Done}
 use Rattle.message.specs.declared.Unpacked.{Unpacked}
 use Rattle.message.specs.declared.Unpacked.the-variants.{Good, Refused}
 use Rattle.message.specs.Layout.{goes, messageOf}
-use Rattle.channel.specs.Memory.{upward, channels, capacity, perMessage, perChannel, slot, countAt}
+use Rattle.message.specs.Pair.{pairBits}
+use Rattle.register.specs.Settings.{capacity}
+use Rattle.channel.specs.Memory.{upward, channels, perMessage, perChannel, slot, countAt}
 
 -- n numbers from `at` on are zero
 abbrev pub zeroFrom : List ℕ → ℕ → ℕ → Bool
@@ -31,7 +33,7 @@ isDown i = leb upward i
 
 -- two numbers are the words of a message that goes that way
 abbrev pub wordsGo : Bool → ℕ → ℕ → Bool
-wordsGo down first second = ltb second (2 ^ 64) && goes down (messageOf (first * 2 ^ 64 + second))
+wordsGo down first second = ltb second (2 ^ pairBits) && goes down (messageOf (first * 2 ^ pairBits + second))
 
 -- the slot at `at` holds such words
 abbrev pub slotGoes : Bool → List ℕ → ℕ → Bool
@@ -39,7 +41,7 @@ slotGoes down slots at = wordsGo down (getD slots at 0) (getD slots (at + 1) 0)
 
 -- what the slot at `at` holds
 abbrev pub messageAt : List ℕ → ℕ → Unpacked
-messageAt slots at = messageOf (getD slots at 0 * 2 ^ 64 + getD slots (at + 1) 0)
+messageAt slots at = messageOf (getD slots at 0 * 2 ^ pairBits + getD slots (at + 1) 0)
 
 -- channel i: the count in range, what each used slot holds, the unused ones
 unfoldable pub channelTests : List ℕ → ℕ → List Bool
@@ -61,7 +63,7 @@ CountsFit slots = (i : ℕ) → i < channels → countAt slots i ≤ capacity
 -- the message of numbers; where they are none it does not matter which
 unfoldable pub messageIn : Unpacked → Message
 messageIn (Good message) = message
-messageIn (Refused r) = Done
+messageIn (Refused why) = Done
 
 -- what channel i holds, oldest first
 unfoldable pub messages : List ℕ → ℕ → List Message

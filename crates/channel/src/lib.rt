@@ -10,15 +10,15 @@ ghost use lib.ListN.{replicate};
 ghost use Rattle.basics.specs.Tests.{allPass, allBelow};
 ghost use Rattle.channel.specs.Sound.{channelTests, slotGoes, sound, wordsGo, zeroFrom};
 ghost use Rattle.channel.specs.Memory.{channels, perMessage, perChannel, slotsLength, countAt};
-ghost use Rattle.channel.specs.Memory.{cleared, oldestOn, putOn, shifted, taken, zeroed};
-use message::Message;
+ghost use Rattle.channel.specs.Memory.{cleared, oldestOn, putOn, shifted, removed, zeroed};
+use basics::OVER_32;
 use message::Unpacked;
 use message::Words;
 
 // Servers and clients that there are places for.
-pub const SERVERS: usize = 13;
+pub const SERVERS: usize = register::MOST_SERVERS as usize;
 
-pub const CLIENTS: usize = 6;
+pub const CLIENTS: usize = register::MOST_CLIENTS as usize;
 
 // Channels from clients to servers, which stand before those back.
 pub const UPWARD: usize = CLIENTS * SERVERS;
@@ -27,7 +27,7 @@ pub const UPWARD: usize = CLIENTS * SERVERS;
 const CHANNELS: usize = 2 * UPWARD;
 
 // Messages that a channel holds at most.
-pub const CAPACITY: u64 = 8;
+pub const CAPACITY: u64 = register::CAPACITY as u64;
 
 // Numbers of a message, and of a channel's slots.
 const PER_MESSAGE: usize = 2;
@@ -42,9 +42,6 @@ pub const SLOTS_LENGTH: usize = CHANNELS + CHANNELS * PER_CHANNEL;
 
 // The memory of all channels.
 pub type Slots = [u64; SLOTS_LENGTH];
-
-// The numbers that a word of 32 bits holds.
-const WORD: u64 = 1 << 32;
 
 // No message anywhere, and every slot zero.
 pub fn empty_slots() -> Slots
@@ -94,7 +91,7 @@ pub fn oldest(slots: &Slots, i: usize) -> Words
     ensures { λ r. ⌜ r ≡ oldestOn (now (slots .entry)) i ⌝ }
 {
     let at = CHANNELS + i * PER_CHANNEL;
-    Words((slots[at] % WORD) as u32, slots[at + 1])
+    Words((slots[at] % OVER_32) as u32, slots[at + 1])
 }
 
 // Each of the seven slots from `at` on gets what the next one held. One loop with no branch, so that it
@@ -112,9 +109,9 @@ fn shift(slots: &mut Slots, at: usize)
 }
 
 // Takes the oldest message off channel i: the rest moves down, and the slot that falls free is zeroed.
-pub fn take(slots: &mut Slots, i: usize)
+pub fn remove(slots: &mut Slots, i: usize)
     requires { ⌜ i < channels ⌝ }
-    ensures { λ r. ⌜ now (slots .exit) ≡ taken (now (slots .entry)) i ⌝ }
+    ensures { λ r. ⌜ now (slots .exit) ≡ removed (now (slots .entry)) i ⌝ }
 {
     let held = slots[i];
     if 0 < held {
@@ -156,7 +153,7 @@ fn zeros(slots: &Slots, at: usize, n: usize) -> bool
 fn words_go(first: u64, second: u64, down: bool) -> bool
     ensures { λ r. ⌜ r ≡ wordsGo down first second ⌝ }
 {
-    if WORD <= first {
+    if OVER_32 <= first {
         return false;
     }
     let Unpacked::Good(message) = message::of_words(Words(first as u32, second)) else {

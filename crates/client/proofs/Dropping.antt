@@ -7,44 +7,42 @@
 -- Assumes nothing.
 use Rattle.basics.proofs.Prelude.{_≡_, refl, ap, true, false, ℕ, ne-eqb}
 use Rattle.basics.proofs.Cases.{by-test}
-use Rattle.message.specs.declared.Message.{Message}
-use Rattle.message.specs.declared.Message.the-variants.{GetInfo, Info, Done, WriteInfo, Fwd, WriteAck}
-use Rattle.message.specs.declared.Pair.{Pair}
-use Rattle.message.specs.declared.ReadNumber.{ReadNumber}
-use Rattle.message.specs.declared.WriteCounter.{WriteCounter}
+use Rattle.register.proofs.Vocabulary.{Message, GetInfo, Info, Done, WriteInfo, Fwd, WriteAck, Pair}
+use Rattle.register.proofs.Vocabulary.{ReadNumber, WriteCounter, isIdle, isReading, isStoring, sendsNothing}
+use Rattle.register.proofs.Vocabulary.{usesInfo, clientTakes}
 use Rattle.register.specs.declared.Phase.{Phase}
 use Rattle.register.specs.Client as model
-use Rattle.register.specs.Client.{isIdle, isReading, isStoring, sendsNothing, usesInfo, clientTakes}
 use Rattle.client.specs.Taking.{isTaken}
 use Rattle.client.proofs.Starting.{idle-is}
 
-pub not-taken : (n f d : ℕ) (x : model.Client) (k : ℕ) (message : Message) → isTaken x k message ≡ false
-    → clientTakes n f d x k message ≡ sendsNothing x
+pub not-taken : (n f d : ℕ) (self : model.Client) (k : ℕ) (message : Message) → isTaken self k message ≡ false
+    → clientTakes n f d self k message ≡ sendsNothing self
 unfolding isTaken usesInfo clientTakes
-not-taken n f d x k (GetInfo t) e = refl
-not-taken n f d x k (Info t p) e = rw e
-not-taken n f d x k Done e = refl
-not-taken n f d x k (WriteInfo p) e = refl
-not-taken n f d x k (Fwd p) e = rw e
-not-taken n f d x k (WriteAck w) e = rw e
+not-taken n f d self k (GetInfo tag) e = refl
+not-taken n f d self k (Info tag pair) e = rw e
+not-taken n f d self k Done e = refl
+not-taken n f d self k (WriteInfo pair) e = refl
+not-taken n f d self k (Fwd pair) e = rw e
+not-taken n f d self k (WriteAck count) e = rw e
 
-pub idle-takes-none : (x : model.Client) (k : ℕ) (message : Message) → isIdle (x .phase) ≡ true
-    → isTaken x k message ≡ false
+pub idle-takes-none : (self : model.Client) (k : ℕ) (message : Message) → isIdle (self .phase) ≡ true
+    → isTaken self k message ≡ false
 unfolding isTaken usesInfo isReading isStoring
-idle-takes-none x k (GetInfo t) h = refl
-idle-takes-none x k (Info t p) h = rw (ap isReading (idle-is (x .phase) h))
-idle-takes-none x k Done h = refl
-idle-takes-none x k (WriteInfo p) h = refl
-idle-takes-none x k (Fwd p) h = ap isReading (idle-is (x .phase) h)
-idle-takes-none x k (WriteAck w) h = ap (λ (ph : Phase). isStoring ph w) (idle-is (x .phase) h)
+idle-takes-none self k (GetInfo tag) h = refl
+idle-takes-none self k (Info tag pair) h = rw (ap isReading (idle-is (self .phase) h))
+idle-takes-none self k Done h = refl
+idle-takes-none self k (WriteInfo pair) h = refl
+idle-takes-none self k (Fwd pair) h = ap isReading (idle-is (self .phase) h)
+idle-takes-none self k (WriteAck count) h =
+    ap (λ (phase : Phase). isStoring phase count) (idle-is (self .phase) h)
 
-pub other-read : (x : model.Client) (k : ℕ) (t : ReadNumber) (p : Pair) → (t .0 ≡ x .reads .0 → ⊥)
-    → isTaken x k (Info t p) ≡ false
+pub other-read : (self : model.Client) (k : ℕ) (tag : ReadNumber) (pair : Pair)
+    → (tag .0 ≡ self .reads .0 → ⊥) → isTaken self k (Info tag pair) ≡ false
 unfolding isTaken usesInfo
-other-read x k t p other =
-    by-test (isReading (x .phase)) (λ e. rw (e, ne-eqb (t .0) (x .reads .0) other)) (λ e. rw e)
+other-read self k tag pair other =
+    by-test (isReading (self .phase)) (λ e. rw (e, ne-eqb (tag .0) (self .reads .0) other)) (λ e. rw e)
 
-pub other-write : (x : model.Client) (k : ℕ) (w : WriteCounter) → isStoring (x .phase) w ≡ false
-    → isTaken x k (WriteAck w) ≡ false
+pub other-write : (self : model.Client) (k : ℕ) (count : WriteCounter) → isStoring (self .phase) count ≡ false
+    → isTaken self k (WriteAck count) ≡ false
 unfolding isTaken
-other-write x k w late = late
+other-write self k count late = late

@@ -1,78 +1,77 @@
 -- The tests of a sound client and its memory, as facts and made again from facts; and what code that tests in
 -- a row has found.
 -- Assumes nothing.
+use mathlib.Core.Bool.{and-true}
+use Rattle.register.proofs.Vocabulary.{allPass, Entry, WriteCounter, tagBits, counterBits, clientBits}
+use Rattle.register.proofs.Vocabulary.{entryBits, mostClients, mostFaulty, size, entryOf, isReading}
+use Rattle.register.proofs.Vocabulary.{isStoring}
+use Rattle.register.specs.declared.Phase.{Phase}
+use Rattle.register.specs.declared.Phase.the-variants.{Idle, Reading, ReadingForWrite, Storing}
 use Rattle.basics.proofs.Prelude.{_≡_, refl, sym, ap, _∙_, Bool, true, false, not, List, [], _∷_, ℕ, _^_, _≤_}
 use Rattle.basics.proofs.Prelude.{_<_, arith, leb, ltb, eqb-true, leb-true, le-leb, ltb-true, not-true}
 use Rattle.basics.proofs.Prelude.{not-false}
-use Rattle.basics.specs.Tests.{allPass}
 use Rattle.basics.proofs.Cases.{both, both-of, true-or-false}
 use Rattle.basics.proofs.Tests.{each, all-of}
 use Rattle.licence.specs.Entry.{isLicence, isLicensed, fieldsOf}
-use Rattle.message.specs.declared.Entry.{Entry}
-use Rattle.message.specs.declared.WriteCounter.{WriteCounter}
-use Rattle.register.specs.declared.Phase.{Phase}
-use Rattle.register.specs.declared.Phase.the-variants.{Idle, Reading, ReadingForWrite, Storing}
-use Rattle.register.specs.Settings.{mostClients}
-use Rattle.register.specs.Thresholds.{size}
-use Rattle.register.specs.Client.{entryOf, isReading, isStoring}
 use Rattle.replies.specs.Sound.{areSound}
-use Rattle.replies.proofs.Rising.{and-true}
 use Rattle.replies.proofs.Soundness.{Sound, facts, sound}
 use Rattle.client.specs.declared.Client.{Client}
-use Rattle.client.specs.Sound.{mostFaulty, isSoundPhase, stores, isSoundClient, isSound}
+use Rattle.client.specs.Sound.{isSoundPhase, stores, isSoundClient, isSound}
 
 -- a licence entry has forty bits
-pub licence-fits : (e : ℕ) → isLicence e ≡ true → e < 2 ^ 40
+pub licence-fits : (entry : ℕ) → isLicence entry ≡ true → entry < 2 ^ entryBits
 unfolding isLicence
-licence-fits e h = ltb-true e (2 ^ 40) (both (ltb e (2 ^ 40)) (isLicensed (fieldsOf e)) h .0)
+licence-fits entry h =
+    ltb-true entry (2 ^ entryBits) (both (ltb entry (2 ^ entryBits)) (isLicensed (fieldsOf entry)) h .0)
 
 -- the entry and the counter of a phase have their widths
-pub storing-fits : (ph : Phase) (w : WriteCounter) → isStoring ph w ≡ true → isSoundPhase ph ≡ true
-    → (entryOf ph .0 < 2 ^ 40) × (w .0 < 2 ^ 20)
+pub storing-fits : (phase : Phase) (count : WriteCounter) → isStoring phase count ≡ true
+    → isSoundPhase phase ≡ true → (entryOf phase .0 < 2 ^ entryBits) × (count .0 < 2 ^ counterBits)
 unfolding isStoring isSoundPhase entryOf
-storing-fits Idle w s h = absurd (true-or-false false s refl)
-storing-fits Reading w s h = absurd (true-or-false false s refl)
-storing-fits (ReadingForWrite e) w s h = absurd (true-or-false false s refl)
-storing-fits (Storing e v) w s h =
-    let t = both (isLicence (e .0)) (ltb (v .0) (2 ^ 20)) h in
-    let same = eqb-true (v .0) (w .0) s in
-    (licence-fits (e .0) (t .0), omega (arith, ltb-true (v .0) (2 ^ 20) (t .1)))
+storing-fits Idle count e h = absurd (true-or-false false e refl)
+storing-fits Reading count e h = absurd (true-or-false false e refl)
+storing-fits (ReadingForWrite entry) count e h = absurd (true-or-false false e refl)
+storing-fits (Storing entry own) count e h =
+    let parts = both (isLicence (entry .0)) (ltb (own .0) (2 ^ counterBits)) h in
+    let same = eqb-true (own .0) (count .0) e in
+    (licence-fits (entry .0) (parts .0), omega (arith, ltb-true (own .0) (2 ^ counterBits) (parts .1)))
 
-pub storing-is : (ph : Phase) (a : WriteCounter) → isStoring ph a ≡ true → stores ph ≡ true
+pub storing-is : (phase : Phase) (count : WriteCounter) → isStoring phase count ≡ true → stores phase ≡ true
 unfolding isStoring stores
-storing-is Idle a e = e
-storing-is Reading a e = e
-storing-is (ReadingForWrite v) a e = e
-storing-is (Storing v u) a e = refl
+storing-is Idle count e = e
+storing-is Reading count e = e
+storing-is (ReadingForWrite entry) count e = e
+storing-is (Storing entry own) count e = refl
 
 pub record ClientSound (client : Client) : Type 0 where
   pub low : 1 ≤ client .number
   pub high : client .number ≤ mostClients
   pub few : client .f ≤ mostFaulty
-  pub reads : client .reads .0 < 2 ^ 20
+  pub reads : client .reads .0 < 2 ^ tagBits
   pub phase : isSoundPhase (client .phase) ≡ true
 
 abbrev tests : Client → List Bool
 tests client =
     leb 1 (client .number) ∷ leb (client .number) mostClients ∷ leb (client .f) mostFaulty
-    ∷ ltb (client .reads .0) (2 ^ 20)
+    ∷ ltb (client .reads .0) (2 ^ tagBits)
     ∷ isSoundPhase (client .phase) ∷ []
 
 pub client-facts : (client : Client) → isSoundClient client ≡ true → ClientSound client
 unfolding isSoundClient
-client-facts client h = let t = each (tests client) h in search leb-true
+client-facts client h = let passed = each (tests client) h in search leb-true
 
 pub client-sound : (client : Client) → ClientSound client → isSoundClient client ≡ true
 unfolding isSoundClient
 client-sound client s = all-of (tests client) (search le-leb)
 
-pub client-number : (client : Client) → isSoundClient client ≡ true → client .number < 2 ^ 4
+pub client-number : (client : Client) → isSoundClient client ≡ true → client .number < 2 ^ clientBits
 client-number client h = let s = client-facts client h in omega arith
 
-pub writing-fits : (client : Client) (e : Entry) → client .phase ≡ ReadingForWrite e
-    → isSoundClient client ≡ true → e .0 < 2 ^ 40
+pub writing-fits : (client : Client) (entry : Entry) → client .phase ≡ ReadingForWrite entry
+    → isSoundClient client ≡ true → entry .0 < 2 ^ entryBits
 unfolding isSoundPhase
-writing-fits client e q h = licence-fits (e .0) (ap isSoundPhase (sym q) ∙ client-facts client h .phase)
+writing-fits client entry e h =
+    licence-fits (entry .0) (ap isSoundPhase (sym e) ∙ client-facts client h .phase)
 
 -- the client, and its memory in its phase
 abbrev pub MemorySound : Client → List ℕ → Type 0

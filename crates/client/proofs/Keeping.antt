@@ -8,22 +8,16 @@ use Rattle.basics.proofs.Prelude.{_≡_, refl, sym, ap, _∙_, subst, true, fal
 use Rattle.basics.proofs.Prelude.{_^_, _≤_, _<_, arith, eqb, ltb, eqb-false, ltb-true, lt-ltb}
 use Rattle.basics.proofs.Cases.{by-test, by-option, both, both-of, true-or-false}
 use Rattle.licence.specs.Entry.{isLicence}
-use Rattle.message.specs.declared.Message.{Message}
-use Rattle.message.specs.declared.Message.the-variants.{GetInfo, Info, Done, WriteInfo, Fwd, WriteAck}
-use Rattle.message.specs.declared.Pair.{Pair}
-use Rattle.message.specs.declared.ReadNumber.{ReadNumber}
-use Rattle.message.specs.declared.WriteCounter.{WriteCounter}
-use Rattle.message.specs.Pair.{counter}
-use Rattle.message.specs.Layout.{lastRead, lastCounter, wellFormed}
-use Rattle.message.proofs.Pairs as pairs
+use Rattle.register.proofs.Vocabulary.{Message, GetInfo, Info, Done, WriteInfo, Fwd, WriteAck, Pair}
+use Rattle.register.proofs.Vocabulary.{ReadNumber, WriteCounter, pairBits, counter, tagBits, counterBits}
+use Rattle.register.proofs.Vocabulary.{lastRead, lastCounter, wellFormed, size, counted, enough, isReading}
+use Rattle.register.proofs.Vocabulary.{isStoring, cleared, withPair, withInfo, withAck, chosen, concluded}
+use Rattle.register.proofs.Vocabulary.{afterChoice, acknowledged, usesInfo, clientTakes, started, nextRead}
 use Rattle.register.specs.declared.Phase.{Phase}
 use Rattle.register.specs.declared.Phase.the-variants.{Idle, Reading, ReadingForWrite, Storing}
-use Rattle.register.specs.Thresholds.{size, counted, enough}
+use Rattle.message.proofs.Pairs as pairs
 use Rattle.register.specs.Client as model
-use Rattle.register.specs.Client.{isReading, isStoring, cleared, withPair, withInfo, withAck, chosen}
-use Rattle.register.specs.Client.{concluded, afterChoice, acknowledged, usesInfo, clientTakes, started}
-use Rattle.register.specs.Client.{nextRead}
-use Rattle.replies.specs.Replies.{held, storeReplies, putAck, replyWords}
+use Rattle.replies.specs.Replies.{held, storeReplies, putAck, repliesLength}
 use Rattle.replies.proofs.Storing.{store-cleared}
 use Rattle.replies.proofs.Views.{empty-noted, empty-sets, empty-acks}
 use Rattle.client.specs.declared.Client.{Client}
@@ -41,24 +35,24 @@ use Rattle.client.proofs.Shown.{paired, informed, pair-view, info-view,
 use Rattle.client.proofs.Shown.{info-sound, ack-sound, empty-keeps}
 use Rattle.client.proofs.Taking.{takes-reading}
 
--- the model's client x, as the next state of c
-pub record Kept (client : Client) (x : model.Client) : Type 0 where
-  pub shows : view (storeClient (client .number) (client .f) x) (storeReplies x) ≡ x
-  pub sound : isSound (storeClient (client .number) (client .f) x) (storeReplies x) ≡ true
+-- the model's client, as the next state of a client
+pub record Kept (client : Client) (self : model.Client) : Type 0 where
+  pub shows : view (storeClient (client .number) (client .f) self) (storeReplies self) ≡ self
+  pub sound : isSound (storeClient (client .number) (client .f) self) (storeReplies self) ≡ true
 
--- x in its memory, where f servers may be faulty
-pub record KeptMemory (f : ℕ) (x : model.Client) : Type 0 where
-  pub shows : memory.view (store x) ≡ x
-  pub sound : isSoundMemory f (store x) ≡ true
+-- it in its memory, where f servers may be faulty
+pub record KeptMemory (f : ℕ) (self : model.Client) : Type 0 where
+  pub shows : memory.view (store self) ≡ self
+  pub sound : isSoundMemory f (store self) ≡ true
 
-pub kept-memory : (client : Client) (x : model.Client) → Kept client x → KeptMemory (client .f) x
-kept-memory client x k =
-    let next = storeClient (client .number) (client .f) x in
-    let s = client-facts next (of-client next (storeReplies x) (k .sound)) in
-    let small = s .reads in
+pub kept-memory : (client : Client) (self : model.Client) → Kept client self → KeptMemory (client .f) self
+kept-memory client self kept =
+    let next = storeClient (client .number) (client .f) self in
+    let facts = client-facts next (of-client next (storeReplies self) (kept .sound)) in
+    let small = facts .reads in
     record {
-      shows = view-store x (counter-fits (x .phase) (s .phase)) (omega arith) (k .shows);
-      sound = sound-whole next (storeReplies x) (k .sound);
+      shows = view-store self (counter-fits (self .phase) (facts .phase)) (omega arith) (kept .shows);
+      sound = sound-whole next (storeReplies self) (kept .sound);
     }
 
 pub kept-view : (client : Client) (replies : List ℕ) → isSound client replies ≡ true
@@ -69,64 +63,72 @@ kept-view client replies h =
       sound = ap (isSound client) (store-view client replies h) ∙ h;
     }
 
-pub empty-shows : (ph : Phase) (t : ReadNumber) → held ph t (replicate replyWords 0) ≡ cleared ph t
-empty-shows ph t =
-    λ q. record { phase = ph; reads = t; noted = empty-noted q; sets = empty-sets q; acks = empty-acks q }
+pub empty-shows : (phase : Phase) (reads : ReadNumber)
+    → held phase reads (replicate repliesLength 0) ≡ cleared phase reads
+empty-shows phase reads =
+    λ q. record {
+      phase = phase;
+      reads = reads;
+      noted = empty-noted q;
+      sets = empty-sets q;
+      acks = empty-acks q;
+    }
 
-pub kept-cleared : (client : Client) (ph : Phase) (t : ReadNumber)
-    → isSoundClient (storeClient (client .number) (client .f) (cleared ph t)) ≡ true
-    → Kept client (cleared ph t)
-kept-cleared client ph t h =
-    let next = storeClient (client .number) (client .f) (cleared ph t) in
+pub kept-cleared : (client : Client) (phase : Phase) (reads : ReadNumber)
+    → isSoundClient (storeClient (client .number) (client .f) (cleared phase reads)) ≡ true
+    → Kept client (cleared phase reads)
+kept-cleared client phase reads h =
+    let next = storeClient (client .number) (client .f) (cleared phase reads) in
     record {
-      shows = ap (view next) (store-cleared ph t) ∙ empty-shows ph t;
-      sound = ap (isSound next) (store-cleared ph t) ∙ empty-keeps next h;
+      shows = ap (view next) (store-cleared phase reads) ∙ empty-shows phase reads;
+      sound = ap (isSound next) (store-cleared phase reads) ∙ empty-keeps next h;
     }
 
 -- the same client in another sound phase
-in-phase : (client : Client) (ph : Phase) → isSoundClient client ≡ true → isSoundPhase ph ≡ true
-    → isSoundClient (inPhase client ph) ≡ true
-in-phase client ph h e =
-    let s = client-facts client h in
-    client-sound (inPhase client ph)
-    (record { low = s .low; high = s .high; few = s .few; reads = s .reads; phase = e })
+in-phase : (client : Client) (phase : Phase) → isSoundClient client ≡ true → isSoundPhase phase ≡ true
+    → isSoundClient (inPhase client phase) ≡ true
+in-phase client phase h e =
+    let facts = client-facts client h in
+    client-sound (inPhase client phase)
+    (record { low = facts .low; high = facts .high; few = facts .few; reads = facts .reads; phase = e })
 
 pub kept-idle : (client : Client) → isSoundClient client ≡ true → Kept client (cleared Idle (client .reads))
 unfolding isSoundPhase
 kept-idle client h = kept-cleared client Idle (client .reads) (in-phase client Idle h refl)
 
 -- a start
-pub kept-started : (client : Client) (replies : List ℕ) (ph : Phase) → isSoundClient client ≡ true
-    → client .reads .0 < lastRead → isSoundPhase ph ≡ true
-    → Kept client (started (view client replies) ph)
+pub kept-started : (client : Client) (replies : List ℕ) (phase : Phase) → isSoundClient client ≡ true
+    → client .reads .0 < lastRead → isSoundPhase phase ≡ true
+    → Kept client (started (view client replies) phase)
 unfolding started nextRead
-kept-started client replies ph h room e =
-    let s = client-facts client h in
+kept-started client replies phase h room e =
+    let facts = client-facts client h in
     let next : ReadNumber = record { 0 = client .reads .0 + 1 } in
-    kept-cleared client ph next
-    (client-sound (storeClient (client .number) (client .f) (cleared ph next))
-    (record { low = s .low; high = s .high; few = s .few; reads = omega arith; phase = e }))
+    kept-cleared client phase next
+    (client-sound (storeClient (client .number) (client .f) (cleared phase next))
+    (record { low = facts .low; high = facts .high; few = facts .few; reads = omega arith; phase = e }))
 
 -- ---- a chosen pair
 
-module _ (client : Client) (h : isSoundClient client ≡ true) (x : model.Client)
-    (same : x .reads ≡ client .reads) where
-  kept-concluded : (ph : Phase) (pair : Pair) → client .phase ≡ ph → isReading ph ≡ true → pair .0 < 2 ^ 64
-      → Kept client (concluded (size (client .f)) (client .f) (client .number) x ph pair .client)
+module _ (client : Client) (h : isSoundClient client ≡ true) (self : model.Client)
+    (same : self .reads ≡ client .reads) where
+  kept-concluded : (phase : Phase) (pair : Pair) → client .phase ≡ phase → isReading phase ≡ true
+      → pair .0 < 2 ^ pairBits
+      → Kept client (concluded (size (client .f)) (client .f) (client .number) self phase pair .client)
   unfolding concluded isReading isSoundPhase
   kept-concluded Idle pair e reading fits = absurd (true-or-false false reading refl)
   kept-concluded Reading pair e reading fits = rw same (kept-idle client h)
-  kept-concluded (ReadingForWrite w) pair e reading fits =
+  kept-concluded (ReadingForWrite entry) pair e reading fits =
       by-test (eqb (counter pair .0) lastCounter) (λ t. rw (t, same) (kept-idle client h))
       (λ t. rw (t, same)
       (let next : WriteCounter = record { 0 = counter pair .0 + 1 } in
-      let licence : isLicence (w .0) ≡ true = ap isSoundPhase (sym e) ∙ client-facts client h .phase in
+      let licence : isLicence (entry .0) ≡ true = ap isSoundPhase (sym e) ∙ client-facts client h .phase in
       let other = eqb-false (counter pair .0) lastCounter t in
-      let room : next .0 < 2 ^ 20 = omega (arith, pairs.counter-fits pair fits) in
-      kept-cleared client (Storing w next) (client .reads)
-      (in-phase client (Storing w next) h (both-of (isLicence (w .0)) (ltb (next .0) (2 ^ 20)) licence
-      (lt-ltb (next .0) (2 ^ 20) room)))))
-  kept-concluded (Storing w v) pair e reading fits = absurd (true-or-false false reading refl)
+      let room : next .0 < 2 ^ counterBits = omega (arith, pairs.counter-fits pair fits) in
+      kept-cleared client (Storing entry next) (client .reads) (in-phase client (Storing entry next) h
+      (both-of (isLicence (entry .0)) (ltb (next .0) (2 ^ counterBits)) licence
+      (lt-ltb (next .0) (2 ^ counterBits) room)))))
+  kept-concluded (Storing entry count) pair e reading fits = absurd (true-or-false false reading refl)
 
 kept-followed : (client : Client) (replies : List ℕ) → isSound client replies ≡ true
     → isReading (client .phase) ≡ true → SetsFit (view client replies)
@@ -142,55 +144,56 @@ kept-followed client replies h reading fit =
 -- ---- one message of a server
 
 module _ (client : Client) (replies : List ℕ) (k : ℕ) (h : isSound client replies ≡ true) (low : 1 ≤ k)
-    (high : k ≤ size (client .f)) (w : Words replies) where
+    (high : k ≤ size (client .f)) (words : Words replies) where
   abbrev next : model.Client → model.Client
-  next x = followed client x .client
+  next self = followed client self .client
 
-  -- once a pair is collected, in s
-  kept-pair : (x : model.Client) (s : List ℕ) → view client s ≡ x → isSound client s ≡ true
-      → isReading (client .phase) ≡ true → SetsFit x → Kept client (next x)
-  kept-pair x s e sound reading fit =
+  -- once a pair is collected
+  kept-pair : (self : model.Client) (left : List ℕ) → view client left ≡ self → isSound client left ≡ true
+      → isReading (client .phase) ≡ true → SetsFit self → Kept client (next self)
+  kept-pair self left e sound reading fit =
       subst (λ (y : model.Client). Kept client (next y)) e
-      (kept-followed client s sound reading (subst SetsFit (sym e) fit))
+      (kept-followed client left sound reading (subst SetsFit (sym e) fit))
 
-  kept-ack : (a : WriteCounter) → isStoring (client .phase) a ≡ true
+  kept-ack : (count : WriteCounter) → isStoring (client .phase) count ≡ true
       → Kept client (acknowledged (size (client .f)) (client .f) (client .number)
-      (withAck (view client replies) k) a .client)
+      (withAck (view client replies) k) count .client)
   unfolding acknowledged
-  kept-ack a storing =
-      let s = putAck replies (k - 1) in
-      subst (λ (x : model.Client). Kept client (acknowledged (size (client .f)) (client .f)
-      (client .number) x a .client))
+  kept-ack count storing =
+      let left = putAck replies (k - 1) in
+      subst (λ (self : model.Client). Kept client (acknowledged (size (client .f)) (client .f)
+      (client .number) self count .client))
       (ack-view client replies k h low high)
-      (by-test (enough (size (client .f)) (client .f) (counted (view client s .acks) (size (client .f))))
+      (by-test (enough (size (client .f)) (client .f) (counted (view client left .acks) (size (client .f))))
       (λ t. rw t (kept-idle client (of-client client replies h)))
-      (λ t. rw t (kept-view client s (ack-sound client replies k h low high
-      (storing-is (client .phase) a storing)))))
+      (λ t. rw t (kept-view client left (ack-sound client replies k h low high
+      (storing-is (client .phase) count storing)))))
 
   pub kept-taken : (message : Message) → wellFormed message ≡ true
       → Kept client (clientTakes (size (client .f)) (client .f) (client .number)
       (view client replies) k message .client)
   unfolding clientTakes usesInfo wellFormed
-  kept-taken (GetInfo t) f = kept-view client replies h
-  kept-taken (Info t pair) f =
-      let fits = ltb-true (pair .0) (2 ^ 64) (both (ltb (t .0) (2 ^ 20)) (ltb (pair .0) (2 ^ 64)) f .1) in
-      by-test (usesInfo 0 0 0 (view client replies) k t)
-      (λ e. let reading = takes-reading client replies k t e in
+  kept-taken (GetInfo tag) formed = kept-view client replies h
+  kept-taken (Info tag pair) formed =
+      let parts = both (ltb (tag .0) (2 ^ tagBits)) (ltb (pair .0) (2 ^ pairBits)) formed in
+      let fits = ltb-true (pair .0) (2 ^ pairBits) (parts .1) in
+      by-test (usesInfo (view client replies) k tag)
+      (λ e. let reading = takes-reading client replies k tag e in
       rw e (kept-pair (withInfo (view client replies) k pair) (informed replies (k - 1) pair)
       (info-view client replies k h low high pair)
       (info-sound client replies k h low high reading pair fits) reading
-      (info-fits (view client replies) k pair fits (shown-fit client replies w))))
+      (info-fits (view client replies) k pair fits (shown-fit client replies words))))
       (λ e. rw e (kept-view client replies h))
-  kept-taken Done f = kept-view client replies h
-  kept-taken (WriteInfo pair) f = kept-view client replies h
-  kept-taken (Fwd pair) f =
-      let fits = ltb-true (pair .0) (2 ^ 64) f in
+  kept-taken Done formed = kept-view client replies h
+  kept-taken (WriteInfo pair) formed = kept-view client replies h
+  kept-taken (Fwd pair) formed =
+      let fits = ltb-true (pair .0) (2 ^ pairBits) formed in
       by-test (isReading (client .phase))
       (λ e. rw e (kept-pair (withPair (view client replies) k pair) (paired replies (k - 1) pair)
       (pair-view client replies k h low high pair)
       (pair-sound client replies k h low high e pair) e (pair-fits (view client replies) k pair fits
-      (shown-fit client replies w))))
+      (shown-fit client replies words))))
       (λ e. rw e (kept-view client replies h))
-  kept-taken (WriteAck a) f =
-      by-test (isStoring (client .phase) a) (λ e. rw e (kept-ack a e))
+  kept-taken (WriteAck count) formed =
+      by-test (isStoring (client .phase) count) (λ e. rw e (kept-ack count e))
       (λ e. rw e (kept-view client replies h))

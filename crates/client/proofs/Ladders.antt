@@ -2,33 +2,26 @@
 -- applies; and what is so whether it refuses or not. What a ladder that refuses nothing says is in `refusal`.
 -- Assumes nothing.
 use Rattle.basics.proofs.Prelude.{_≡_, refl, sym, ap, _∙_, Bool, true, false, not, _&&_, List, Option, none}
-use Rattle.basics.proofs.Prelude.{some, length, ℕ, _≤_, _<_, leb, leb-true, leb-false}
+use Rattle.basics.proofs.Prelude.{some, length, ℕ, _≤_, _<_, leb, leb-true, leb-false, not-false}
 use Rattle.basics.proofs.Cases.{both}
-use Rattle.refusal.specs.declared.Refusal.{Refusal}
-use Rattle.licence.specs.Entry.{isLicence}
-use Rattle.message.specs.declared.Entry.{Entry}
-use Rattle.message.specs.declared.Message.{Message}
-use Rattle.message.specs.declared.Unpacked.{Unpacked}
-use Rattle.message.specs.declared.Unpacked.the-variants as unpacked
-use Rattle.message.specs.Layout.{unpackOf, lastRead}
-use Rattle.refusal.specs.Ladder.{Rung, lowest, rising}
-use Rattle.refusal.proofs.Ladders.{Climbs, climbs}
+use Rattle.register.proofs.Vocabulary.{Refusal, Rung, lowest, Entry, Message, Unpacked, unpackOf, lastRead}
+use Rattle.register.proofs.Vocabulary.{goes, goesDown, mostClients, size, isIdle}
 use Rattle.register.specs.declared.Answer.the-variants.{Refused}
 use Rattle.register.specs.declared.Phase.{Phase}
 use Rattle.register.specs.declared.Phase.the-variants.{ReadingForWrite}
-use Rattle.register.specs.Settings.{mostClients}
-use Rattle.register.specs.Thresholds.{size}
-use Rattle.register.specs.Client.{isIdle}
-use Rattle.register.specs.Steps.{isReply}
+use Rattle.refusal.specs.Ladder.{rising}
+use Rattle.refusal.proofs.Ladders.{none-applies, Climbs, climbs}
+use Rattle.licence.specs.Entry.{isLicence}
+use Rattle.message.specs.declared.Unpacked.the-variants as unpacked
+use Rattle.message.specs.Layout.{isReply}
 use Rattle.client.specs.declared.Client.{Client}
 use Rattle.client.specs.declared.Outcome.{Outcome}
 use Rattle.client.specs.declared.Sends.the-variants.{Nothing}
-use Rattle.client.specs.Memory.{words, phaseIn, readsIn, loaded}
+use Rattle.client.specs.Memory.{clientLength, phaseIn, readsIn, loaded}
 use Rattle.client.specs.Sound.{isSoundMemory}
 use Rattle.client.specs.Outcome.{After, after, startedOf, takenOf}
 use Rattle.client.specs.Entry.{refusedBy, decided, readRefusals, writeRefusals, takeRefusals}
-use Rattle.client.specs.Entry.{isClient, isServer, receivedAs, writeOf, takeOf}
-use Rattle.client.specs.Starting.{startRefusals, startOf}
+use Rattle.client.specs.Entry.{startRefusals, isClient, isServer, receivedAs, startOf, writeOf, takeOf}
 use Rattle.client.proofs.Facts.{holds, fails}
 use Rattle.client.proofs.Memory.{memory-facts}
 
@@ -37,9 +30,9 @@ use Rattle.client.proofs.Memory.{memory-facts}
 pub read-ladder-rises : (d f : ℕ) (memory : List ℕ) → rising 0 (readRefusals d f memory) ≡ true
 read-ladder-rises d f memory = refl
 
-pub write-ladder-rises : (d f : ℕ) (memory : List ℕ) (e : Entry)
-    → rising 0 (writeRefusals d f memory e) ≡ true
-write-ladder-rises d f memory e = refl
+pub write-ladder-rises : (d f : ℕ) (memory : List ℕ) (entry : Entry)
+    → rising 0 (writeRefusals d f memory entry) ≡ true
+write-ladder-rises d f memory entry = refl
 
 pub take-ladder-rises : (d f : ℕ) (memory : List ℕ) (k : ℕ) (bytes : List ℕ)
     → rising 0 (takeRefusals d f memory k bytes) ≡ true
@@ -48,13 +41,14 @@ take-ladder-rises d f memory k bytes = refl
 -- ---- refused or not
 
 -- a fact of a refusal and of what is otherwise done is a fact of the outcome
-pub either : (P : After → Type 0) (memory : List ℕ) (o : Option Refusal) (a : After)
-    → ((x : Refusal) → P (refusedBy memory x)) → (o ≡ none → P a) → P (decided memory o a)
-either P memory none a refused done = done refl
-either P memory (some x) a refused done = refused x
+pub either : (P : After → Type 0) (memory : List ℕ) (refusal : Option Refusal) (otherwise : After)
+    → ((why : Refusal) → P (refusedBy memory why)) → (refusal ≡ none → P otherwise)
+    → P (decided memory refusal otherwise)
+either P memory none otherwise refused done = done refl
+either P memory (some why) otherwise refused done = refused why
 
 pub by-take : (P : After → Type 0) (d f : ℕ) (memory : List ℕ) (k : ℕ) (bytes : List ℕ)
-    → ((x : Refusal) → P (refusedBy memory x))
+    → ((why : Refusal) → P (refusedBy memory why))
     → (lowest (takeRefusals d f memory k bytes) ≡ none → P (receivedAs d f memory k (unpackOf bytes)))
     → P (takeOf d f memory k bytes)
 unfolding takeOf
@@ -79,7 +73,7 @@ pub room : (b : Bool) (n : ℕ) → b ≡ leb lastRead n → b ≡ false → n <
 room b n e left = leb-false lastRead n (sym e ∙ left)
 
 module _ (f : ℕ) (memory : List ℕ) (b : Bool) (told : b ≡ isSoundMemory f memory) (left : not b ≡ false) where
-  pub long : length memory ≡ words
+  pub long : length memory ≡ clientLength
   long = memory-facts f memory (holds b (isSoundMemory f memory) told left) .long
 
   pub own-sound : (client : Client) (d : ℕ) → client ≡ loaded d f memory
@@ -88,54 +82,75 @@ module _ (f : ℕ) (memory : List ℕ) (b : Bool) (told : b ≡ isSoundMemory f 
       ∙ holds b (isSoundMemory f memory) told left
 
 abbrev refusal : Refusal → Outcome
-refusal x = record { sends = Nothing; answer = Refused x }
+refusal why = record { sends = Nothing; answer = Refused why }
 
 -- the refusal of the rung where the code stopped, or what is done at the top
-refused : (memory : List ℕ) (xs : List Rung) (a : After) (x : Refusal) (result : Outcome) → result ≡ refusal x
-    → Climbs xs (some x) → after result memory ≡ decided memory (lowest xs) a
-refused memory xs a x result e s =
-    ap (λ (y : Outcome). after y memory) e ∙ ap (λ (y : Option Refusal). decided memory y a) (climbs xs s)
+module _ (memory : List ℕ) (rungs : List Rung) (otherwise : After) where
+  refused : (why : Refusal) (result : Outcome) → result ≡ refusal why → Climbs rungs (some why)
+      → after result memory ≡ decided memory (lowest rungs) otherwise
+  refused why result e climb =
+      ap (λ (y : Outcome). after y memory) e
+      ∙ ap (λ (y : Option Refusal). decided memory y otherwise) (climbs rungs climb)
 
-done : (memory : List ℕ) (xs : List Rung) (a b : After) → b ≡ a → Climbs xs none
-    → b ≡ decided memory (lowest xs) a
-done memory xs a b e s = e ∙ ap (λ (y : Option Refusal). decided memory y a) (climbs xs s)
+  done : (given : After) → given ≡ otherwise → Climbs rungs none
+      → given ≡ decided memory (lowest rungs) otherwise
+  done given e climb = e ∙ ap (λ (y : Option Refusal). decided memory y otherwise) (climbs rungs climb)
 
-module _ (d f : ℕ) (memory : List ℕ) (ph : Phase) (licensed : Bool) where
-  pub start-refused : (x : Refusal) (result : Outcome) → result ≡ refusal x
-      → Climbs (startRefusals d f memory licensed) (some x)
-      → after result memory ≡ startOf d f memory ph licensed
+module _ (d f : ℕ) (memory : List ℕ) (phase : Phase) (licensed : Bool) where
+  pub start-refused : (why : Refusal) (result : Outcome) → result ≡ refusal why
+      → Climbs (startRefusals d f memory licensed) (some why)
+      → after result memory ≡ startOf d f memory phase licensed
   unfolding startOf
-  start-refused = refused memory (startRefusals d f memory licensed) (startedOf memory ph)
+  start-refused = refused memory (startRefusals d f memory licensed) (startedOf memory phase)
 
-  pub start-done : (b : After) → b ≡ startedOf memory ph → Climbs (startRefusals d f memory licensed) none
-      → b ≡ startOf d f memory ph licensed
+  pub start-done : (given : After) → given ≡ startedOf memory phase
+      → Climbs (startRefusals d f memory licensed) none → given ≡ startOf d f memory phase licensed
   unfolding startOf
-  start-done = done memory (startRefusals d f memory licensed) (startedOf memory ph)
+  start-done = done memory (startRefusals d f memory licensed) (startedOf memory phase)
+
+-- what a start that is not refused has passed
+pub record Passed (d : ℕ) (memory : List ℕ) (licensed : Bool) : Type 0 where
+  pub there : isClient d ≡ true
+  pub entry : licensed ≡ true
+  pub room : readsIn memory .0 < lastRead
+
+pub start-facts : (d f : ℕ) (memory : List ℕ) (licensed : Bool)
+    → lowest (startRefusals d f memory licensed) ≡ none → Passed d memory licensed
+start-facts d f memory licensed e =
+    let passed = none-applies (startRefusals d f memory licensed) e in
+    record {
+      there = not-false (isClient d) (passed .1 .0);
+      entry = not-false licensed (passed .1 .1 .1 .1 .0);
+      room = leb-false lastRead (readsIn memory .0) (passed .1 .1 .1 .1 .1 .0);
+    }
 
 -- a write is a start, whose entry was tested
-pub write-is : (d f : ℕ) (memory : List ℕ) (e : Entry) (licensed : Bool) (a : After)
-    → licensed ≡ isLicence (e .0) → a ≡ startOf d f memory (ReadingForWrite e) licensed
-    → a ≡ writeOf d f memory e
-unfolding startOf writeOf
-write-is d f memory e licensed a told is = is ∙ ap (startOf d f memory (ReadingForWrite e)) told
+pub write-is : (d f : ℕ) (memory : List ℕ) (entry : Entry) (licensed : Bool) (given : After)
+    → licensed ≡ isLicence (entry .0) → given ≡ startOf d f memory (ReadingForWrite entry) licensed
+    → given ≡ writeOf d f memory entry
+unfolding writeOf
+write-is d f memory entry licensed given told is = is ∙ ap (startOf d f memory (ReadingForWrite entry)) told
 
 -- bytes from a server: the rungs of processes and of replies
 module _ (b : Bool) (d f k : ℕ) (told : b ≡ isClient d) where
   pub no-client : not b ≡ true → not (isClient d && isServer f k) ≡ true
   no-client n = rw (fails b (isClient d) told n)
 
-  module _ (n : not b ≡ false) (a : Bool) (told-too : a ≡ isServer f k) where
-    pub server-rung : (u : Bool) → not a ≡ u → not (isClient d && isServer f k) ≡ u
+  module _ (n : not b ≡ false) (server : Bool) (told-too : server ≡ isServer f k) where
+    pub server-rung : (u : Bool) → not server ≡ u → not (isClient d && isServer f k) ≡ u
     server-rung u o = rw (holds b (isClient d) told n) (ap not (sym told-too) ∙ o)
 
-module _ (u : Unpacked) (bytes : List ℕ) (is : u ≡ unpackOf bytes) where
-  pub malformed-rung : (r : Refusal) → u ≡ unpacked.Refused r → not (isReply (unpackOf bytes)) ≡ true
-  unfolding isReply
-  malformed-rung r e = ap (λ (v : Unpacked). not (isReply v)) (sym is ∙ e)
+module _ (result : Unpacked) (bytes : List ℕ) (is : result ≡ unpackOf bytes) where
+  pub malformed-rung : (why : Refusal) → result ≡ unpacked.Refused why
+      → not (goesDown (unpackOf bytes)) ≡ true
+  unfolding goes
+  malformed-rung why e = ap (λ (v : Unpacked). not (goesDown v)) (sym is ∙ e)
 
-  pub reply-rung : (x : Message) (b t : Bool) → u ≡ unpacked.Good x → b ≡ isReply (unpacked.Good x)
-      → not b ≡ t → not (isReply (unpackOf bytes)) ≡ t
-  reply-rung x b t e told n = ap (λ (v : Unpacked). not (isReply v)) (sym is ∙ e) ∙ ap not (sym told) ∙ n
+  pub reply-rung : (message : Message) (b u : Bool) → result ≡ unpacked.Good message → b ≡ isReply message
+      → not b ≡ u → not (goesDown (unpackOf bytes)) ≡ u
+  unfolding goes
+  reply-rung message b u e told n =
+      ap (λ (v : Unpacked). not (goesDown v)) (sym is ∙ e) ∙ ap not (sym told) ∙ n
 
 -- the client and the server are in range
 module _ (d : ℕ) (b : Bool) (told : b ≡ isClient d) (n : not b ≡ false) where
@@ -153,22 +168,24 @@ module _ (f k : ℕ) (b : Bool) (told : b ≡ isServer f k) (n : not b ≡ false
   server-high = leb-true k (size f) (both (leb 1 k) (leb k (size f)) (holds b (isServer f k) told n) .1)
 
 -- what the bytes bring is taken
-pub received-as : (client : Client) (d f : ℕ) (memory : List ℕ) (k : ℕ) (u : Unpacked) (bytes : List ℕ)
-    (x : Message) (a : After) → client ≡ loaded d f memory → u ≡ unpackOf bytes → u ≡ unpacked.Good x
-    → a ≡ takenOf (client .number) (client .f) memory k x → a ≡ receivedAs d f memory k (unpackOf bytes)
-received-as client d f memory k u bytes x a e is eu step =
-    step ∙ ap (λ (y : Client). takenOf (y .number) (y .f) memory k x) e
-    ∙ ap (receivedAs d f memory k) (sym eu ∙ is)
+pub received-as : (client : Client) (d f : ℕ) (memory : List ℕ) (k : ℕ) (result : Unpacked) (bytes : List ℕ)
+    (message : Message) (given : After)
+    → client ≡ loaded d f memory → result ≡ unpackOf bytes → result ≡ unpacked.Good message
+    → given ≡ takenOf (client .number) (client .f) memory k message
+    → given ≡ receivedAs d f memory k (unpackOf bytes)
+received-as client d f memory k result bytes message given e is good step =
+    step ∙ ap (λ (y : Client). takenOf (y .number) (y .f) memory k message) e
+    ∙ ap (receivedAs d f memory k) (sym good ∙ is)
 
 module _ (d f : ℕ) (memory : List ℕ) (k : ℕ) (bytes : List ℕ) where
-  pub take-refused : (x : Refusal) (result : Outcome) → result ≡ refusal x
-      → Climbs (takeRefusals d f memory k bytes) (some x)
+  pub take-refused : (why : Refusal) (result : Outcome) → result ≡ refusal why
+      → Climbs (takeRefusals d f memory k bytes) (some why)
       → after result memory ≡ takeOf d f memory k bytes
   unfolding takeOf
   take-refused = refused memory (takeRefusals d f memory k bytes) (receivedAs d f memory k (unpackOf bytes))
 
-  pub take-done : (b : After) → b ≡ receivedAs d f memory k (unpackOf bytes)
+  pub take-done : (given : After) → given ≡ receivedAs d f memory k (unpackOf bytes)
       → Climbs (takeRefusals d f memory k bytes) none
-      → b ≡ takeOf d f memory k bytes
+      → given ≡ takeOf d f memory k bytes
   unfolding takeOf
   take-done = done memory (takeRefusals d f memory k bytes) (receivedAs d f memory k (unpackOf bytes))

@@ -14,24 +14,21 @@ use Rattle.basics.proofs.Prelude.{replicate, length-append, ℕ, _%_, _^_, _≤
 use Rattle.basics.proofs.Prelude.{eqb-true, eq-eqb, leb-true, le-leb}
 use lib.Seq.{drop-cons, sets-eq}
 use Rattle.basics.proofs.Tests.{each, all-of}
-use Rattle.message.specs.declared.ReadNumber.{ReadNumber}
-use Rattle.message.specs.declared.WriteCounter.{WriteCounter}
+use Rattle.register.proofs.Vocabulary.{ReadNumber, WriteCounter, tagBits, mostClients, mostFaulty, size}
+use Rattle.register.proofs.Vocabulary.{isReading, newClient, entryOf}
 use Rattle.register.specs.declared.Phase.{Phase}
 use Rattle.register.specs.declared.Phase.the-variants.{Idle}
-use Rattle.register.specs.Settings.{mostClients}
-use Rattle.register.specs.Thresholds.{size}
 use Rattle.register.specs.Client as model
-use Rattle.register.specs.Client.{isReading, newClient, entryOf}
 use Rattle.replies.specs.Replies.{held, storeReplies}
 use Rattle.replies.specs.Sound.{areSound}
 use Rattle.replies.proofs.Soundness.{facts, sound}
 use Rattle.replies.proofs.Stores.{row-length}
 use Rattle.replies.proofs.Storing.{store-held, store-cleared}
 use Rattle.client.specs.declared.Client.{Client}
-use Rattle.client.specs.Memory.{words, readsAt, phaseAt, entryAt, counterAt, repliesAt, phaseOf}
+use Rattle.client.specs.Memory.{clientLength, readsAt, phaseAt, entryAt, counterAt, repliesAt, phaseOf}
 use Rattle.client.specs.Memory.{codeOf, counterIn, phaseIn, readsIn, loaded, headOf, stored, view}
 use Rattle.client.specs.Memory.{store}
-use Rattle.client.specs.Sound.{mostFaulty, stores, isSoundHead, isSound, isSoundMemory}
+use Rattle.client.specs.Sound.{stores, isSoundHead, isSound, isSoundMemory}
 use Rattle.client.proofs.Facts.{client-facts, client-sound, of-client, of-memory, of-both}
 use Rattle.client.proofs.Facts.{Passes, passes}
 use Rattle.client.proofs.Heads.{Head, head-facts, head-sound, counter-fits, mod-small, phase-again}
@@ -39,32 +36,33 @@ use Rattle.client.proofs.Heads.{Head, head-facts, head-sound, counter-f
 -- ---- the head and the rest
 
 -- what `load` and `store` make, from what the calls answer
-pub loaded-by : (d f : ℕ) (memory : List ℕ) (w : WriteCounter) (ph : Phase) (t : ReadNumber)
-    → w ≡ record { 0 = getD memory counterAt 0 % 2 ^ 32 }
-    → ph ≡ phaseOf (getD memory phaseAt 0) (getD memory entryAt 0) (w .0)
-    → t ≡ readsIn memory → record { phase = ph; reads = t; number = d; f = f } ≡ loaded d f memory
-loaded-by d f memory w ph t ew ep et = rw (ep, ew, et)
+pub loaded-by : (d f : ℕ) (memory : List ℕ) (count : WriteCounter) (phase : Phase) (reads : ReadNumber)
+    → count ≡ record { 0 = getD memory counterAt 0 % 2 ^ 32 }
+    → phase ≡ phaseOf (getD memory phaseAt 0) (getD memory entryAt 0) (count .0) → reads ≡ readsIn memory
+    → record { phase = phase; reads = reads; number = d; f = f } ≡ loaded d f memory
+loaded-by d f memory count phase reads ec ep er = rw (ep, ec, er)
 
-pub stored-by : (memory : List ℕ) (client : Client) (t code e w : ℕ) → length memory ≡ words
-    → t ≡ client .reads .0
-    → code ≡ codeOf (client .phase) → e ≡ entryOf (client .phase) .0 → w ≡ counterIn (client .phase)
-    → set (set (set (set memory readsAt t) phaseAt code) entryAt e) counterAt w ≡ stored memory client
-stored-by memory client t code e w long et ec ee ew =
-    sets-eq (t ∷ code ∷ e ∷ w ∷ []) memory 0 (omega arith) ∙ rw (et, ec, ee, ew)
+pub stored-by : (memory : List ℕ) (client : Client) (reads code entry count : ℕ)
+    → length memory ≡ clientLength → reads ≡ client .reads .0 → code ≡ codeOf (client .phase)
+    → entry ≡ entryOf (client .phase) .0 → count ≡ counterIn (client .phase)
+    → set (set (set (set memory readsAt reads) phaseAt code) entryAt entry) counterAt count
+    ≡ stored memory client
+stored-by memory client reads code entry count long er ep ee ec =
+    sets-eq (reads ∷ code ∷ entry ∷ count ∷ []) memory readsAt (omega arith) ∙ rw (er, ep, ee, ec)
 
-pub head-rest : (memory : List ℕ) → length memory ≡ words
+pub head-rest : (memory : List ℕ) → length memory ≡ clientLength
     → getD memory readsAt 0 ∷ getD memory phaseAt 0 ∷ getD memory entryAt 0 ∷ getD memory counterAt 0
     ∷ drop repliesAt memory ≡ memory
 head-rest memory long =
-    rw (← drop-cons memory 3 0 (omega arith), ← drop-cons memory 2 0 (omega arith))
-    (rw (← drop-cons memory 1 0 (omega arith), ← drop-cons memory 0 0 (omega arith)))
+    rw (← drop-cons memory counterAt 0 (omega arith), ← drop-cons memory entryAt 0 (omega arith))
+    (rw (← drop-cons memory phaseAt 0 (omega arith), ← drop-cons memory readsAt 0 (omega arith)))
 
 -- ---- a sound memory
 
 pub record SoundMemory (f : ℕ) (memory : List ℕ) : Type 0 where
   pub few : f ≤ mostFaulty
-  pub long : length memory ≡ words
-  pub reads : getD memory readsAt 0 < 2 ^ 20
+  pub long : length memory ≡ clientLength
+  pub reads : getD memory readsAt 0 < 2 ^ tagBits
   pub head : Head (getD memory phaseAt 0) (getD memory entryAt 0) (getD memory counterAt 0)
   pub replies : areSound (size f) (isReading (phaseIn memory)) (stores (phaseIn memory))
       (drop repliesAt memory) ≡ true
@@ -72,15 +70,15 @@ pub record SoundMemory (f : ℕ) (memory : List ℕ) : Type 0 where
 abbrev tests : ℕ → List ℕ → List Bool
 tests f memory =
     leb f mostFaulty
-    ∷ eqb (length memory) words
-    ∷ ltb (getD memory readsAt 0) (2 ^ 20)
+    ∷ eqb (length memory) clientLength
+    ∷ ltb (getD memory readsAt 0) (2 ^ tagBits)
     ∷ isSoundHead (getD memory phaseAt 0) (getD memory entryAt 0) (getD memory counterAt 0)
     ∷ areSound (size f) (isReading (phaseIn memory)) (stores (phaseIn memory)) (drop repliesAt memory)
     ∷ []
 
 pub memory-facts : (f : ℕ) (memory : List ℕ) → isSoundMemory f memory ≡ true → SoundMemory f memory
 unfolding isSoundMemory
-memory-facts f memory h = let t = each (tests f memory) h in search (leb-true, eqb-true, head-facts)
+memory-facts f memory h = let passed = each (tests f memory) h in search (leb-true, eqb-true, head-facts)
 
 pub sound-by : (f : ℕ) (memory : List ℕ) {b : Bool} → Passes (tests f memory) b → b ≡ isSoundMemory f memory
 unfolding isSoundMemory
@@ -106,10 +104,10 @@ sound-whole client replies h =
     let memory = headOf (client .phase) (client .reads) ++ replies in
     let s = client-facts client (of-client client replies h) in
     let o = of-memory client replies h in
-    let long : length memory ≡ words = omega (arith, o .long) in
+    let long : length memory ≡ clientLength = omega (arith, o .long) in
     let replies : areSound (size (client .f)) (isReading (phaseIn memory))
     (stores (phaseIn memory)) replies ≡ true =
-    ap (λ (ph : Phase). areSound (size (client .f)) (isReading ph) (stores ph) replies)
+    ap (λ (phase : Phase). areSound (size (client .f)) (isReading phase) (stores phase) replies)
     (phase-again (client .phase) (counter-fits (client .phase) (s .phase)))
     ∙ sound (size (client .f)) (isReading (client .phase)) (stores (client .phase)) replies o in
     all-of (tests (client .f) memory) (search (le-leb, eq-eqb, head-sound))
@@ -117,15 +115,15 @@ sound-whole client replies h =
 -- ---- loading what was stored
 
 -- the memory shows the client again, where its replies do
-pub view-store : (x : model.Client) → counterIn (x .phase) < 2 ^ 32 → x .reads .0 < 2 ^ 32
-    → held (x .phase) (x .reads) (storeReplies x) ≡ x
-    → view (store x) ≡ x
-view-store x hw ht e = rw (phase-again (x .phase) hw, mod-small (x .reads .0) ht) e
+pub view-store : (self : model.Client) → counterIn (self .phase) < 2 ^ 32 → self .reads .0 < 2 ^ 32
+    → held (self .phase) (self .reads) (storeReplies self) ≡ self → view (store self) ≡ self
+view-store self count reads e = rw (phase-again (self .phase) count, mod-small (self .reads .0) reads) e
 
 pub load-stored : (client : Client) (memory : List ℕ) → counterIn (client .phase) < 2 ^ 32
     → client .reads .0 < 2 ^ 32
     → loaded (client .number) (client .f) (stored memory client) ≡ client
-load-stored client memory hw ht = rw (phase-again (client .phase) hw, mod-small (client .reads .0) ht)
+load-stored client memory count reads =
+    rw (phase-again (client .phase) count, mod-small (client .reads .0) reads)
 
 -- ---- storing what was loaded
 
@@ -139,21 +137,21 @@ module _ (f : ℕ) (memory : List ℕ) (h : isSoundMemory f memory ≡ true) whe
 
   pub store-view : store (view memory) ≡ memory
   store-view =
-      let ph = phaseIn memory in
-      ap (λ (replies : List ℕ). headOf ph (readsIn memory) ++ replies)
-      (store-held (size f) (isReading ph) (stores ph) (drop repliesAt memory)
-      (facts (size f) (isReading ph) (stores ph) (drop repliesAt memory) (memory-facts f memory h .replies))
-      ph
+      let phase = phaseIn memory in
+      let rest = drop repliesAt memory in
+      ap (λ (replies : List ℕ). headOf phase (readsIn memory) ++ replies)
+      (store-held (size f) (isReading phase) (stores phase) rest
+      (facts (size f) (isReading phase) (stores phase) rest (memory-facts f memory h .replies)) phase
       (readsIn memory))
       ∙ store-load 0
 
 -- ---- every memory, and the first
 
-pub store-length : (x : model.Client) → length (store x) ≡ words
+pub store-length : (self : model.Client) → length (store self) ≡ clientLength
 unfolding storeReplies
-store-length x = simp (length-append, row-length)
+store-length self = simp (length-append, row-length)
 
-pub store-new : store newClient ≡ replicate words 0
+pub store-new : store newClient ≡ replicate clientLength 0
 unfolding codeOf entryOf counterIn
 store-new = ap (λ (replies : List ℕ). headOf Idle (record { 0 = 0 }) ++ replies)
     (store-cleared Idle (record { 0 = 0 }))

@@ -6,25 +6,21 @@ use Rattle.basics.proofs.Prelude.{replicate, ℕ, _+_, _^_, _<_, arith, eqb, eq
 use types.Run.{OneOf, miss}
 use denote.Enum.Declared.{tagOf}
 use Rattle.basics.proofs.Cases.{true-or-false}
-use Rattle.message.specs.declared.Entry.{Entry}
-use Rattle.message.specs.declared.Pair.{Pair}
-use Rattle.message.specs.declared.WriteCounter.{WriteCounter}
-use Rattle.message.specs.Layout.{lastCounter}
-use Rattle.message.specs.Pair.{counter, pairOf}
-use Rattle.message.proofs.Pairs.{counter-fits}
+use Rattle.register.proofs.Vocabulary.{Entry, Pair, WriteCounter, lastCounter, pairBits, counter, pairOf}
+use Rattle.register.proofs.Vocabulary.{size, Response, isReading, cleared, sendsNothing, counts, chosen}
+use Rattle.register.proofs.Vocabulary.{concluded, afterChoice}
 use Rattle.register.specs.declared.Answer.{Answer}
 use Rattle.register.specs.declared.Answer.the-variants.{Went, Read, Spent}
 use Rattle.register.specs.declared.Phase.{Phase}
 use Rattle.register.specs.declared.Phase.the-variants.{Idle, Reading, ReadingForWrite, Storing}
-use Rattle.register.proofs.Phase as P
-use Rattle.register.specs.Thresholds.{size}
+use Rattle.message.specs.Pair.{counterBits}
+use Rattle.message.proofs.Pairs.{counter-fits}
 use Rattle.register.specs.Client as model
-use Rattle.register.specs.Client.{Response, isReading, cleared, sendsNothing, notOld, valid, counts, chosen}
-use Rattle.register.specs.Client.{concluded}
-use Rattle.register.specs.Client.{afterChoice}
+use Rattle.register.specs.Client.{notOld, valid}
+use Rattle.register.proofs.Phase as P
 use Rattle.replies.specs.declared.Choice.{Choice}
 use Rattle.replies.specs.declared.Choice.the-variants as choice
-use Rattle.replies.specs.Replies.{storeReplies, choiceOf, replyWords}
+use Rattle.replies.specs.Replies.{storeReplies, choiceOf, repliesLength}
 use Rattle.replies.specs.Loops.{heldIn}
 use Rattle.replies.proofs.Storing.{store-held, store-cleared}
 use Rattle.client.specs.declared.Client.{Client}
@@ -48,44 +44,48 @@ store-view client replies h =
 abbrev pub kept : Client → Transition
 kept client = record { client = client; sends = Nothing; answer = Went }
 
-pub unchanged-is : (client : Client) (replies : List ℕ) (t : Transition) → isSound client replies ≡ true
-    → t ≡ kept client → after t replies ≡ stored client (sendsNothing (view client replies))
-unchanged-is client replies t h e = rw (e, store-view client replies h)
+pub unchanged-is : (client : Client) (replies : List ℕ) (step : Transition) → isSound client replies ≡ true
+    → step ≡ kept client → after step replies ≡ stored client (sendsNothing (view client replies))
+unchanged-is client replies step h e = rw (e, store-view client replies h)
 
 -- the replies are emptied
 abbrev empty : List ℕ
-empty = replicate replyWords 0
+empty = replicate repliesLength 0
 
-pub empties : (client : Client) (ph : Phase) (sends : Sends) (answer : Answer)
-    → after (record { client = inPhase client ph; sends = sends; answer = answer }) empty
+pub empties : (client : Client) (phase : Phase) (sends : Sends) (answer : Answer)
+    → after (record { client = inPhase client phase; sends = sends; answer = answer }) empty
     ≡ stored client
-    (record { client = cleared ph (client .reads); sends = messagesOf sends; answer = answer })
-empties client ph sends answer = rw (store-cleared ph (client .reads))
+    (record { client = cleared phase (client .reads); sends = messagesOf sends; answer = answer })
+empties client phase sends answer = rw (store-cleared phase (client .reads))
 
 -- ---- what a chosen pair leads to
 
 module _ (client : Client) (pair : Pair) where
   abbrev concludedIn : Phase → After
-  concludedIn ph = stored client (concluded (size (client .f)) (client .f) (client .number)
-      (view client empty) ph pair)
+  concludedIn phase = stored client (concluded (size (client .f)) (client .f) (client .number)
+      (view client empty) phase pair)
 
-  -- a read ends
-  ends-in : (ph : Phase) → isReading ph ≡ true → OneOf (0 ∷ 1 ∷ 3 ∷ []) (tagOf P.the-type ph)
-      → after (endsWith client Done (Read pair)) empty ≡ concludedIn ph
+  -- a read ends; the tags of the other phases than reading for a write
+  abbrev noWrite : List ℕ
+  noWrite = 0 ∷ 1 ∷ 3 ∷ []
+
+  ends-in : (phase : Phase) → isReading phase ≡ true → OneOf noWrite (tagOf P.the-type phase)
+      → after (endsWith client Done (Read pair)) empty ≡ concludedIn phase
   unfolding concluded isReading
   ends-in Idle reading other = absurd (true-or-false false reading refl)
   ends-in Reading reading other = empties client Idle Done (Read pair)
-  ends-in (ReadingForWrite e) reading other = absurd (miss (0 ∷ 1 ∷ 3 ∷ []) 2 tt other)
-  ends-in (Storing e w) reading other = absurd (true-or-false false reading refl)
+  ends-in (ReadingForWrite entry) reading other = absurd (miss noWrite 2 tt other)
+  ends-in (Storing entry count) reading other = absurd (true-or-false false reading refl)
 
-  pub read-ends : isReading (client .phase) ≡ true → OneOf (0 ∷ 1 ∷ 3 ∷ []) (tagOf P.the-type (client .phase))
-      → (t : Transition) → t ≡ endsWith client Done (Read pair) → after t empty ≡ concludedOf client pair
-  read-ends reading other t e =
+  pub read-ends : isReading (client .phase) ≡ true → OneOf noWrite (tagOf P.the-type (client .phase))
+      → (step : Transition) → step ≡ endsWith client Done (Read pair)
+      → after step empty ≡ concludedOf client pair
+  read-ends reading other step e =
       ap (λ (x : Transition). after x empty) e ∙ ends-in (client .phase) reading other
 
   -- a write has the counter after the chosen one, if there is one
-  module _ (e : Entry) (writes : client .phase ≡ ReadingForWrite e) (w : WriteCounter)
-      (counter-is : w ≡ counter pair) (b : Bool) (last-is : b ≡ eqb (w .0) lastCounter) where
+  module _ (entry : Entry) (writes : client .phase ≡ ReadingForWrite entry) (count : WriteCounter)
+      (counter-is : count ≡ counter pair) (b : Bool) (last-is : b ≡ eqb (count .0) lastCounter) where
     abbrev above : WriteCounter
     above = record { 0 = counter pair .0 + 1 }
 
@@ -97,8 +97,8 @@ module _ (client : Client) (pair : Pair) where
           answer = Spent;
         })
         (record {
-          client = cleared (Storing e above) (client .reads);
-          sends = messagesOf (DoneAndWrite (pairOf above (client .number) e));
+          client = cleared (Storing entry above) (client .reads);
+          sends = messagesOf (DoneAndWrite (pairOf above (client .number) entry));
           answer = Went;
         }))
 
@@ -108,78 +108,81 @@ module _ (client : Client) (pair : Pair) where
         ap writtenBy (sym eu ∙ last-is ∙ ap (λ (v : WriteCounter). eqb (v .0) lastCounter) counter-is)
         ∙ ap concludedIn (sym writes)
 
-    pub write-spent : b ≡ true → (t : Transition) → t ≡ endsWith client Done Spent
-        → after t empty ≡ concludedOf client pair
-    write-spent last t et = rw et (empties client Idle Done Spent ∙ written-is true last)
+    pub write-spent : b ≡ true → (step : Transition) → step ≡ endsWith client Done Spent
+        → after step empty ≡ concludedOf client pair
+    write-spent last step et = rw et (empties client Idle Done Spent ∙ written-is true last)
 
-    pub counter-room : b ≡ false → pair .0 < 2 ^ 64 → w .0 < lastCounter
+    pub counter-room : b ≡ false → pair .0 < 2 ^ pairBits → count .0 < lastCounter
     counter-room more fits =
-        let other = eqb-false (w .0) lastCounter (sym last-is ∙ more) in
+        let other = eqb-false (count .0) lastCounter (sym last-is ∙ more) in
         let same = ap (λ (v : WriteCounter). v .0) counter-is in
         omega (arith, counter-fits pair fits)
 
-    module _ (more : b ≡ false) (next : WriteCounter) (next-is : next ≡ record { 0 = w .0 + 1 }) where
-      pub next-fits : pair .0 < 2 ^ 64 → next .0 < 2 ^ 20
+    module _ (more : b ≡ false) (next : WriteCounter) (next-is : next ≡ record { 0 = count .0 + 1 }) where
+      pub next-fits : pair .0 < 2 ^ pairBits → next .0 < 2 ^ counterBits
       next-fits fits =
           let same = ap (λ (v : WriteCounter). v .0) next-is in omega (arith, counter-room more fits)
 
-      pub write-goes : (q : Pair) → q ≡ pairOf next (client .number) e → (x : Client)
-          → x ≡ inPhase client (Storing e next)
-          → after (record { client = x; sends = DoneAndWrite q; answer = Went }) empty
+      pub write-goes : (own : Pair) → own ≡ pairOf next (client .number) entry → (self : Client)
+          → self ≡ inPhase client (Storing entry next)
+          → after (record { client = self; sends = DoneAndWrite own; answer = Went }) empty
           ≡ concludedOf client pair
-      write-goes q eq x ex =
+      write-goes own eq self ex =
           let is : next ≡ above = next-is ∙ ap (λ (v : WriteCounter). record { 0 = v .0 + 1 }) counter-is in
           rw (ex, eq, is)
-          (empties client (Storing e above) (DoneAndWrite (pairOf above (client .number) e)) Went
+          (empties client (Storing entry above) (DoneAndWrite (pairOf above (client .number) entry)) Went
           ∙ written-is false more)
 
 -- ---- the choice
 
 -- what it leads to depends on the read number alone, while the client reads
-concluded-same : (n f d : ℕ) (x y : model.Client) (ph : Phase) (pair : Pair) → x .reads ≡ y .reads
-    → isReading ph ≡ true → concluded n f d x ph pair ≡ concluded n f d y ph pair
+concluded-same : (n f d : ℕ) (self other : model.Client) (phase : Phase) (pair : Pair)
+    → self .reads ≡ other .reads → isReading phase ≡ true
+    → concluded n f d self phase pair ≡ concluded n f d other phase pair
 unfolding concluded isReading
-concluded-same n f d x y Idle pair e h = absurd (true-or-false false h refl)
-concluded-same n f d x y Reading pair e h = rw e
-concluded-same n f d x y (ReadingForWrite w) pair e h = rw e
-concluded-same n f d x y (Storing w v) pair e h = absurd (true-or-false false h refl)
+concluded-same n f d self other Idle pair e h = absurd (true-or-false false h refl)
+concluded-same n f d self other Reading pair e h = rw e
+concluded-same n f d self other (ReadingForWrite entry) pair e h = rw e
+concluded-same n f d self other (Storing entry count) pair e h = absurd (true-or-false false h refl)
 
-module _ (client : Client) (replies : List ℕ) (o : Choice)
-    (choice-is : choiceOf o ≡ chosen (size (client .f)) (client .f) 0 (heldIn replies))
-    (t : Transition) where
+module _ (client : Client) (replies : List ℕ) (found : Choice)
+    (choice-is : choiceOf found ≡ chosen (size (client .f)) (client .f) 0 (heldIn replies))
+    (step : Transition) where
   abbrev chosenBy : Option Pair → After
-  chosenBy v = stored client
-      (afterChoice (size (client .f)) (client .f) (client .number) (view client replies) v)
+  chosenBy pick = stored client
+      (afterChoice (size (client .f)) (client .f) (client .number) (view client replies) pick)
 
   -- it depends on the replies alone
-  same-choice : (v : Choice) → o ≡ v → chosenBy (choiceOf v) ≡ chosenOf client replies
+  same-choice : (pick : Choice) → found ≡ pick → chosenBy (choiceOf pick) ≡ chosenOf client replies
   unfolding chosen counts notOld valid
-  same-choice v e = ap chosenBy (ap choiceOf (sym e) ∙ choice-is)
+  same-choice pick e = ap chosenBy (ap choiceOf (sym e) ∙ choice-is)
 
-  pub no-choice : isSound client replies ≡ true → o ≡ choice.Nothing → t ≡ kept client
-      → after t replies ≡ chosenOf client replies
+  pub no-choice : isSound client replies ≡ true → found ≡ choice.Nothing → step ≡ kept client
+      → after step replies ≡ chosenOf client replies
   unfolding afterChoice
-  no-choice h e et = unchanged-is client replies t h et ∙ same-choice choice.Nothing e
+  no-choice h e et = unchanged-is client replies step h et ∙ same-choice choice.Nothing e
 
-  pub choice-leads : (pair : Pair) → isReading (client .phase) ≡ true → o ≡ choice.Found pair → (l : List ℕ)
-      → l ≡ empty → after t empty ≡ concludedOf client pair → after t l ≡ chosenOf client replies
+  pub choice-leads : (pair : Pair) → isReading (client .phase) ≡ true → found ≡ choice.Found pair
+      → (left : List ℕ) → left ≡ empty → after step empty ≡ concludedOf client pair
+      → after step left ≡ chosenOf client replies
   unfolding afterChoice
-  choice-leads pair reading e l el et =
-      ap (after t) el ∙ et
-      ∙ ap (λ (v : Response). stored client v)
+  choice-leads pair reading e left el et =
+      ap (after step) el ∙ et ∙ ap (λ (response : Response). stored client response)
       (concluded-same (size (client .f)) (client .f) (client .number) (view client empty)
       (view client replies) (client .phase) pair refl reading)
       ∙ same-choice (choice.Found pair) e
 
 -- what is sent in each case
-module _ (client : Client) (replies : List ℕ) (o : Choice)
-    (choice-is : choiceOf o ≡ chosen (size (client .f)) (client .f) 0 (heldIn replies)) where
-  pub no-choice-sends : isSound client replies ≡ true → o ≡ choice.Nothing
+module _ (client : Client) (replies : List ℕ) (found : Choice)
+    (choice-is : choiceOf found ≡ chosen (size (client .f)) (client .f) 0 (heldIn replies)) where
+  pub no-choice-sends : isSound client replies ≡ true → found ≡ choice.Nothing
       → [] ≡ chosenOf client replies .sends
   no-choice-sends h e =
-      ap (λ (a : After). a .sends) (no-choice client replies o choice-is (kept client) h e refl)
+      ap (λ (a : After). a .sends) (no-choice client replies found choice-is (kept client) h e refl)
 
-  pub choice-sends : (t : Transition) (pair : Pair) → isReading (client .phase) ≡ true → o ≡ choice.Found pair
-      → after t empty ≡ concludedOf client pair → messagesOf (t .sends) ≡ chosenOf client replies .sends
-  choice-sends t pair reading e et =
-      ap (λ (a : After). a .sends) (choice-leads client replies o choice-is t pair reading e empty refl et)
+  pub choice-sends : (step : Transition) (pair : Pair) → isReading (client .phase) ≡ true
+      → found ≡ choice.Found pair → after step empty ≡ concludedOf client pair
+      → messagesOf (step .sends) ≡ chosenOf client replies .sends
+  choice-sends step pair reading e et =
+      ap (λ (a : After). a .sends)
+      (choice-leads client replies found choice-is step pair reading e empty refl et)

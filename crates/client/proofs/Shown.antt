@@ -3,14 +3,11 @@
 -- Assumes nothing.
 use Rattle.basics.proofs.Prelude.{_≡_, ap, _∙_, true, List, length, replicate, ℕ, suc, _-_, _^_, _≤_, _<_}
 use Rattle.basics.proofs.Prelude.{arith}
-use Rattle.message.specs.declared.Pair.{Pair}
-use Rattle.message.specs.Pair.{stamp}
+use Rattle.register.proofs.Vocabulary.{Pair, stampBits, pairBits, stamp, size, add, mostServers, mostFaulty}
+use Rattle.register.proofs.Vocabulary.{setLimit, isReading, withPair, withInfo, withAck}
+use Rattle.message.specs.Pair.{clientBits}
 use Rattle.message.proofs.Pairs.{stamp-fits}
-use Rattle.register.specs.Thresholds.{size}
-use Rattle.register.specs.PairSet.{add}
-use Rattle.register.specs.Settings.{mostServers}
-use Rattle.register.specs.Client.{setLimit, isReading, withPair, withInfo, withAck}
-use Rattle.replies.specs.Replies.{setIn, putNote, putAck, putSet, Padded, replyWords}
+use Rattle.replies.specs.Replies.{setIn, putNote, putAck, putSet, Padded, repliesLength}
 use Rattle.replies.proofs.Places.{size-most}
 use Rattle.replies.proofs.Soundness as soundness
 use Rattle.replies.proofs.Soundness.{set-sound, empty-sound, add-length, padded}
@@ -18,7 +15,7 @@ use Rattle.replies.proofs.Views.{note-length, note-noted, note-sets, note-acks,
 use Rattle.replies.proofs.Views.{ack-noted, ack-sets, ack-acks}
 use Rattle.client.specs.declared.Client.{Client}
 use Rattle.client.specs.State.{view}
-use Rattle.client.specs.Sound.{mostFaulty, stores, isSoundClient, isSound}
+use Rattle.client.specs.Sound.{stores, isSoundClient, isSound}
 use Rattle.client.proofs.Facts.{of-client, of-memory, of-both, client-facts, client-number}
 
 -- the memory with a pair added, and with its timestamp noted too
@@ -28,35 +25,41 @@ paired replies i pair = putSet replies i (add setLimit pair (setIn replies (suc 
 abbrev pub informed : List ℕ → ℕ → Pair → List ℕ
 informed replies i pair = paired (putNote replies i (stamp pair)) i pair
 
-module _ (client : Client) (replies : List ℕ) (i : ℕ) (long : length replies ≡ replyWords)
+module _ (client : Client) (replies : List ℕ) (i : ℕ) (long : length replies ≡ repliesLength)
     (ih : i < mostServers) where
-  small : (s : List ℕ) (pair : Pair) → length s ≡ replyWords
-      → length (add setLimit pair (setIn s (suc i))) ≤ setLimit
-  small s pair ls = add-length setLimit pair (setIn s (suc i)) (size-most s i ls ih)
+  small : (memory : List ℕ) (pair : Pair) → length memory ≡ repliesLength
+      → length (add setLimit pair (setIn memory (suc i))) ≤ setLimit
+  small memory pair lm = add-length setLimit pair (setIn memory (suc i)) (size-most memory i lm ih)
 
   pair-shown : (pair : Pair) → view client (paired replies i pair) ≡ withPair (view client replies)
       (suc i) pair
   unfolding withPair
   pair-shown pair =
-      let l = add setLimit pair (setIn replies (suc i)) in
+      let pairs = add setLimit pair (setIn replies (suc i)) in
       let few = small replies pair long in
       rw (
-        set-noted replies i l long ih few,
-        set-sets replies i l long ih few,
-        set-acks replies i l long ih few,
+        set-noted replies i pairs long ih few,
+        set-sets replies i pairs long ih few,
+        set-acks replies i pairs long ih few,
       )
 
   info-shown : (pair : Pair) → view client (informed replies i pair) ≡ withInfo (view client replies)
       (suc i) pair
   unfolding withInfo
   info-shown pair =
-      let t = stamp pair in
-      let s = putNote replies i t in
-      let ls = note-length replies i t long ih in
-      let l = add setLimit pair (setIn s (suc i)) in
-      let few = small s pair ls in
-      rw (set-noted s i l ls ih few, set-sets s i l ls ih few, set-acks s i l ls ih few)
-      (rw (note-noted replies i t long ih, note-sets replies i t long ih, note-acks replies i t long ih))
+      let noted = putNote replies i (stamp pair) in
+      let ln = note-length replies i (stamp pair) long ih in
+      let pairs = add setLimit pair (setIn noted (suc i)) in
+      let few = small noted pair ln in
+      rw (
+        set-noted noted i pairs ln ih few,
+        set-sets noted i pairs ln ih few,
+        set-acks noted i pairs ln ih few,
+      ) (rw (
+        note-noted replies i (stamp pair) long ih,
+        note-sets replies i (stamp pair) long ih,
+        note-acks replies i (stamp pair) long ih,
+      ))
 
   ack-shown : view client (putAck replies i) ≡ withAck (view client replies) (suc i)
   unfolding withAck
@@ -65,13 +68,13 @@ module _ (client : Client) (replies : List ℕ) (i : ℕ) (long : length replies
 -- ---- a sound state
 
 module _ (client : Client) (replies : List ℕ) (h : isSound client replies ≡ true) where
-  pub sound-long : length replies ≡ replyWords
+  pub sound-long : length replies ≡ repliesLength
   sound-long = of-memory client replies h .long
 
   pub sound-few : client .f ≤ mostFaulty
   sound-few = client-facts client (of-client client replies h) .few
 
-  pub sound-number : client .number < 2 ^ 4
+  pub sound-number : client .number < 2 ^ clientBits
   sound-number = client-number client (of-client client replies h)
 
   pub padded-at : (i : ℕ) → i < mostServers → Padded replies i
@@ -116,12 +119,12 @@ module _ (client : Client) (replies : List ℕ) (k : ℕ) (h : isSound client re
       (rw reading (set-sound (size (client .f)) replies (k - 1) inside place (stores (client .phase)) pair
       (rw reading at (of-memory client replies h))))
 
-  pub note-sound : isReading (client .phase) ≡ true → (t : ℕ) → t < 2 ^ 24
-      → isSound client (putNote replies (k - 1) t) ≡ true
-  note-sound reading t fits =
-      of-both client (putNote replies (k - 1) t) (of-client client replies h)
+  pub note-sound : isReading (client .phase) ≡ true → (noted : ℕ) → noted < 2 ^ stampBits
+      → isSound client (putNote replies (k - 1) noted) ≡ true
+  note-sound reading noted fits =
+      of-both client (putNote replies (k - 1) noted) (of-client client replies h)
       (rw reading (soundness.note-sound (size (client .f)) replies (k - 1) inside place
-      (stores (client .phase)) t fits
+      (stores (client .phase)) noted fits
       (rw reading at (of-memory client replies h))))
 
   pub ack-sound : stores (client .phase) ≡ true → isSound client (putAck replies (k - 1)) ≡ true
@@ -133,14 +136,14 @@ module _ (client : Client) (replies : List ℕ) (k : ℕ) (h : isSound client re
 
 pub info-sound : (client : Client) (replies : List ℕ) (k : ℕ) → isSound client replies ≡ true → 1 ≤ k
     → k ≤ size (client .f)
-    → isReading (client .phase) ≡ true → (pair : Pair) → pair .0 < 2 ^ 64
+    → isReading (client .phase) ≡ true → (pair : Pair) → pair .0 < 2 ^ pairBits
     → isSound client (informed replies (k - 1) pair) ≡ true
 info-sound client replies k h low high reading pair fits =
     pair-sound client (putNote replies (k - 1) (stamp pair)) k
     (note-sound client replies k h low high reading (stamp pair) (stamp-fits pair fits)) low high reading pair
 
 pub empty-keeps : (client : Client) → isSoundClient client ≡ true
-    → isSound client (replicate replyWords 0) ≡ true
+    → isSound client (replicate repliesLength 0) ≡ true
 empty-keeps client h =
-    of-both client (replicate replyWords 0) h (empty-sound (size (client .f)) (isReading (client .phase))
+    of-both client (replicate repliesLength 0) h (empty-sound (size (client .f)) (isReading (client .phase))
     (stores (client .phase)))

@@ -2,13 +2,11 @@
 -- Assumes nothing.
 use Rattle.basics.proofs.Prelude.{_≡_, refl, sym, ap, _∙_, true, false, List, _++_, drop, replicate, ℕ, _+_}
 use Rattle.basics.proofs.Cases.{true-or-false}
-use Rattle.message.specs.declared.ReadNumber.{ReadNumber}
+use Rattle.register.proofs.Vocabulary.{ReadNumber, size, isIdle, isReading, nextRead, started}
 use Rattle.register.specs.declared.Answer.the-variants.{Went}
 use Rattle.register.specs.declared.Phase.{Phase}
 use Rattle.register.specs.declared.Phase.the-variants.{Idle, Reading, ReadingForWrite, Storing}
-use Rattle.register.specs.Thresholds.{size}
-use Rattle.register.specs.Client.{isIdle, isReading, nextRead, started}
-use Rattle.replies.specs.Replies.{replyWords}
+use Rattle.replies.specs.Replies.{repliesLength}
 use Rattle.replies.proofs.Soundness.{facts}
 use Rattle.replies.proofs.Storing.{store-cleared}
 use Rattle.replies.proofs.Unused.{unused-empty}
@@ -19,15 +17,15 @@ use Rattle.client.specs.Sound.{stores, isSoundMemory}
 use Rattle.client.specs.Outcome.{after, startedOf}
 use Rattle.client.proofs.Memory.{memory-facts}
 
-pub idle-is : (ph : Phase) → isIdle ph ≡ true → ph ≡ Idle
+pub idle-is : (phase : Phase) → isIdle phase ≡ true → phase ≡ Idle
 unfolding isIdle
 idle-is Idle h = refl
 idle-is Reading h = absurd (true-or-false false h refl)
-idle-is (ReadingForWrite e) h = absurd (true-or-false false h refl)
-idle-is (Storing e w) h = absurd (true-or-false false h refl)
+idle-is (ReadingForWrite entry) h = absurd (true-or-false false h refl)
+idle-is (Storing entry count) h = absurd (true-or-false false h refl)
 
 pub idle-empty : (f : ℕ) (memory : List ℕ) → isSoundMemory f memory ≡ true → isIdle (phaseIn memory) ≡ true
-    → drop repliesAt memory ≡ replicate replyWords 0
+    → drop repliesAt memory ≡ replicate repliesLength 0
 unfolding isReading stores
 idle-empty f memory h idle =
     unused-empty (size f) (drop repliesAt memory)
@@ -35,26 +33,26 @@ idle-empty f memory h idle =
     (rw (idle-is (phaseIn memory) idle) at (memory-facts f memory h .replies)))
 
 -- what a start stores is the memory of the client that has started
-started-is : (f : ℕ) (memory : List ℕ) (ph : Phase) → isSoundMemory f memory ≡ true
+started-is : (f : ℕ) (memory : List ℕ) (phase : Phase) → isSoundMemory f memory ≡ true
     → isIdle (phaseIn memory) ≡ true
-    → headOf ph (nextRead (view memory)) ++ drop repliesAt memory ≡ store (started (view memory) ph)
+    → headOf phase (nextRead (view memory)) ++ drop repliesAt memory ≡ store (started (view memory) phase)
 unfolding started
-started-is f memory ph h idle =
-    ap (λ (r : List ℕ). headOf ph (nextRead (view memory)) ++ r)
-    (idle-empty f memory h idle ∙ sym (store-cleared ph (nextRead (view memory))))
+started-is f memory phase h idle =
+    ap (λ (replies : List ℕ). headOf phase (nextRead (view memory)) ++ replies)
+    (idle-empty f memory h idle ∙ sym (store-cleared phase (nextRead (view memory))))
 
 -- so that is the outcome of a start
-pub starts : (client : Client) (ph : Phase) (memory l : List ℕ) (t : ReadNumber)
+pub starts : (client : Client) (phase : Phase) (memory left : List ℕ) (reads : ReadNumber)
     → client ≡ loaded (client .number) (client .f) memory
     → isSoundMemory (client .f) memory ≡ true → isIdle (client .phase) ≡ true
-    → t ≡ record { 0 = client .reads .0 + 1 }
-    → l ≡ headOf ph t ++ drop repliesAt memory
-    → after (record { sends = GetInfo t; answer = Went }) l ≡ startedOf memory ph
+    → reads ≡ record { 0 = client .reads .0 + 1 } → left ≡ headOf phase reads ++ drop repliesAt memory
+    → after (record { sends = GetInfo reads; answer = Went }) left ≡ startedOf memory phase
 unfolding nextRead
-starts client ph memory l t e h idle et el =
-    let next : t ≡ nextRead (view memory) = et ∙ ap (λ (x : Client). record { 0 = x .reads .0 + 1 }) e in
+starts client phase memory left reads e h idle er el =
+    let next : reads ≡ nextRead (view memory) =
+    er ∙ ap (λ (x : Client). record { 0 = x .reads .0 + 1 }) e in
     rw (el, next) (ap (λ (z : List ℕ). after (record {
       sends = GetInfo (nextRead (view memory));
       answer = Went;
     }) z)
-    (started-is (client .f) memory ph h (ap (λ (x : Client). isIdle (x .phase)) (sym e) ∙ idle)))
+    (started-is (client .f) memory phase h (ap (λ (x : Client). isIdle (x .phase)) (sym e) ∙ idle)))

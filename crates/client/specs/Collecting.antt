@@ -20,29 +20,29 @@ use Rattle.client.specs.Sends.{After, stored, followed}
 -- ---- one message of server k
 
 module _ (client : Client) (replies : List ℕ) (k : ℕ) where
-  -- it is an INFO or a FWD that is taken (the number of servers, f and the client's number do not matter)
+  -- it is an INFO or a FWD that is taken
   unfoldable pub isCollected : Message → Bool
-  isCollected (GetInfo t) = false
-  isCollected (Info t pair) = usesInfo 0 0 0 (view client replies) k t
+  isCollected (GetInfo tag) = false
+  isCollected (Info tag pair) = usesInfo (view client replies) k tag
   isCollected Done = false
   isCollected (WriteInfo pair) = false
   isCollected (Fwd pair) = isReading (client .phase)
-  isCollected (WriteAck a) = false
+  isCollected (WriteAck count) = false
 
   -- what the client holds with it
   unfoldable pub withReply : Message → model.Client
-  withReply (GetInfo t) = view client replies
-  withReply (Info t pair) = withInfo (view client replies) k pair
+  withReply (GetInfo tag) = view client replies
+  withReply (Info tag pair) = withInfo (view client replies) k pair
   withReply Done = view client replies
   withReply (WriteInfo pair) = view client replies
   withReply (Fwd pair) = withPair (view client replies) k pair
-  withReply (WriteAck a) = view client replies
+  withReply (WriteAck count) = view client replies
 
-  -- the answer b, and the replies s after it
-  pub record Collected (message : Message) (b : Bool) (s : List ℕ) : Type 0 where
-    pub told : b ≡ isCollected message
-    pub shows : view client s ≡ cond (isCollected message) (withReply message) (view client replies)
-    pub sound : isSound client s ≡ true
+  -- the answer, and the replies after it
+  pub record Collected (message : Message) (yes : Bool) (next : List ℕ) : Type 0 where
+    pub told : yes ≡ isCollected message
+    pub shows : view client next ≡ cond (isCollected message) (withReply message) (view client replies)
+    pub sound : isSound client next ≡ true
 
   -- the outcome: a choice follows what is collected, and the rest is dropped
   abbrev pub receivedPairOf : Message → After

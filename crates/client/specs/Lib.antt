@@ -5,5 +5,4 @@ pub mod Sends
 pub mod Taking
 pub mod Outcome
 pub mod Entry
-pub mod Starting
 pub mod Collecting

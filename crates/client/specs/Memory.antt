@@ -16,7 +16,7 @@ use Rattle.register.specs.declared.Phase.{Phase}
 use Rattle.register.specs.declared.Phase.the-variants.{Idle, Reading, ReadingForWrite, Storing}
 use Rattle.register.specs.Client as model
 use Rattle.register.specs.Client.{entryOf}
-use Rattle.replies.specs.Replies.{held, storeReplies, replyWords}
+use Rattle.replies.specs.Replies.{held, storeReplies, repliesLength}
 use Rattle.client.specs.declared.Client.{Client}
 
 -- ---- the places
@@ -37,30 +37,44 @@ abbrev pub repliesAt : ℕ
 repliesAt = 4
 
 -- all of it
-abbrev pub words : ℕ
-words = repliesAt + replyWords
+abbrev pub clientLength : ℕ
+clientLength = repliesAt + repliesLength
 
 -- ---- a phase as numbers
 
--- 0 idle, 1 reading, 2 reading for a write, above that storing; with an entry and a counter where it has them
+-- the codes of the phases
+abbrev pub idleCode : ℕ
+idleCode = 0
+
+abbrev pub readingCode : ℕ
+readingCode = 1
+
+abbrev pub readingForWriteCode : ℕ
+readingForWriteCode = 2
+
+abbrev pub storingCode : ℕ
+storingCode = 3
+
+-- the phase of a code, with an entry and a counter where it has them; a code above the last stores too
 unfoldable pub phaseOf : ℕ → ℕ → ℕ → Phase
-phaseOf code e w =
-    cond (eqb code 0) Idle
-    (cond (eqb code 1) Reading
-    (cond (eqb code 2) (ReadingForWrite (record { 0 = e })) (Storing (record { 0 = e }) (record { 0 = w }))))
+phaseOf code entry count =
+    cond (eqb code idleCode) Idle
+    (cond (eqb code readingCode) Reading
+    (cond (eqb code readingForWriteCode) (ReadingForWrite (record { 0 = entry }))
+    (Storing (record { 0 = entry }) (record { 0 = count }))))
 
 unfoldable pub codeOf : Phase → ℕ
-codeOf Idle = 0
-codeOf Reading = 1
-codeOf (ReadingForWrite e) = 2
-codeOf (Storing e w) = 3
+codeOf Idle = idleCode
+codeOf Reading = readingCode
+codeOf (ReadingForWrite entry) = readingForWriteCode
+codeOf (Storing entry count) = storingCode
 
 -- the counter, zero unless it stores; the entry is the model's `entryOf`
 unfoldable pub counterIn : Phase → ℕ
 counterIn Idle = 0
 counterIn Reading = 0
-counterIn (ReadingForWrite e) = 0
-counterIn (Storing e w) = w .0
+counterIn (ReadingForWrite entry) = 0
+counterIn (Storing entry count) = count .0
 
 -- ---- the client of a step
 
@@ -77,7 +91,7 @@ loaded d f memory = record { number = d; f = f; phase = phaseIn memory; reads = 
 
 -- the four numbers before the replies
 abbrev pub headOf : Phase → ReadNumber → List ℕ
-headOf ph t = t .0 ∷ codeOf ph ∷ entryOf ph .0 ∷ counterIn ph ∷ []
+headOf phase reads = reads .0 ∷ codeOf phase ∷ entryOf phase .0 ∷ counterIn phase ∷ []
 
 -- a memory with the head of a client
 abbrev pub stored : List ℕ → Client → List ℕ
@@ -91,4 +105,4 @@ view memory = held (phaseIn memory) (readsIn memory) (drop repliesAt memory)
 
 -- the memory of what a model's client holds
 abbrev pub store : model.Client → List ℕ
-store x = headOf (x .phase) (x .reads) ++ storeReplies x
+store self = headOf (self .phase) (self .reads) ++ storeReplies self

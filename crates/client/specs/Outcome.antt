@@ -21,7 +21,7 @@ use Rattle.client.specs.Memory.{view, store}
 -- the messages that go on every channel, in order
 abbrev pub messagesOf : Sends → List Message
 messagesOf Nothing = []
-messagesOf (GetInfo t) = message.GetInfo t ∷ []
+messagesOf (GetInfo tag) = message.GetInfo tag ∷ []
 messagesOf Done = message.Done ∷ []
 messagesOf (DoneAndWrite pair) = message.Done ∷ message.WriteInfo pair ∷ []
 
@@ -37,18 +37,19 @@ after result memory = record { memory = memory; sends = messagesOf (result .send
 
 -- the outcome of the model's step
 abbrev pub leaves : Response → After
-leaves t = record { memory = store (t .client); sends = t .sends; answer = t .answer }
+leaves response =
+    record { memory = store (response .client); sends = response .sends; answer = response .answer }
 
 -- a start in a phase: GET_INFO with the next read number goes on every channel
 abbrev pub startedOf : List ℕ → Phase → After
-startedOf memory ph =
+startedOf memory phase =
     leaves (record {
-      client = started (view memory) ph;
+      client = started (view memory) phase;
       sends = message.GetInfo (nextRead (view memory))
           ∷ [];
       answer = Went;
     })
 
--- one message x of server k, for the client with number d, for f
+-- one message of server k, for the client with number d, for f
 abbrev pub takenOf : ℕ → ℕ → List ℕ → ℕ → Message → After
-takenOf d f memory k x = leaves (clientTakes (size f) f d (view memory) k x)
+takenOf d f memory k given = leaves (clientTakes (size f) f d (view memory) k given)

@@ -15,7 +15,7 @@ use Rattle.register.specs.declared.Phase.the-variants.{Idle}
 use Rattle.register.specs.Thresholds.{size}
 use Rattle.register.specs.Client as model
 use Rattle.register.specs.Client.{Response, chosen, concluded, afterChoice, clientTakes}
-use Rattle.replies.specs.Replies.{storeReplies, replyWords}
+use Rattle.replies.specs.Replies.{storeReplies, repliesLength}
 use Rattle.client.specs.declared.Client.{Client}
 use Rattle.client.specs.declared.Sends.{Sends}
 use Rattle.client.specs.declared.Transition.{Transition}
@@ -31,11 +31,11 @@ pub record After : Type 0 where
 
 -- a step, and the replies that it leaves
 abbrev pub after : Transition → List ℕ → After
-after t replies = record {
-  client = t .client;
+after transition replies = record {
+  client = transition .client;
   replies = replies;
-  sends = messagesOf (t .sends);
-  answer = t .answer;
+  sends = messagesOf (transition .sends);
+  answer = transition .answer;
 }
 
 -- the client ends its operation
@@ -44,24 +44,24 @@ endsWith client sends answer = record { client = inPhase client Idle; sends = se
 
 -- the outcome of the model's step, for a client with this number and f
 abbrev pub stored : Client → Response → After
-stored client t =
+stored client response =
     record {
-      client = storeClient (client .number) (client .f) (t .client);
-      replies = storeReplies (t .client);
-      sends = t .sends;
-      answer = t .answer;
+      client = storeClient (client .number) (client .f) (response .client);
+      replies = storeReplies (response .client);
+      sends = response .sends;
+      answer = response .answer;
     }
 
 -- what a chosen pair leads to, from empty replies
 abbrev pub concludedOf : Client → Pair → After
 concludedOf client pair =
     stored client (concluded (size (client .f)) (client .f) (client .number)
-    (view client (replicate replyWords 0)) (client .phase) pair)
+    (view client (replicate repliesLength 0)) (client .phase) pair)
 
 -- what follows from the choice, if there is one, for what the model's client holds
 abbrev pub followed : Client → model.Client → Response
-followed client x = afterChoice (size (client .f)) (client .f) (client .number) x
-    (chosen (size (client .f)) (client .f) (client .number) x)
+followed client self = afterChoice (size (client .f)) (client .f) (client .number) self
+    (chosen (size (client .f)) (client .f) (client .number) self)
 
 abbrev pub chosenOf : Client → List ℕ → After
 chosenOf client replies = stored client (followed client (view client replies))

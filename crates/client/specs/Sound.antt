@@ -10,32 +10,30 @@ use lib.Dec.{eqb, leb, ltb}
 use lib.ListN.{length, getD, drop}
 use Rattle.basics.specs.Tests.{allPass}
 use Rattle.licence.specs.Entry.{isLicence}
+use Rattle.message.specs.Layout.{tagBits, counterBits}
 use Rattle.register.specs.declared.Phase.{Phase}
 use Rattle.register.specs.declared.Phase.the-variants.{Idle, Reading, ReadingForWrite, Storing}
-use Rattle.register.specs.Settings.{mostClients}
+use Rattle.register.specs.Settings.{mostClients, mostFaulty}
 use Rattle.register.specs.Thresholds.{size}
 use Rattle.register.specs.Client.{isReading}
 use Rattle.replies.specs.Sound.{areSound}
 use Rattle.client.specs.declared.Client.{Client}
-use Rattle.client.specs.Memory.{readsAt, phaseAt, entryAt, counterAt, repliesAt, words, phaseIn}
-
--- f is at most 4 (01, 'Rehearsal')
-abbrev pub mostFaulty : ℕ
-mostFaulty = 4
+use Rattle.client.specs.Memory.{readsAt, phaseAt, entryAt, counterAt, repliesAt, clientLength}
+use Rattle.client.specs.Memory.{readingForWriteCode, storingCode, phaseIn}
 
 -- 'a phase's entry is a licence entry', and a counter has 20 bits
 unfoldable pub isSoundPhase : Phase → Bool
 isSoundPhase Idle = true
 isSoundPhase Reading = true
-isSoundPhase (ReadingForWrite e) = isLicence (e .0)
-isSoundPhase (Storing e w) = isLicence (e .0) && ltb (w .0) (2 ^ 20)
+isSoundPhase (ReadingForWrite entry) = isLicence (entry .0)
+isSoundPhase (Storing entry count) = isLicence (entry .0) && ltb (count .0) (2 ^ counterBits)
 
 -- storing, with whatever counter
 unfoldable pub stores : Phase → Bool
 stores Idle = false
 stores Reading = false
-stores (ReadingForWrite e) = false
-stores (Storing e w) = true
+stores (ReadingForWrite entry) = false
+stores (Storing entry count) = true
 
 -- the client: its number, f and its read number are in range
 unfoldable pub isSoundClient : Client → Bool
@@ -44,7 +42,7 @@ isSoundClient client =
     (leb 1 (client .number)
     ∷ leb (client .number) mostClients
     ∷ leb (client .f) mostFaulty
-    ∷ ltb (client .reads .0) (2 ^ 20)
+    ∷ ltb (client .reads .0) (2 ^ tagBits)
     ∷ isSoundPhase (client .phase)
     ∷ [])
 
@@ -57,15 +55,16 @@ isSound client replies = isSoundClient client && areSound (size (client .f)) (is
 
 -- the entry of a phase by its code: none before it writes, then a licence entry
 abbrev pub isSoundEntry : ℕ → ℕ → Bool
-isSoundEntry code e = cond (ltb code 2) (eqb e 0) (isLicence e)
+isSoundEntry code entry = cond (ltb code readingForWriteCode) (eqb entry 0) (isLicence entry)
 
 -- its counter: none unless it stores, then 20 bits
 abbrev pub isSoundCounter : ℕ → ℕ → Bool
-isSoundCounter code w = ltb w (cond (eqb code 3) (2 ^ 20) 1)
+isSoundCounter code count = ltb count (cond (eqb code storingCode) (2 ^ counterBits) 1)
 
 -- a phase's code, its entry and its counter
 unfoldable pub isSoundHead : ℕ → ℕ → ℕ → Bool
-isSoundHead code e w = allPass (leb code 3 ∷ isSoundEntry code e ∷ isSoundCounter code w ∷ [])
+isSoundHead code entry count =
+    allPass (leb code storingCode ∷ isSoundEntry code entry ∷ isSoundCounter code count ∷ [])
 
 -- the replies, in the phase that the memory has
 abbrev pub areSoundReplies : ℕ → List ℕ → Bool
@@ -77,8 +76,8 @@ unfoldable pub isSoundMemory : ℕ → List ℕ → Bool
 isSoundMemory f memory =
     allPass
     (leb f mostFaulty
-    ∷ eqb (length memory) words
-    ∷ ltb (getD memory readsAt 0) (2 ^ 20)
+    ∷ eqb (length memory) clientLength
+    ∷ ltb (getD memory readsAt 0) (2 ^ tagBits)
     ∷ isSoundHead (getD memory phaseAt 0) (getD memory entryAt 0) (getD memory counterAt 0)
     ∷ areSoundReplies f memory
     ∷ [])

@@ -21,8 +21,8 @@ view client replies = held (client .phase) (client .reads) replies
 -- the client, with a number and for f, of what the model's client holds; its replies are `storeReplies` of
 -- the same
 abbrev pub storeClient : ℕ → ℕ → model.Client → Client
-storeClient d f x = record { number = d; f = f; phase = x .phase; reads = x .reads }
+storeClient d f self = record { number = d; f = f; phase = self .phase; reads = self .reads }
 
 -- the client in another phase, at the same read number
 abbrev pub inPhase : Client → Phase → Client
-inPhase client ph = storeClient (client .number) (client .f) (cleared ph (client .reads))
+inPhase client phase = storeClient (client .number) (client .f) (cleared phase (client .reads))

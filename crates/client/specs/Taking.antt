@@ -9,11 +9,11 @@ use Rattle.register.specs.Client as model
 use Rattle.register.specs.Client.{isReading, isStoring, usesInfo}
 
 -- INFO of this read and of a server that is not noted, FWD while reading, WRITE_ACK of the counter that is
--- stored (the number of servers, f and the client's number do not matter)
+-- stored
 unfoldable pub isTaken : model.Client → ℕ → Message → Bool
-isTaken x k (GetInfo t) = false
-isTaken x k (Info t p) = usesInfo 0 0 0 x k t
-isTaken x k Done = false
-isTaken x k (WriteInfo p) = false
-isTaken x k (Fwd p) = isReading (x .phase)
-isTaken x k (WriteAck w) = isStoring (x .phase) w
+isTaken self k (GetInfo tag) = false
+isTaken self k (Info tag pair) = usesInfo self k tag
+isTaken self k Done = false
+isTaken self k (WriteInfo pair) = false
+isTaken self k (Fwd pair) = isReading (self .phase)
+isTaken self k (WriteAck count) = isStoring (self .phase) count

@@ -10,11 +10,10 @@ ghost use Rattle.message.specs.Layout.{lastRead};
 ghost use Rattle.register.specs.Settings.{mostClients, mostServers};
 ghost use Rattle.register.specs.Thresholds.{size};
 ghost use Rattle.register.specs.Client.{isIdle, isReading, isStoring, entryOf, usesInfo};
-ghost use Rattle.register.specs.Steps.{isReply};
-ghost use Rattle.replies.specs.Replies.{replyWords};
-ghost use Rattle.client.specs.State as inner;
+ghost use Rattle.replies.specs.Replies.{repliesLength};
+ghost use Rattle.client.specs.State as byValue;
 ghost use Rattle.client.specs.State.{inPhase};
-ghost use Rattle.client.specs.Memory.{words, phaseOf, codeOf, counterIn, loaded, stored, view};
+ghost use Rattle.client.specs.Memory.{clientLength, phaseOf, codeOf, counterIn, loaded, stored, view};
 ghost use Rattle.client.specs.Sound.{stores, isSoundClient, isSound};
 ghost use Rattle.client.specs.Sound.{isSoundEntry, isSoundCounter, isSoundHead, areSoundReplies};
 ghost use Rattle.client.specs.Sound.{isSoundMemory};
@@ -22,8 +21,7 @@ ghost use Rattle.client.specs.Outcome.{messagesOf};
 ghost use Rattle.client.specs.Sends.{after, endsWith, concludedOf, chosenOf, receivedOf};
 ghost use Rattle.client.specs.Taking.{isTaken};
 ghost use Rattle.client.specs.Outcome as outcome;
-ghost use Rattle.client.specs.Entry.{isClient, isServer, readOf, writeOf, takeOf};
-ghost use Rattle.client.specs.Starting.{startOf};
+ghost use Rattle.client.specs.Entry.{isClient, isServer, readOf, startOf, writeOf, takeOf};
 ghost use Rattle.client.specs.Collecting.{Collected, receivedPairOf};
 use message::Entry;
 use message::Message;
@@ -33,6 +31,8 @@ use message::Unpacked;
 use message::WriteCounter;
 use refusal::Refusal;
 use register::Answer;
+use register::MOST_CLIENTS;
+use register::MOST_FAULTY;
 use register::Phase;
 use replies::Choice;
 
@@ -48,16 +48,16 @@ const COUNTER: usize = 3;
 const REPLIES: usize = 4;
 
 // The numbers of the whole memory.
-pub const WORDS: usize = REPLIES + replies::WORDS;
+pub const LENGTH: usize = REPLIES + replies::LENGTH;
 
-// The first phase that has an entry, and the one that has a counter.
-const WRITES: u64 = 2;
+// The phase as a number: from READING_FOR_WRITE on it has an entry, and STORING has a counter too.
+const IDLE: u64 = 0;
 
-const STORES: u64 = 3;
+const READING: u64 = 1;
 
-const MOST_CLIENTS: u8 = 6;
+const READING_FOR_WRITE: u64 = 2;
 
-const MOST_FAULTY: u8 = 4;
+const STORING: u64 = 3;
 
 // A client by its number, for f faulty servers, as a step loads it. What the servers replied stays in memory.
 pub struct Client {
@@ -182,7 +182,7 @@ fn ends(client: Client, sends: Sends, answer: Answer) -> Transition
 // above the chosen one and its own number, or ends as SPENT.
 fn conclude(client: Client, pair: Pair) -> Transition
     requires { ⌜ (isSoundClient client ≡ true) × (isReading (client .phase) ≡ true) ⌝ }
-    ensures { λ step. ⌜ after step (replicate replyWords 0) ≡ concludedOf client pair ⌝ }
+    ensures { λ step. ⌜ after step (replicate repliesLength 0) ≡ concludedOf client pair ⌝ }
 {
     let phase = client.phase;
     let Phase::ReadingForWrite(entry) = phase else {
@@ -218,8 +218,8 @@ fn follow_choice(client: Client, replies: &mut [u64]) -> Transition
 
 // Whether an INFO with a tag is taken: while the client reads, of this read, and the first of its server.
 fn takes_info(client: Client, k: u8, tag: ReadNumber, replies: &[u64]) -> bool
-    requires { ⌜ (length (now replies) ≡ replyWords) × (1 ≤ k) × (k ≤ mostServers) ⌝ }
-    ensures { λ b. ⌜ b ≡ usesInfo 0 0 0 (inner.view client (now (replies .entry))) k tag ⌝ }
+    requires { ⌜ (length (now replies) ≡ repliesLength) × (1 ≤ k) × (k ≤ mostServers) ⌝ }
+    ensures { λ b. ⌜ b ≡ usesInfo (byValue.view client (now (replies .entry))) k tag ⌝ }
 {
     let phase = client.phase;
     if !is_reading(phase) {
@@ -337,13 +337,13 @@ fn foreseen(client: Client, k: u8, message: Message, replies: &mut [u64]) -> Sen
 fn phase_of(code: u64, entry: Entry, counter: WriteCounter) -> Phase
     ensures { λ phase. ⌜ phase ≡ phaseOf code (entry .0) (counter .0) ⌝ }
 {
-    if code == 0 {
+    if code == IDLE {
         return Phase::Idle;
     }
-    if code == 1 {
+    if code == READING {
         return Phase::Reading;
     }
-    if code == 2 {
+    if code == READING_FOR_WRITE {
         return Phase::ReadingForWrite(entry);
     }
     Phase::Storing(entry, counter)
@@ -351,7 +351,7 @@ fn phase_of(code: u64, entry: Entry, counter: WriteCounter) -> Phase
 
 // The client of a step, from its memory.
 pub fn load(memory: &[u64], number: u8, f: u8) -> Client
-    requires { ⌜ length (now memory) ≡ words ⌝ }
+    requires { ⌜ length (now memory) ≡ clientLength ⌝ }
     ensures { λ client. ⌜ client ≡ loaded number f (now (memory .entry)) ⌝ }
 {
     let counter = message::counter_from(memory[COUNTER]);
@@ -369,10 +369,10 @@ fn code_of(phase: Phase) -> u64
     ensures { λ n. ⌜ n ≡ codeOf phase ⌝ }
 {
     match phase {
-        Phase::Idle => 0,
-        Phase::Reading => 1,
-        Phase::ReadingForWrite(_) => 2,
-        Phase::Storing(_, _) => 3,
+        Phase::Idle => IDLE,
+        Phase::Reading => READING,
+        Phase::ReadingForWrite(_) => READING_FOR_WRITE,
+        Phase::Storing(_, _) => STORING,
     }
 }
 
@@ -387,7 +387,7 @@ fn counter_in(phase: Phase) -> u64
 
 // The head of a memory, from the client of a step. The replies stay.
 pub fn store(memory: &mut [u64], client: Client)
-    requires { ⌜ length (now memory) ≡ words ⌝ }
+    requires { ⌜ length (now memory) ≡ clientLength ⌝ }
     ensures { λ u. ⌜ now (memory .exit) ≡ stored (now (memory .entry)) client ⌝ }
 {
     let phase = client.phase;
@@ -399,7 +399,7 @@ pub fn store(memory: &mut [u64], client: Client)
 
 // Whether a client takes a message of server k. One that it does not take changes nothing.
 pub fn is_taken(client: Client, k: u8, message: Message, memory: &[u64]) -> bool
-    requires { ⌜ (length (now memory) ≡ words) × (1 ≤ k) × (k ≤ mostServers)
+    requires { ⌜ (length (now memory) ≡ clientLength) × (1 ≤ k) × (k ≤ mostServers)
         × (client ≡ loaded (client .number) (client .f) (now memory)) ⌝ }
     ensures { λ b. ⌜ b ≡ isTaken (view (now (memory .entry))) k message ⌝ }
 {
@@ -473,7 +473,7 @@ fn begin(client: Client, phase: Phase, memory: &mut [u64]) -> Outcome
 fn is_sound_entry(code: u64, entry: u64) -> bool
     ensures { λ b. ⌜ b ≡ isSoundEntry code entry ⌝ }
 {
-    if code < WRITES {
+    if code < READING_FOR_WRITE {
         return entry == 0;
     }
     licence::is_licence(entry)
@@ -482,7 +482,7 @@ fn is_sound_entry(code: u64, entry: u64) -> bool
 fn is_sound_counter(code: u64, counter: u64) -> bool
     ensures { λ b. ⌜ b ≡ isSoundCounter code counter ⌝ }
 {
-    if code == STORES {
+    if code == STORING {
         return message::fits_counter(counter);
     }
     counter < 1
@@ -491,7 +491,7 @@ fn is_sound_counter(code: u64, counter: u64) -> bool
 fn is_sound_head(code: u64, entry: u64, counter: u64) -> bool
     ensures { λ b. ⌜ b ≡ isSoundHead code entry counter ⌝ }
 {
-    if STORES < code {
+    if STORING < code {
         return false;
     }
     if !is_sound_entry(code, entry) {
@@ -501,7 +501,7 @@ fn is_sound_head(code: u64, entry: u64, counter: u64) -> bool
 }
 
 fn are_replies_sound(f: u8, memory: &[u64]) -> bool
-    requires { ⌜ length (now memory) ≡ words ⌝ }
+    requires { ⌜ length (now memory) ≡ clientLength ⌝ }
     ensures { λ b. ⌜ b ≡ areSoundReplies f (now (memory .entry)) ⌝ }
 {
     let client = load(memory, 1, f);
@@ -517,7 +517,7 @@ pub fn is_sound(f: u8, memory: &[u64]) -> bool
     if MOST_FAULTY < f {
         return false;
     }
-    if memory.len() != WORDS {
+    if memory.len() != LENGTH {
         return false;
     }
     if !message::fits_read(memory[READS]) {
@@ -600,22 +600,6 @@ pub fn write(number: u8, f: u8, entry: Entry, memory: &mut [u64]) -> Outcome
     start(number, f, Phase::ReadingForWrite(entry), licensed, memory)
 }
 
-// Whether a message is of a kind that a server sends.
-pub fn is_reply(unpacked: Message) -> bool
-    ensures { λ b. ⌜ b ≡ isReply (Unpacked.Good unpacked) ⌝ }
-{
-    if let Message::Info(_, _) = unpacked {
-        return true;
-    }
-    if let Message::Fwd(_) = unpacked {
-        return true;
-    }
-    let Message::WriteAck(_) = unpacked else {
-        return false;
-    };
-    true
-}
-
 // Client `number` takes bytes from server k.
 pub fn take(number: u8, f: u8, k: u8, bytes: &[u8], memory: &mut [u64]) -> Outcome
     ensures { λ result. ⌜ outcome.after result (now (memory .exit))
@@ -633,7 +617,7 @@ pub fn take(number: u8, f: u8, k: u8, bytes: &[u8], memory: &mut [u64]) -> Outco
     let Unpacked::Good(message) = message::unpack(bytes) else {
         return refuse(Refusal::Malformed);
     };
-    if !is_reply(message) {
+    if !message::is_reply(message) {
         return refuse(Refusal::Malformed);
     }
     let client = load(memory, number, f);

@@ -10,15 +10,14 @@ ghost use Prim.Native.Nat.{_+_, _<_, _≤_};
 mod print;
 
 use message::Entry;
+use message::MESSAGE_BYTES;
 use message::Message;
 use message::Pair;
 use print::print_answer;
 use print::print_reply;
 use print::print_requests;
 
-// The bytes of a message, and the messages that are kept of a client, with their bytes.
-const MESSAGE_BYTES: usize = 11;
-
+// The messages that are kept of a client, and their bytes.
 const MOST_SENT: usize = 10;
 
 const SENT_BYTES: usize = MOST_SENT * MESSAGE_BYTES;
@@ -26,9 +25,9 @@ const SENT_BYTES: usize = MOST_SENT * MESSAGE_BYTES;
 // The messages of two clients, and the memory of four servers and of two clients.
 const ALL_SENT: usize = 2 * SENT_BYTES;
 
-const SERVER_WORDS: usize = 4 * server::WORDS;
+const SERVERS_LENGTH: usize = 4 * server::LENGTH;
 
-const CLIENT_WORDS: usize = 2 * client::WORDS;
+const CLIENTS_LENGTH: usize = 2 * client::LENGTH;
 
 // 29 February 2024 and 29 February 2028, 40 copies, open.
 const FIRST: u64 = 0x7E_82E8_0141;
@@ -39,8 +38,8 @@ const SECOND: u64 = 0x7E_C2E8_0141;
 // are the same for every server. With f = 0 only the first server is there. Clients, servers and messages are
 // counted from 0.
 struct Group {
-    servers: [u64; SERVER_WORDS],
-    clients: [u64; CLIENT_WORDS],
+    servers: [u64; SERVERS_LENGTH],
+    clients: [u64; CLIENTS_LENGTH],
     sent: [u8; ALL_SENT],
     counts: [usize; 2],
     f: u8,
@@ -48,8 +47,8 @@ struct Group {
 
 // All memory is zero at setup.
 fn new_group(f: u8) -> Group {
-    let servers = [0u64; SERVER_WORDS];
-    let clients = [0u64; CLIENT_WORDS];
+    let servers = [0u64; SERVERS_LENGTH];
+    let clients = [0u64; CLIENTS_LENGTH];
     let sent = [0u8; ALL_SENT];
     let counts = [0usize; 2];
     Group {
@@ -104,7 +103,12 @@ fn send_all(group: Group, i: usize, sends: client::Sends) -> Group
 }
 
 // Client i after a step: what it sends, and then what it answers.
-fn stepped(group: Group, i: usize, clients: [u64; CLIENT_WORDS], outcome: client::Outcome) -> Group
+fn stepped(
+    group: Group,
+    i: usize,
+    clients: [u64; CLIENTS_LENGTH],
+    outcome: client::Outcome,
+) -> Group
     requires { ⌜ i < 2 ⌝ }
 {
     let sends = outcome.sends;
@@ -120,8 +124,12 @@ fn read(group: Group, i: usize) -> Group
     requires { ⌜ i < 2 ⌝ }
 {
     let mut clients = group.clients;
-    let at = i * client::WORDS;
-    let outcome = client::read((i + 1) as u8, group.f, &mut clients[at..at + client::WORDS]);
+    let at = i * client::LENGTH;
+    let outcome = client::read(
+        (i + 1) as u8,
+        group.f,
+        &mut clients[at..at + client::LENGTH],
+    );
     stepped(group, i, clients, outcome)
 }
 
@@ -129,12 +137,12 @@ fn write(group: Group, i: usize, entry: u64) -> Group
     requires { ⌜ i < 2 ⌝ }
 {
     let mut clients = group.clients;
-    let at = i * client::WORDS;
+    let at = i * client::LENGTH;
     let outcome = client::write(
         (i + 1) as u8,
         group.f,
         Entry(entry),
-        &mut clients[at..at + client::WORDS],
+        &mut clients[at..at + client::LENGTH],
     );
     stepped(group, i, clients, outcome)
 }
@@ -144,8 +152,8 @@ fn deliver(group: Group, i: usize, k: usize, bytes: [u8; MESSAGE_BYTES]) -> Grou
     requires { ⌜ (i < 2) × (k < 4) ⌝ }
 {
     let mut clients = group.clients;
-    let at = i * client::WORDS;
-    let part = &mut clients[at..at + client::WORDS];
+    let at = i * client::LENGTH;
+    let part = &mut clients[at..at + client::LENGTH];
     let outcome = client::take((i + 1) as u8, group.f, (k + 1) as u8, &bytes, part);
     stepped(group, i, clients, outcome)
 }
@@ -226,8 +234,8 @@ fn serve(group: Group, i: usize, j: usize, k: usize) -> Group
     let message_at = i * SENT_BYTES + j * MESSAGE_BYTES;
     let bytes = &sent[message_at..message_at + MESSAGE_BYTES];
     let mut servers = group.servers;
-    let at = k * server::WORDS;
-    let outcome = server::serve((i + 1) as u32, bytes, &mut servers[at..at + server::WORDS]);
+    let at = k * server::LENGTH;
+    let outcome = server::serve((i + 1) as u32, bytes, &mut servers[at..at + server::LENGTH]);
     let mut changed = group;
     changed.servers = servers;
     served(changed, i, k, outcome)

@@ -1,19 +1,11 @@
 // The lines: a message with its sender and receiver, and the outcome of a read or a write.
-ghost use mathlib.Core.Path.{_≡_};
-ghost use Prim.Native.Nat.{_<_};
-ghost use Rattle.exchange.specs.Digits.{hexDigit};
+use basics::hex_digit;
+use basics::wide;
 use message::Pair;
 use register::Answer;
 
-fn digit(value: u8) -> u8
-    requires { ⌜ value < 16 ⌝ }
-    ensures { λ r. ⌜ r ≡ hexDigit value ⌝ }
-{
-    if value < 10 { 48 + value } else { 55 + value }
-}
-
 fn print_byte(byte: u8) {
-    let text = [digit(byte / 16), digit(byte % 16)];
+    let text = [hex_digit(wide(byte) / 16), hex_digit(wide(byte) % 16)];
     io::write_all(1, &text);
 }
 

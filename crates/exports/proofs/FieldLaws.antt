@@ -5,29 +5,46 @@ use native.Mathlib.Nat.{mod-eq-of-lt}
 use lib.Bits.{bitOr, or-shifted}
 use lib.Dec.{lit≤}
 use lib.Pow.{shl-exact}
-use Rattle.message.specs.declared.Pair.{Pair}
-use Rattle.message.specs.Layout.{joined, messageOf, wordsNumber}
-use Rattle.message.specs.Pair.{pairOf}
+use Rattle.register.proofs.Vocabulary.{Pair, tagBits, counterBits, clientBits, entryBits, messageOf}
+use Rattle.register.proofs.Vocabulary.{wordsNumber, pairOf}
+use Rattle.message.specs.Layout.{kindBits, tagAt, joined}
 use Rattle.exports.specs.Fields.{messageBy}
 
-module _ (k t c d e : ℕ) (k′ : k < 16) (t′ : t < 2 ^ 20) where
-  module _ (c′ : c < 2 ^ 20) (d′ : d < 16) (e′ : e < 2 ^ 40) where
-    joined-is : joined k t c d e ≡ (k * 2 ^ 20 + t) * 2 ^ 64 + (c * 2 ^ 44 + d * 2 ^ 40 + e)
-    joined-is = rw (mod-eq-of-lt t′, mod-eq-of-lt c′, mod-eq-of-lt d′, mod-eq-of-lt e′) (omega arith)
-
-    fitting : messageBy k t c d e ≡ messageOf (joined k t c d e)
-    unfolding messageBy
-    fitting = rw (lt-ltb k _ k′, lt-ltb t _ t′, lt-ltb c _ c′, lt-ltb d _ d′, lt-ltb e _ e′)
-
-    words-are : (p : Pair) → p ≡ pairOf (record { 0 = c }) d (record { 0 = e })
-        → wordsNumber (record { 0 = bitOr (k * 2 ^ 20 % 2 ^ 32) t; 1 = p .0 })
-        ≡ (k * 2 ^ 20 + t) * 2 ^ 64 + (c * 2 ^ 44 + d * 2 ^ 40 + e)
+module _ (kind tag count d content : ℕ) (narrow-kind : kind < 2 ^ kindBits)
+    (narrow-tag : tag < 2 ^ tagBits) where
+  module _ (narrow-count : count < 2 ^ counterBits) (narrow-client : d < 2 ^ clientBits)
+      (narrow-entry : content < 2 ^ entryBits) where
+    joined-is : joined kind tag count d content
+        ≡ (kind * 2 ^ tagBits + tag) * 2 ^ tagAt + pairOf (record { 0 = count }) d (record { 0 = content }) .0
     unfolding pairOf
-    words-are p h =
-        rw (shl-exact 4 20 32 k′ (lit≤ tt), or-shifted k 20 t t′)
-        (ap (λ (q : Pair). (k * 2 ^ 20 + t) * 2 ^ 64 + q .0) h)
+    joined-is =
+        rw (
+          mod-eq-of-lt narrow-tag,
+          mod-eq-of-lt narrow-count,
+          mod-eq-of-lt narrow-client,
+          mod-eq-of-lt narrow-entry,
+        ) (omega arith)
 
-    pub words-message : (p : Pair) → p ≡ pairOf (record { 0 = c }) d (record { 0 = e })
-        → messageOf (wordsNumber (record { 0 = bitOr (k * 2 ^ 20 % 2 ^ 32) t; 1 = p .0 }))
-        ≡ messageBy k t c d e
-    words-message p h = ap messageOf (words-are p h ∙ sym joined-is) ∙ sym fitting
+    fitting : messageBy kind tag count d content ≡ messageOf (joined kind tag count d content)
+    unfolding messageBy
+    fitting =
+        rw (
+          lt-ltb kind _ narrow-kind,
+          lt-ltb tag _ narrow-tag,
+          lt-ltb count _ narrow-count,
+          lt-ltb d _ narrow-client,
+          lt-ltb content _ narrow-entry,
+        )
+
+    words-are : (pair : Pair) → pair ≡ pairOf (record { 0 = count }) d (record { 0 = content })
+        → wordsNumber (record { 0 = bitOr (kind * 2 ^ tagBits % 2 ^ 32) tag; 1 = pair .0 })
+        ≡ (kind * 2 ^ tagBits + tag) * 2 ^ tagAt + pairOf (record { 0 = count }) d (record { 0 = content }) .0
+    unfolding pairOf
+    words-are pair h =
+        rw (shl-exact kindBits tagBits 32 narrow-kind (lit≤ tt), or-shifted kind tagBits tag narrow-tag)
+        (ap (λ (other : Pair). (kind * 2 ^ tagBits + tag) * 2 ^ tagAt + other .0) h)
+
+    pub words-message : (pair : Pair) → pair ≡ pairOf (record { 0 = count }) d (record { 0 = content })
+        → messageOf (wordsNumber (record { 0 = bitOr (kind * 2 ^ tagBits % 2 ^ 32) tag; 1 = pair .0 }))
+        ≡ messageBy kind tag count d content
+    words-message pair h = ap messageOf (words-are pair h ∙ sym joined-is) ∙ sym fitting

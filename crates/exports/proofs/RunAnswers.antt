@@ -6,7 +6,8 @@ use Rattle.system.specs.declared.setup.Setup.the-variants.{Set, Refused}
 use Rattle.system.specs.Run.{Outcome}
 use Rattle.exports.specs.Runs.{answersOf}
 
-pub outcome-answers : (setup : Setup) (xs out s c b s′ c′ b′ out′ : List ℕ)
-    → Outcome setup xs out s c b s′ c′ b′ out′ → out′ ≡ answersOf setup xs out
-outcome-answers (Set t) xs out s c b s′ c′ b′ out′ h = h .0 .answers
-outcome-answers (Refused n) xs out s c b s′ c′ b′ out′ h = h .3
+pub outcome-answers : (setup : Setup) (steps out servers clients slots servers′ clients′ slots′ out′ : List ℕ)
+    → Outcome setup steps out servers clients slots servers′ clients′ slots′ out′
+    → out′ ≡ answersOf setup steps out
+outcome-answers (Set settings) steps out servers clients slots servers′ clients′ slots′ out′ h = h .0 .answers
+outcome-answers (Refused why) steps out servers clients slots servers′ clients′ slots′ out′ h = h .3

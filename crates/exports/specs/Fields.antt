@@ -25,50 +25,53 @@ use Rattle.message.specs.Pair.{counter, client, entry}
 -- ---- the message of five numbers: that of the number that they join to, if none is over its width
 
 abbrev pub widthTests : ℕ → ℕ → ℕ → ℕ → ℕ → List Bool
-widthTests k t c d e =
-    ltb k (2 ^ kindBits)
-    ∷ ltb t (2 ^ tagBits)
-    ∷ ltb c (2 ^ counterBits)
+widthTests kind tag count d content =
+    ltb kind (2 ^ kindBits)
+    ∷ ltb tag (2 ^ tagBits)
+    ∷ ltb count (2 ^ counterBits)
     ∷ ltb d (2 ^ clientBits)
-    ∷ ltb e (2 ^ entryBits)
+    ∷ ltb content (2 ^ entryBits)
     ∷ []
 
 unfoldable pub messageBy : ℕ → ℕ → ℕ → ℕ → ℕ → Unpacked
-messageBy k t c d e = cond (allPass (widthTests k t c d e)) (messageOf (joined k t c d e)) malformed
+messageBy kind tag count d content =
+    cond (allPass (widthTests kind tag count d content)) (messageOf (joined kind tag count d content))
+    malformed
 
 abbrev pub messageIn : List ℕ → Unpacked
-messageIn l = messageBy (getD l 0 0) (getD l 1 0) (getD l 2 0) (getD l 3 0) (getD l 4 0)
+messageIn numbers =
+    messageBy (getD numbers 0 0) (getD numbers 1 0) (getD numbers 2 0) (getD numbers 3 0) (getD numbers 4 0)
 
 -- ---- the five numbers of a message: a field that it does not use is zero
 
 unfoldable pub fieldsOf : Message → List ℕ
-fieldsOf (kinds.GetInfo r) = 1 ∷ r .0 ∷ 0 ∷ 0 ∷ 0 ∷ []
-fieldsOf (kinds.Info r p) = 2 ∷ r .0 ∷ counter p .0 ∷ client p ∷ entry p .0 ∷ []
+fieldsOf (kinds.GetInfo tag) = 1 ∷ tag .0 ∷ 0 ∷ 0 ∷ 0 ∷ []
+fieldsOf (kinds.Info tag pair) = 2 ∷ tag .0 ∷ counter pair .0 ∷ client pair ∷ entry pair .0 ∷ []
 fieldsOf kinds.Done = 3 ∷ 0 ∷ 0 ∷ 0 ∷ 0 ∷ []
-fieldsOf (kinds.WriteInfo p) = 4 ∷ 0 ∷ counter p .0 ∷ client p ∷ entry p .0 ∷ []
-fieldsOf (kinds.Fwd p) = 5 ∷ 0 ∷ counter p .0 ∷ client p ∷ entry p .0 ∷ []
-fieldsOf (kinds.WriteAck c) = 6 ∷ 0 ∷ c .0 ∷ 0 ∷ 0 ∷ []
+fieldsOf (kinds.WriteInfo pair) = 4 ∷ 0 ∷ counter pair .0 ∷ client pair ∷ entry pair .0 ∷ []
+fieldsOf (kinds.Fwd pair) = 5 ∷ 0 ∷ counter pair .0 ∷ client pair ∷ entry pair .0 ∷ []
+fieldsOf (kinds.WriteAck count) = 6 ∷ 0 ∷ count .0 ∷ 0 ∷ 0 ∷ []
 
 -- ---- packing
 
 abbrev pub packNumber : Packed → ℕ
 packNumber packed.Done = 0
-packNumber (packed.Refused n) = numberOf n
+packNumber (packed.Refused why) = numberOf why
 
 abbrev pub packedNumber : Unpacked → List ℕ → ℕ
-packedNumber (Good m) out = packNumber (packAnswer m out)
-packedNumber (Refused r) out = numberOf r
+packedNumber (Good message) out = packNumber (packAnswer message out)
+packedNumber (Refused why) out = numberOf why
 
 abbrev pub packedBytes : Unpacked → List ℕ → List ℕ
-packedBytes (Good m) out = packLeaves m out
-packedBytes (Refused r) out = out
+packedBytes (Good message) out = packLeaves message out
+packedBytes (Refused why) out = out
 
 -- ---- unpacking
 
 abbrev pub unpackedNumber : Unpacked → ℕ
-unpackedNumber (Good m) = 0
-unpackedNumber (Refused r) = numberOf r
+unpackedNumber (Good message) = 0
+unpackedNumber (Refused why) = numberOf why
 
 abbrev pub unpackedFields : Unpacked → List ℕ → List ℕ
-unpackedFields (Good m) fields = fieldsOf m
-unpackedFields (Refused r) fields = fields
+unpackedFields (Good message) fields = fieldsOf message
+unpackedFields (Refused why) fields = fields

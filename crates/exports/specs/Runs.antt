@@ -13,15 +13,16 @@ use Rattle.system.specs.Run.{stepsIn, answered, howMany}
 
 -- 0, or the refusal's number
 abbrev pub setupNumber : Setup → ℕ
-setupNumber (Set t) = 0
-setupNumber (Refused n) = numberOf n
+setupNumber (Set settings) = 0
+setupNumber (Refused why) = numberOf why
 
 -- the answers that the history has for the first n steps, written over what memory held
 abbrev pub answersBy : Settings → List ℕ → ℕ → List ℕ → List ℕ
-answersBy t xs n out = answered (answerAt (settingsOf t) formats (stepsIn xs n)) out n
+answersBy settings steps n out =
+    answered (answerAt (settingsOf settings) formats (stepsIn steps n)) out n
 
 -- after an accepted setup the answers of all steps that both have room for; a refused one leaves memory as it
 -- was
 abbrev pub answersOf : Setup → List ℕ → List ℕ → List ℕ
-answersOf (Set t) xs out = answersBy t xs (howMany xs out) out
-answersOf (Refused n) xs out = out
+answersOf (Set settings) steps out = answersBy settings steps (howMany steps out) out
+answersOf (Refused why) steps out = out

@@ -6,6 +6,7 @@ ghost use Rattle.exports.specs.Fields.{messageBy, messageIn, fieldsOf, p
 ghost use Rattle.exports.specs.Fields.{packedBytes};
 ghost use Rattle.exports.specs.Fields.{unpackedNumber, unpackedFields};
 use message::Entry;
+use message::KIND_AT;
 use message::Message;
 use message::Packed;
 use message::Unpacked;
@@ -17,14 +18,11 @@ use message::entry_of;
 use refusal::Refusal;
 
 // The first numbers over the widths of the fields.
-const OVER_KIND: u64 = 16;
+const OVER_KIND: u64 = 1 << message::KIND_BITS;
 
-const OVER_CLIENT: u64 = 16;
+const OVER_CLIENT: u64 = 1 << message::CLIENT_BITS;
 
-const OVER_ENTRY: u64 = 0x100_0000_0000;
-
-// The bits behind the kind in the first word.
-const KIND_AT: u32 = 20;
+const OVER_ENTRY: u64 = 1 << message::ENTRY_BITS;
 
 // The message that five numbers are, or that they are none.
 fn message_of(kind: u64, tag: u64, counter: u64, client: u64, entry: u64) -> Unpacked

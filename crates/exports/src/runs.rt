@@ -11,7 +11,9 @@ ghost use Rattle.system.specs.Stored.{Stored};
 ghost use Rattle.exports.specs.Runs.{setupNumber, answersOf};
 use basics::least;
 use channel::Slots;
+use state::CLIENTS_LENGTH;
 use state::Clients;
+use state::SERVERS_LENGTH;
 use state::Servers;
 use state::Settings;
 use system::run::ANSWER;
@@ -70,8 +72,8 @@ pub extern "C" fn exports_run(
     ensures answers { λ r. ⌜ now (out .exit)
         ≡ answersOf (setupOf f count faulty) (now (steps .entry)) (now (out .entry)) ⌝ }
 {
-    let mut servers = [0u64; 26];
-    let mut clients = [0u64; 571];
+    let mut servers = [0u64; SERVERS_LENGTH];
+    let mut clients = [0u64; CLIENTS_LENGTH];
     let mut slots = channel::empty_slots();
     setup_number(run(
         f,
@@ -98,8 +100,8 @@ pub extern "C" fn exports_run_by_steps(
     ensures answers { λ r. ⌜ now (out .exit)
         ≡ answersOf (setupOf f count faulty) (now (steps .entry)) (now (out .entry)) ⌝ }
 {
-    let mut servers = [0u64; 26];
-    let mut clients = [0u64; 571];
+    let mut servers = [0u64; SERVERS_LENGTH];
+    let mut clients = [0u64; CLIENTS_LENGTH];
     let mut slots = channel::empty_slots();
     let setup = set_up(f, count, faulty, &mut servers, &mut clients, &mut slots);
     match setup {

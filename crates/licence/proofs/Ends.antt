@@ -14,12 +14,13 @@ use Rattle.licence.specs.Verdict.{endOf}
 use Rattle.licence.proofs.Licensed.{licensed}
 use Rattle.licence.proofs.Entries.{entry-fields}
 
-pub end-real : (e : ℕ) → isLicence e ≡ true → isReal (endOf (fieldsOf e)) ≡ true
-end-real e p = real-date (licensed (fieldsOf e) (entry-fields e p) .date)
+pub end-real : (entry : ℕ) → isLicence entry ≡ true → isReal (endOf (fieldsOf entry)) ≡ true
+end-real entry licensed-entry =
+    real-date (licensed (fieldsOf entry) (entry-fields entry licensed-entry) .date)
 
-pub not-numbered : (year month day : ℕ) (r : Refusal) → dayNumber year month day ≡ Refused r
+pub not-numbered : (year month day : ℕ) (why : Refusal) → dayNumber year month day ≡ Refused why
     → isDate year month day ≡ false
-not-numbered year month day r e =
+not-numbered year month day why e =
     by-test (isDate year month day)
     (λ yes. absurd (let n = day-given year month day yes in let z : _≡_ {A = ℕ} 0 1 = cc in omega arith))
     (λ no. no)

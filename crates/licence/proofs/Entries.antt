@@ -10,42 +10,46 @@ use Rattle.basics.proofs.Cases.{by-test, both, both-of, clash}
 use Rattle.refusal.specs.Numbers.{numbered}
 use Rattle.licence.specs.declared.Fields.{Fields}
 use Rattle.licence.specs.declared.Joined.{Joined}
-use Rattle.licence.specs.Entry.{entryBits, fieldsOf, joined, isLicensed, isLicence, joinedOf}
+use Rattle.licence.specs.Entry.{copiesPlace, entryBits, fieldsOf, joined, isLicensed}
+use Rattle.licence.specs.Entry.{isLicence, joinedOf}
 use Rattle.licence.proofs.Licensed.{narrow}
 use Rattle.licence.proofs.RoundTrip.{split-join, join-split, joined-small}
 
-pub is-licence-small : (e : ℕ) → isLicence e ≡ true → e < 2 ^ entryBits
+pub is-licence-small : (entry : ℕ) → isLicence entry ≡ true → entry < 2 ^ entryBits
 unfolding isLicence
-is-licence-small e p = ltb-true _ _ (both (ltb e (2 ^ entryBits)) (isLicensed (fieldsOf e)) p .0)
+is-licence-small entry p = ltb-true _ _ (both (ltb entry (2 ^ entryBits)) (isLicensed (fieldsOf entry)) p .0)
 
-pub entry-fields : (e : ℕ) → isLicence e ≡ true → isLicensed (fieldsOf e) ≡ true
+pub entry-fields : (entry : ℕ) → isLicence entry ≡ true → isLicensed (fieldsOf entry) ≡ true
 unfolding isLicence
-entry-fields e p = both (ltb e (2 ^ entryBits)) (isLicensed (fieldsOf e)) p .1
+entry-fields entry p = both (ltb entry (2 ^ entryBits)) (isLicensed (fieldsOf entry)) p .1
 
-pub is-licence-of : (e : ℕ) → e < 2 ^ entryBits → isLicensed (fieldsOf e) ≡ true → isLicence e ≡ true
+pub is-licence-of : (entry : ℕ) → entry < 2 ^ entryBits → isLicensed (fieldsOf entry) ≡ true
+    → isLicence entry ≡ true
 unfolding isLicence
-is-licence-of e h p = both-of (ltb e (2 ^ entryBits)) (isLicensed (fieldsOf e)) (lt-ltb _ _ h) p
+is-licence-of entry h p = both-of (ltb entry (2 ^ entryBits)) (isLicensed (fieldsOf entry)) (lt-ltb _ _ h) p
 
 -- fields of a licence, joined, are a licence entry
-pub joined-licence : (f : Fields) → isLicensed f ≡ true → f .copies < 2 ^ 16 → isLicence (joined f) ≡ true
-joined-licence f p h =
-    let n = narrow f p h in
-    is-licence-of (joined f) (joined-small f n) (ap isLicensed (split-join f n) ∙ p)
+pub joined-licence : (fields : Fields) → isLicensed fields ≡ true → fields .copies < 2 ^ copiesPlace .width
+    → isLicence (joined fields) ≡ true
+joined-licence fields p h =
+    let n = narrow fields p h in
+    is-licence-of (joined fields) (joined-small fields n) (ap isLicensed (split-join fields n) ∙ p)
 
-pub join-of-split : (e : ℕ) → isLicence e ≡ true → joinedOf (fieldsOf e) ≡ Joined.Entry e
+pub join-of-split : (entry : ℕ) → isLicence entry ≡ true → joinedOf (fieldsOf entry) ≡ Joined.Entry entry
 unfolding joinedOf
-join-of-split e p = rw (entry-fields e p) (ap Joined.Entry (join-split e (is-licence-small e p)))
+join-of-split entry p =
+    rw (entry-fields entry p) (ap Joined.Entry (join-split entry (is-licence-small entry p)))
 
 -- an answer of joining: the entry, and what it was joined from
-pub split-of-join : (f : Fields) (e : ℕ) → f .copies < 2 ^ 16 → joinedOf f ≡ Joined.Entry e
-    → (isLicence e ≡ true) × (fieldsOf e ≡ f)
+pub split-of-join : (fields : Fields) (entry : ℕ) → fields .copies < 2 ^ copiesPlace .width
+    → joinedOf fields ≡ Joined.Entry entry → (isLicence entry ≡ true) × (fieldsOf entry ≡ fields)
 unfolding joinedOf
-split-of-join f e h p =
-    by-test (isLicensed f)
-    (λ yes. let q : Joined.Entry (joined f) ≡ Joined.Entry e = rw yes at p in
-    let same : joined f ≡ e = cc in (
-      sym (ap isLicence same) ∙ joined-licence f yes h,
-      sym (ap fieldsOf same) ∙ split-join f (narrow f yes h),
+split-of-join fields entry h p =
+    by-test (isLicensed fields)
+    (λ yes. let q : Joined.Entry (joined fields) ≡ Joined.Entry entry = rw yes at p in
+    let same : joined fields ≡ entry = cc in (
+      sym (ap isLicence same) ∙ joined-licence fields yes h,
+      sym (ap fieldsOf same) ∙ split-join fields (narrow fields yes h),
     ))
-    (λ no. let q : Joined.Refused (numbered 8) ≡ Joined.Entry e = rw no at p in
+    (λ no. let q : Joined.Refused (numbered 8) ≡ Joined.Entry entry = rw no at p in
     clash (cc))

@@ -21,76 +21,84 @@ unfolding span
 span-given years h = rw (ne-eqb years 0 (λ e. omega arith))
 
 -- only February's length depends on the year
-other-month : (l k : Bool) (month : ℕ) → eqb month 2 ≡ false → monthLength l month ≡ monthLength k month
+other-month : (leapYear otherYear : Bool) (month : ℕ) → eqb month 2 ≡ false
+    → monthLength leapYear month ≡ monthLength otherYear month
 unfolding monthLength
-other-month l k month e = rw e
+other-month leapYear otherYear month e = rw e
 
-february : (l : Bool) (month : ℕ) → eqb month 2 ≡ true → monthLength l month ≡ cond l 29 28
+february : (leapYear : Bool) (month : ℕ) → eqb month 2 ≡ true
+    → monthLength leapYear month ≡ cond leapYear 29 28
 unfolding monthLength
-february l month e = rw e
+february leapYear month e = rw e
 
-february-most : (l : Bool) → cond l 29 28 ≤ 29
+february-most : (leapYear : Bool) → cond leapYear 29 28 ≤ 29
 february-most true = omega arith
 february-most false = omega arith
 
-module _ (f : Fields) (y : ℕ) where
+module _ (fields : Fields) (year : ℕ) where
   -- the day stays, but for 29 February
-  pub day-stays : (f .month ≡ 2 → f .day ≡ 29 → ⊥) → keptDay f y ≡ f .day
+  pub day-stays : (fields .month ≡ 2 → fields .day ≡ 29 → ⊥) → keptDay fields year ≡ fields .day
   unfolding keptDay
   day-stays h =
-      by-test (eqb (f .month) 2)
-      (λ m. by-test (eqb (f .day) 29) (λ d. absurd (h (eqb-true _ _ m) (eqb-true _ _ d))) (λ d. rw (m, d)))
+      by-test (eqb (fields .month) 2)
+      (λ m. by-test (eqb (fields .day) 29) (λ d. absurd (h (eqb-true _ _ m) (eqb-true _ _ d)))
+      (λ d. rw (m, d)))
       (λ m. rw m)
 
   -- and 29 February stays where the year has one
-  pub day-stays-leap : leap y ≡ true → keptDay f y ≡ f .day
+  pub day-stays-leap : leap year ≡ true → keptDay fields year ≡ fields .day
   unfolding keptDay
   day-stays-leap l =
-      by-test (eqb (f .month) 2 && eqb (f .day) 29) (λ e. rw (e, l)) (λ e. rw e)
+      by-test (eqb (fields .month) 2 && eqb (fields .day) 29) (λ e. rw (e, l)) (λ e. rw e)
 
-  pub day-falls : f .month ≡ 2 → f .day ≡ 29 → leap y ≡ false → keptDay f y ≡ 28
+  pub day-falls : fields .month ≡ 2 → fields .day ≡ 29 → leap year ≡ false → keptDay fields year ≡ 28
   unfolding keptDay
-  day-falls m d l = rw (eq-eqb (f .month) 2 m, eq-eqb (f .day) 29 d, l)
+  day-falls m d l = rw (eq-eqb (fields .month) 2 m, eq-eqb (fields .day) 29 d, l)
 
-  module _ (r : Real (f .year) (f .month) (f .day)) where
+  module _ (bounds : Real (fields .year) (fields .month) (fields .day)) where
     abbrev Within : Type 0
-    Within = (1 ≤ keptDay f y) × (keptDay f y ≤ monthLength (leap y) (f .month))
+    Within = (1 ≤ keptDay fields year) × (keptDay fields year ≤ monthLength (leap year) (fields .month))
 
-    within-other : eqb (f .month) 2 ≡ false → Within
+    within-other : eqb (fields .month) 2 ≡ false → Within
     within-other e =
         let k = day-stays (λ m _. eqb-false _ _ e m) in
-        let same = other-month (leap y) (leap (f .year)) (f .month) e in
-        (omega (arith, r .day-least), omega (arith, r .day-most))
+        let same = other-month (leap year) (leap (fields .year)) (fields .month) e in
+        (omega (arith, bounds .day-least), omega (arith, bounds .day-most))
 
-    within-leap : eqb (f .month) 2 ≡ true → leap y ≡ true → Within
+    within-leap : eqb (fields .month) 2 ≡ true → leap year ≡ true → Within
     within-leap e l =
         let k = day-stays-leap l in
-        let old = february (leap (f .year)) (f .month) e in
-        let new = february (leap y) (f .month) e ∙ ap (λ (b : Bool). cond b 29 28) l in
-        (omega (arith, r .day-least), omega (arith, r .day-most, february-most (leap (f .year))))
+        let old = february (leap (fields .year)) (fields .month) e in
+        let new = february (leap year) (fields .month) e ∙ ap (λ (b : Bool). cond b 29 28) l in (
+          omega (arith, bounds .day-least),
+          omega (arith, bounds .day-most, february-most (leap (fields .year))),
+        )
 
-    within-common : eqb (f .month) 2 ≡ true → leap y ≡ false → Within
+    within-common : eqb (fields .month) 2 ≡ true → leap year ≡ false → Within
     within-common e l =
-        let old = february (leap (f .year)) (f .month) e in
-        let new = february (leap y) (f .month) e ∙ ap (λ (b : Bool). cond b 29 28) l in
-        by-test (eqb (f .day) 29)
+        let old = february (leap (fields .year)) (fields .month) e in
+        let new = february (leap year) (fields .month) e ∙ ap (λ (b : Bool). cond b 29 28) l in
+        by-test (eqb (fields .day) 29)
         (λ d. let k = day-falls (eqb-true _ _ e) (eqb-true _ _ d) l in (omega arith, omega arith))
         (λ d. let k = day-stays (λ _ n. eqb-false _ _ d n) in
-        let other = eqb-false (f .day) 29 d in
-        (omega (arith, r .day-least), omega (arith, r .day-most, february-most (leap (f .year)))))
+        let other = eqb-false (fields .day) 29 d in (
+          omega (arith, bounds .day-least),
+          omega (arith, bounds .day-most, february-most (leap (fields .year))),
+        ))
 
     within : Within
     within =
-        by-test (eqb (f .month) 2) (λ e. by-test (leap y) (within-leap e) (within-common e)) within-other
+        by-test (eqb (fields .month) 2)
+        (λ e. by-test (leap year) (within-leap e) (within-common e)) within-other
 
-  pub kept-real : Real (f .year) (f .month) (f .day) → firstYear ≤ y → y ≤ lastYear
-      → Real y (f .month) (keptDay f y)
-  kept-real r least most =
+  pub kept-real : Real (fields .year) (fields .month) (fields .day) → firstYear ≤ year → year ≤ lastYear
+      → Real year (fields .month) (keptDay fields year)
+  kept-real bounds least most =
       record {
         year-least = least;
         year-most = most;
-        month-least = r .month-least;
-        month-most = r .month-most;
-        day-least = within r .0;
-        day-most = within r .1;
+        month-least = bounds .month-least;
+        month-most = bounds .month-most;
+        day-least = within bounds .0;
+        day-most = within bounds .1;
       }

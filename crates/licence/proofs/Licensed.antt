@@ -10,33 +10,36 @@ use Rattle.calendar.specs.Calendar.{leap, isDate}
 use Rattle.calendar.proofs.Dates.{Real, real, real-date}
 use Rattle.calendar.proofs.Lengths.{month-most}
 use Rattle.licence.specs.declared.Fields.{Fields}
-use Rattle.licence.specs.Entry.{Narrow, isLicensed}
+use Rattle.licence.specs.Entry.{copiesPlace, Narrow, opened, withdrawn, isLicensed}
 
-pub record Licensed (f : Fields) : Type 0 where
-  pub date : Real (f .year) (f .month) (f .day)
-  pub state-least : 1 ≤ f .state
-  pub state-most : f .state ≤ 3
+pub record Licensed (fields : Fields) : Type 0 where
+  pub date : Real (fields .year) (fields .month) (fields .day)
+  pub state-least : opened ≤ fields .state
+  pub state-most : fields .state ≤ withdrawn
 
-pub licensed : (f : Fields) → isLicensed f ≡ true → Licensed f
+pub licensed : (fields : Fields) → isLicensed fields ≡ true → Licensed fields
 unfolding isLicensed
-licensed f e =
-    let p = both (isDate (f .year) (f .month) (f .day) && leb 1 (f .state)) (leb (f .state) 3) e in
-    let q = both (isDate (f .year) (f .month) (f .day)) (leb 1 (f .state)) (p .0) in
+licensed fields e =
+    let test = isDate (fields .year) (fields .month) (fields .day) in
+    let p = both (test && leb opened (fields .state)) (leb (fields .state) withdrawn) e in
+    let q = both test (leb opened (fields .state)) (p .0) in
     record { date = real (q .0); state-least = leb-true _ _ (q .1); state-most = leb-true _ _ (p .1) }
 
-pub licensed-of : (f : Fields) → Licensed f → isLicensed f ≡ true
+pub licensed-of : (fields : Fields) → Licensed fields → isLicensed fields ≡ true
 unfolding isLicensed
-licensed-of f l =
-    both-of _ _ (both-of _ _ (real-date (l .date)) (le-leb _ _ (l .state-least))) (le-leb _ _ (l .state-most))
+licensed-of fields bounds =
+    both-of _ _ (both-of _ _ (real-date (bounds .date)) (le-leb _ _ (bounds .state-least)))
+    (le-leb _ _ (bounds .state-most))
 
-pub narrow : (f : Fields) → isLicensed f ≡ true → f .copies < 2 ^ 16 → Narrow f
-narrow f e h =
-    let l = licensed f e in
-    let d = month-most (leap (f .year)) (f .month) in
+pub narrow : (fields : Fields) → isLicensed fields ≡ true → fields .copies < 2 ^ copiesPlace .width
+    → Narrow fields
+narrow fields e h =
+    let bounds = licensed fields e in
+    let d = month-most (leap (fields .year)) (fields .month) in
     record {
-      year = omega (arith, l .date .year-most);
-      month = omega (arith, l .date .month-most);
-      day = omega (arith, l .date .day-most, d);
+      year = omega (arith, bounds .date .year-most);
+      month = omega (arith, bounds .date .month-most);
+      day = omega (arith, bounds .date .day-most, d);
       copies = h;
-      state = omega (arith, l .state-most);
+      state = omega (arith, bounds .state-most);
     }

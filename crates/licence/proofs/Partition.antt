@@ -16,34 +16,35 @@ pub empty-is-none : isLicence empty ≡ false
 unfolding isLicence isLicensed isDate
 empty-is-none = refl
 
-module _ (e : ℕ) where
-  is-licence : isLicence e ≡ true → kindOf e ≡ Licence
+module _ (entry : ℕ) where
+  is-licence : isLicence entry ≡ true → kindOf entry ≡ Licence
   unfolding kindOf
   is-licence p = rw p
 
-  is-empty : e ≡ empty → kindOf e ≡ Empty
+  is-empty : entry ≡ empty → kindOf entry ≡ Empty
   unfolding kindOf
-  is-empty p = rw (ap isLicence p ∙ empty-is-none, eq-eqb e empty p)
+  is-empty p = rw (ap isLicence p ∙ empty-is-none, eq-eqb entry empty p)
 
-  is-nothing : isLicence e ≡ false → e ≢ empty → kindOf e ≡ Nothing
+  is-nothing : isLicence entry ≡ false → entry ≢ empty → kindOf entry ≡ Nothing
   unfolding kindOf
-  is-nothing p q = rw (p, ne-eqb e empty q)
+  is-nothing p q = rw (p, ne-eqb entry empty q)
 
   -- the three cases, each with its answer
-  by-kind : {C : Type 0} → (isLicence e ≡ true → kindOf e ≡ Licence → C) → (e ≡ empty → kindOf e ≡ Empty → C)
-      → (isLicence e ≡ false → e ≢ empty → kindOf e ≡ Nothing → C) → C
+  by-kind : {C : Type 0} → (isLicence entry ≡ true → kindOf entry ≡ Licence → C)
+      → (entry ≡ empty → kindOf entry ≡ Empty → C)
+      → (isLicence entry ≡ false → entry ≢ empty → kindOf entry ≡ Nothing → C) → C
   by-kind licence void nothing =
-      by-test (isLicence e) (λ p. licence p (is-licence p))
-      (λ p. by-test (eqb e empty) (λ q. let z = eqb-true e empty q in void z (is-empty z))
-      (λ q. let z = eqb-false e empty q in nothing p z (is-nothing p z)))
+      by-test (isLicence entry) (λ p. licence p (is-licence p))
+      (λ p. by-test (eqb entry empty) (λ q. let z = eqb-true entry empty q in void z (is-empty z))
+      (λ q. let z = eqb-false entry empty q in nothing p z (is-nothing p z)))
 
-  pub licence-kind : kindOf e ≡ Licence ↔ isLicence e ≡ true
+  pub licence-kind : kindOf entry ≡ Licence ↔ isLicence entry ≡ true
   licence-kind = (λ k. by-kind (λ p _. p) (λ _ c. clash (cc)) (λ _ _ c. clash (cc)), is-licence)
 
-  pub empty-kind : kindOf e ≡ Empty ↔ e ≡ empty
+  pub empty-kind : kindOf entry ≡ Empty ↔ entry ≡ empty
   empty-kind = (λ k. by-kind (λ _ c. clash (cc)) (λ p _. p) (λ _ _ c. clash (cc)), is-empty)
 
-  pub nothing-kind : kindOf e ≡ Nothing ↔ ((isLicence e ≡ false) × (e ≢ empty))
+  pub nothing-kind : kindOf entry ≡ Nothing ↔ ((isLicence entry ≡ false) × (entry ≢ empty))
   nothing-kind = (
     λ k. by-kind (λ _ c. clash (cc)) (λ _ c. clash (cc)) (λ p q _. (p, q)),
     λ h. is-nothing (h .0) (h .1),

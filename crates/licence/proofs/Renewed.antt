@@ -12,7 +12,7 @@ use Rattle.refusal.specs.Numbers.{numbered}
 use Rattle.calendar.specs.Calendar.{lastYear}
 use Rattle.licence.specs.declared.Fields.{Fields}
 use Rattle.licence.specs.declared.Renewal.{Renewal}
-use Rattle.licence.specs.Entry.{fieldsOf, joined, isLicensed, isLicence, Narrow}
+use Rattle.licence.specs.Entry.{copiesPlace, fieldsOf, joined, isLicensed, isLicence, Narrow}
 use Rattle.licence.specs.Renewal.{span, keptDay, later, mostYears, isRenewable, renewedOf}
 use Rattle.licence.proofs.Licensed.{licensed, licensed-of, narrow}
 use Rattle.licence.proofs.RoundTrip.{fields-narrow, split-join}
@@ -20,86 +20,89 @@ use Rattle.licence.proofs.Entries.{entry-fields, joined-licence}
 use Rattle.licence.proofs.Kept.{kept-real}
 
 -- the fields of a licence in another year
-module _ (f : Fields) (y : ℕ) (p : isLicensed f ≡ true) (grows : f .year ≤ y) (most : y ≤ lastYear) where
-  pub later-licensed : isLicensed (later f y) ≡ true
+module _ (fields : Fields) (year : ℕ) (p : isLicensed fields ≡ true) (grows : fields .year ≤ year)
+    (most : year ≤ lastYear) where
+  pub later-licensed : isLicensed (later fields year) ≡ true
   unfolding later
   later-licensed =
-      let l = licensed f p in
-      licensed-of (later f y)
+      let bounds = licensed fields p in
+      licensed-of (later fields year)
       record {
-        date = kept-real f y (l .date) (omega (arith, l .date .year-least)) most;
-        state-least = l .state-least;
-        state-most = l .state-most;
+        date = kept-real fields year (bounds .date) (omega (arith, bounds .date .year-least)) most;
+        state-least = bounds .state-least;
+        state-most = bounds .state-most;
       }
 
-  pub later-narrow : f .copies < 2 ^ 16 → Narrow (later f y)
+  pub later-narrow : fields .copies < 2 ^ copiesPlace .width → Narrow (later fields year)
   unfolding later
-  later-narrow h = narrow (later f y) later-licensed h
+  later-narrow h = narrow (later fields year) later-licensed h
 
 -- what may be renewed
-pub record Renewable (e years : ℕ) : Type 0 where
-  pub licence : isLicence e ≡ true
+pub record Renewable (entry years : ℕ) : Type 0 where
+  pub licence : isLicence entry ≡ true
   pub years-most : years ≤ mostYears
-  pub year-most : fieldsOf e .year + span years ≤ lastYear
+  pub year-most : fieldsOf entry .year + span years ≤ lastYear
 
 -- what the renewed entry r is
-pub record Renewed (e years r : ℕ) : Type 0 where
-  pub renewable : Renewable e years
-  pub licence : isLicence r ≡ true
-  pub year : fieldsOf r .year ≡ fieldsOf e .year + span years
-  pub month : fieldsOf r .month ≡ fieldsOf e .month
-  pub day : fieldsOf r .day ≡ keptDay (fieldsOf e) (fieldsOf e .year + span years)
-  pub copies : fieldsOf r .copies ≡ fieldsOf e .copies
-  pub state : fieldsOf r .state ≡ fieldsOf e .state
+pub record Renewed (entry years result : ℕ) : Type 0 where
+  pub renewable : Renewable entry years
+  pub licence : isLicence result ≡ true
+  pub year : fieldsOf result .year ≡ fieldsOf entry .year + span years
+  pub month : fieldsOf result .month ≡ fieldsOf entry .month
+  pub day : fieldsOf result .day ≡ keptDay (fieldsOf entry) (fieldsOf entry .year + span years)
+  pub copies : fieldsOf result .copies ≡ fieldsOf entry .copies
+  pub state : fieldsOf result .state ≡ fieldsOf entry .state
 
-module _ (e years : ℕ) where
+module _ (entry years : ℕ) where
   -- the renewed entry's fields
   abbrev moved : Fields
-  moved = later (fieldsOf e) (fieldsOf e .year + span years)
+  moved = later (fieldsOf entry) (fieldsOf entry .year + span years)
 
-  pub renewable : isRenewable e years ≡ true → Renewable e years
+  pub renewable : isRenewable entry years ≡ true → Renewable entry years
   unfolding isRenewable
   renewable t =
-      let p = both (isLicence e && leb years mostYears) _ t in
-      let q = both (isLicence e) (leb years mostYears) (p .0) in
+      let p = both (isLicence entry && leb years mostYears) _ t in
+      let q = both (isLicence entry) (leb years mostYears) (p .0) in
       record { licence = q .0; years-most = leb-true _ _ (q .1); year-most = leb-true _ _ (p .1) }
 
-  pub renewed-when : isRenewable e years ≡ true → renewedOf e years ≡ Renewal.Entry (joined moved)
+  pub renewed-when : isRenewable entry years ≡ true → renewedOf entry years ≡ Renewal.Entry (joined moved)
   unfolding renewedOf
   renewed-when t = rw t
 
-  pub refused-when : isRenewable e years ≡ false → renewedOf e years ≡ Renewal.Refused (numbered 8)
+  pub refused-when : isRenewable entry years ≡ false → renewedOf entry years ≡ Renewal.Refused (numbered 8)
   unfolding renewedOf
   refused-when f = rw f
 
-  module _ (w : Renewable e years) where
+  module _ (allowed : Renewable entry years) where
     moved-licensed : isLicensed moved ≡ true
-    moved-licensed = later-licensed (fieldsOf e) _ (entry-fields e (w .licence)) (omega arith) (w .year-most)
+    moved-licensed =
+        later-licensed (fieldsOf entry) _ (entry-fields entry (allowed .licence)) (omega arith)
+        (allowed .year-most)
 
-    moved-copies : moved .copies < 2 ^ 16
+    moved-copies : moved .copies < 2 ^ copiesPlace .width
     unfolding later
-    moved-copies = fields-narrow e .copies
+    moved-copies = fields-narrow entry .copies
 
     same-fields : fieldsOf (joined moved) ≡ moved
     same-fields = split-join moved (narrow moved moved-licensed moved-copies)
 
-    is-renewed : Renewed e years (joined moved)
+    is-renewed : Renewed entry years (joined moved)
     unfolding later
     is-renewed =
         record {
-          renewable = w;
+          renewable = allowed;
           licence = joined-licence moved moved-licensed moved-copies;
-          year = ap (λ (f : Fields). f .year) same-fields;
-          month = ap (λ (f : Fields). f .month) same-fields;
-          day = ap (λ (f : Fields). f .day) same-fields;
-          copies = ap (λ (f : Fields). f .copies) same-fields;
-          state = ap (λ (f : Fields). f .state) same-fields;
+          year = ap (λ (fields : Fields). fields .year) same-fields;
+          month = ap (λ (fields : Fields). fields .month) same-fields;
+          day = ap (λ (fields : Fields). fields .day) same-fields;
+          copies = ap (λ (fields : Fields). fields .copies) same-fields;
+          state = ap (λ (fields : Fields). fields .state) same-fields;
         }
 
-  pub renewed : (r : ℕ) → renewedOf e years ≡ Renewal.Entry r → Renewed e years r
-  renewed r a =
-      by-test (isRenewable e years)
+  pub renewed : (result : ℕ) → renewedOf entry years ≡ Renewal.Entry result → Renewed entry years result
+  renewed result given =
+      by-test (isRenewable entry years)
       (λ t. let b = renewed-when t in
-      let same : joined moved ≡ r = cc in
-      subst (λ (n : ℕ). Renewed e years n) same (is-renewed (renewable t)))
+      let same : joined moved ≡ result = cc in
+      subst (λ (n : ℕ). Renewed entry years n) same (is-renewed (renewable t)))
       (λ f. let b = refused-when f in clash (cc))

@@ -24,34 +24,42 @@ use Rattle.licence.proofs.Licensed.{licensed}
 use Rattle.licence.proofs.Entries.{entry-fields}
 use Rattle.licence.proofs.Left.{left-of, left-refused, after-end}
 
--- when a verdict is given to days left n and a state s
+-- when a verdict is given to days left and a state
 abbrev When : ℤ → ℕ → Verdict → Type 0
-When n s Pulp = (ltZ n (pos 0) ≡ true) ⊎ (s ≡ withdrawn)
-When n s Hold = (ltZ n (pos 0) ≡ false) × (s ≡ suspended)
-When n s Print = (ltZ n (pos 0) ≡ false) × (s ≡ opened)
-When n s (Verdict.Refused r) = ⊥
+When left state Pulp = (ltZ left (pos 0) ≡ true) ⊎ (state ≡ withdrawn)
+When left state Hold = (ltZ left (pos 0) ≡ false) × (state ≡ suspended)
+When left state Print = (ltZ left (pos 0) ≡ false) × (state ≡ opened)
+When left state (Verdict.Refused why) = ⊥
 
-given-when : (n : ℤ) (s : ℕ) → 1 ≤ s → s ≤ 3 → When n s (verdictBy n s)
+given-when : (left : ℤ) (state : ℕ) → opened ≤ state → state ≤ withdrawn
+    → When left state (verdictBy left state)
 unfolding verdictBy
-given-when n s least most =
-    by-test (ltZ n (pos 0)) (λ t. rw t (inl t))
-    (λ t. by-test (eqb s 3) (λ w. rw (t, w) (inr (eqb-true s 3 w)))
-    (λ w. by-test (eqb s 2) (λ h. rw (t, w, h) (t, eqb-true s 2 h))
-    (λ h. let a = eqb-false s 3 w in let b = eqb-false s 2 h in rw (t, w, h) (t, omega arith))))
+given-when left state least most =
+    by-test (ltZ left (pos 0)) (λ t. rw t (inl t))
+    (λ t. by-test (eqb state withdrawn) (λ w. rw (t, w) (inr (eqb-true state withdrawn w)))
+    (λ w. by-test (eqb state suspended) (λ h. rw (t, w, h) (t, eqb-true state suspended h))
+    (λ h. let a = eqb-false state withdrawn w in
+    let b = eqb-false state suspended h in
+    rw (t, w, h) (t, omega arith))))
 
-pulp-given : (n : ℤ) (s : ℕ) → (ltZ n (pos 0) ≡ true) ⊎ (s ≡ withdrawn) → verdictBy n s ≡ Pulp
+pulp-given : (left : ℤ) (state : ℕ) → (ltZ left (pos 0) ≡ true) ⊎ (state ≡ withdrawn)
+    → verdictBy left state ≡ Pulp
 unfolding verdictBy
-pulp-given n s h =
-    by-test (ltZ n (pos 0)) (λ t. rw t)
-    (λ f. by-either h (λ t. absurd (true-or-false (ltZ n (pos 0)) t f)) (λ w. rw (f, eq-eqb s 3 w)))
+pulp-given left state h =
+    by-test (ltZ left (pos 0)) (λ t. rw t)
+    (λ f. by-either h (λ t. absurd (true-or-false (ltZ left (pos 0)) t f))
+    (λ w. rw (f, eq-eqb state withdrawn w)))
 
-hold-given : (n : ℤ) (s : ℕ) → ltZ n (pos 0) ≡ false → s ≡ suspended → verdictBy n s ≡ Hold
+hold-given : (left : ℤ) (state : ℕ) → ltZ left (pos 0) ≡ false → state ≡ suspended
+    → verdictBy left state ≡ Hold
 unfolding verdictBy
-hold-given n s t h = rw (t, ne-eqb s 3 (λ w. omega arith), eq-eqb s 2 h)
+hold-given left state t h = rw (t, ne-eqb state withdrawn (λ w. omega arith), eq-eqb state suspended h)
 
-print-given : (n : ℤ) (s : ℕ) → ltZ n (pos 0) ≡ false → s ≡ opened → verdictBy n s ≡ Print
+print-given : (left : ℤ) (state : ℕ) → ltZ left (pos 0) ≡ false → state ≡ opened
+    → verdictBy left state ≡ Print
 unfolding verdictBy
-print-given n s t o = rw (t, ne-eqb s 3 (λ w. omega arith), ne-eqb s 2 (λ h. omega arith))
+print-given left state t o =
+    rw (t, ne-eqb state withdrawn (λ w. omega arith), ne-eqb state suspended (λ h. omega arith))
 
 module _ (entry year month day : ℕ) where
   abbrev state : ℕ
@@ -65,30 +73,31 @@ module _ (entry year month day : ℕ) where
   unfolding verdictOf
   verdict-refused f = rw (left-refused entry year month day f)
 
-  module _ (n : ℤ) (a : daysLeft entry year month day ≡ Days n) where
-    is-by : verdict ≡ verdictBy n state
+  module _ (left : ℤ) (given : daysLeft entry year month day ≡ Days left) where
+    is-by : verdict ≡ verdictBy left state
     unfolding verdictOf
-    is-by = rw a
+    is-by = rw given
 
-    only : (v : Verdict) → verdict ≡ v → When n state v
-    only v q =
-        let l = licensed (fieldsOf entry) (entry-fields entry (left-of entry year month day n a .licence)) in
-        subst (λ (x : Verdict). When n state x) (sym is-by ∙ q)
-        (given-when n state (l .state-least) (l .state-most))
+    only : (answer : Verdict) → verdict ≡ answer → When left state answer
+    only answer q =
+        let licence = left-of entry year month day left given .licence in
+        let bounds = licensed (fieldsOf entry) (entry-fields entry licence) in
+        subst (λ (x : Verdict). When left state x) (sym is-by ∙ q)
+        (given-when left state (bounds .state-least) (bounds .state-most))
 
-    pub pulp-when : verdict ≡ Pulp ↔ ((ltZ n (pos 0) ≡ true) ⊎ (state ≡ withdrawn))
-    pulp-when = (only Pulp, λ h. is-by ∙ pulp-given n state h)
+    pub pulp-when : verdict ≡ Pulp ↔ ((ltZ left (pos 0) ≡ true) ⊎ (state ≡ withdrawn))
+    pulp-when = (only Pulp, λ h. is-by ∙ pulp-given left state h)
 
-    pub hold-when : verdict ≡ Hold ↔ ((ltZ n (pos 0) ≡ false) × (state ≡ suspended))
-    hold-when = (only Hold, λ h. is-by ∙ hold-given n state (h .0) (h .1))
+    pub hold-when : verdict ≡ Hold ↔ ((ltZ left (pos 0) ≡ false) × (state ≡ suspended))
+    hold-when = (only Hold, λ h. is-by ∙ hold-given left state (h .0) (h .1))
 
-    pub print-when : verdict ≡ Print ↔ ((ltZ n (pos 0) ≡ false) × (state ≡ opened))
-    print-when = (only Print, λ h. is-by ∙ print-given n state (h .0) (h .1))
+    pub print-when : verdict ≡ Print ↔ ((ltZ left (pos 0) ≡ false) × (state ≡ opened))
+    print-when = (only Print, λ h. is-by ∙ print-given left state (h .0) (h .1))
 
     pub pulp-by-date : verdict ≡ Pulp
         ↔ ((earlier (endOf (fieldsOf entry)) (date year month day) ≡ true) ⊎ (state ≡ withdrawn))
     pulp-by-date =
-        let after = after-end entry year month day n a in (
-          λ v. ⊎-elim (λ t. inl (after .0 t)) inr (pulp-when .0 v),
+        let after = after-end entry year month day left given in (
+          λ answer. ⊎-elim (λ t. inl (after .0 t)) inr (pulp-when .0 answer),
           λ h. pulp-when .1 (⊎-elim (λ t. inl (after .1 t)) inr h),
         )

@@ -6,11 +6,12 @@
 -- In order: the places of the fields; splitting and joining; the states; what is a licence entry, the empty
 -- entry, and no entry; the answer of joining any fields.
 -- Assumes nothing.
-use Prim.Native.Nat.{ℕ, _+_, _*_, _/_, _%_, _^_, _<_}
+use Prim.Native.Nat.{ℕ, _+_, _^_, _<_}
 use mathlib.Core.Bool.{Bool, cond, not, _&&_}
 use mathlib.Core.List.{[], _∷_}
 use mathlib.Core.Option.{Option, none, some}
 use lib.Dec.{eqb, leb, ltb}
+use Rattle.basics.specs.Fields.{Place, field, placed}
 use Rattle.refusal.specs.declared.Refusal.{Refusal}
 use Rattle.refusal.specs.Ladder.{_whenever_, lowest}
 use Rattle.calendar.specs.Calendar.{isDate}
@@ -19,11 +20,7 @@ use Rattle.licence.specs.declared.Kind.{Kind}
 use Rattle.licence.specs.declared.Kind.the-variants.{Licence, Empty, Nothing}
 use Rattle.licence.specs.declared.Joined.{Joined}
 
--- the place of a field: its width in bits, and how many bits stand below it
-pub record Place : Type 0 where
-  pub width : ℕ
-  pub offset : ℕ
-
+-- where each field stands
 abbrev pub yearPlace : Place
 yearPlace = record { width = 12; offset = 28 }
 
@@ -38,14 +35,6 @@ copiesPlace = record { width = 16; offset = 3 }
 
 abbrev pub statePlace : Place
 statePlace = record { width = 3; offset = 0 }
-
--- the field at a place of a number
-abbrev pub field : Place → ℕ → ℕ
-field place entry = entry / 2 ^ place .offset % 2 ^ place .width
-
--- a field moved to its place
-abbrev pub placed : Place → ℕ → ℕ
-placed place value = value * 2 ^ place .offset
 
 abbrev pub fieldsOf : ℕ → Fields
 fieldsOf entry =
@@ -63,12 +52,12 @@ joined fields =
     + placed copiesPlace (fields .copies) + placed statePlace (fields .state)
 
 -- each field is within its width
-pub record Narrow (f : Fields) : Type 0 where
-  pub year : f .year < 2 ^ yearPlace .width
-  pub month : f .month < 2 ^ monthPlace .width
-  pub day : f .day < 2 ^ dayPlace .width
-  pub copies : f .copies < 2 ^ copiesPlace .width
-  pub state : f .state < 2 ^ statePlace .width
+pub record Narrow (fields : Fields) : Type 0 where
+  pub year : fields .year < 2 ^ yearPlace .width
+  pub month : fields .month < 2 ^ monthPlace .width
+  pub day : fields .day < 2 ^ dayPlace .width
+  pub copies : fields .copies < 2 ^ copiesPlace .width
+  pub state : fields .state < 2 ^ statePlace .width
 
 -- the states
 abbrev pub opened : ℕ
@@ -105,7 +94,7 @@ kindOf entry = cond (isLicence entry) Licence (cond (eqb entry empty) Empty Noth
 -- 01's answer: the 'entry' of 40 bits, or refused 8, 'no such entry'
 abbrev pub joinedAnswer : Option Refusal → ℕ → Joined
 joinedAnswer none entry = Joined.Entry entry
-joinedAnswer (some refusal) entry = Joined.Refused refusal
+joinedAnswer (some why) entry = Joined.Refused why
 
 -- the entry of any fields, refused where they are not a licence's
 unfoldable pub joinedOf : Fields → Joined

@@ -48,7 +48,7 @@ isRenewable entry years =
 -- 01's answer: the 'entry' renewed, or refused 8, 'no such entry'
 abbrev pub renewalAnswer : Option Refusal → ℕ → Renewal
 renewalAnswer none entry = Renewal.Entry entry
-renewalAnswer (some refusal) entry = Renewal.Refused refusal
+renewalAnswer (some why) entry = Renewal.Refused why
 
 -- the entry renewed, refused where it may not be
 unfoldable pub renewedOf : ℕ → ℕ → Renewal

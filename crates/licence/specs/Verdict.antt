@@ -27,7 +27,7 @@ endOf fields = date (fields .year) (fields .month) (fields .day)
 -- 01's answer: the 'days left', or refused 8, 'no such entry'
 abbrev pub daysAnswer : Option Refusal → ℤ → DaysLeft
 daysAnswer none left = Days left
-daysAnswer (some r) left = DaysLeft.Refused r
+daysAnswer (some why) left = DaysLeft.Refused why
 
 -- the end's day number minus the day's, refused where the entry is none of a licence, or the day no date
 unfoldable pub daysLeft : ℕ → ℕ → ℕ → ℕ → DaysLeft
@@ -43,7 +43,7 @@ verdictBy left state =
 -- 01's answer: 'pulp', 'hold' or 'print', or refused 8, 'no such entry', as days left are
 abbrev pub judged : DaysLeft → ℕ → Verdict
 judged (Days left) state = verdictBy left state
-judged (DaysLeft.Refused r) state = Verdict.Refused r
+judged (DaysLeft.Refused why) state = Verdict.Refused why
 
 unfoldable pub verdictOf : ℕ → ℕ → ℕ → ℕ → Verdict
 verdictOf entry year month day = judged (daysLeft entry year month day) (fieldsOf entry .state)

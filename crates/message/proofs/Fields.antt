@@ -1,8 +1,8 @@
 -- The message of a number, by its words: kind and tag in front of 64 low bits.
 --
--- A number is h * 2 ^ 64 + l with l below 2 ^ 64, and h is kind * 2 ^ 20 + tag. The fields behind the tag are
--- those of l alone, and they are all zero exactly when l is. So `messageOf` asks of l and the tag what
--- `byWords` says, which is what the code asks.
+-- A number is head * 2 ^ 64 + low with low below 2 ^ 64, and head is kind * 2 ^ 20 + tag. The fields behind
+-- the tag are those of low alone, and they are all zero exactly when low is. So `messageOf` asks of low and
+-- the tag what `byWords` says, which is what the code asks.
 -- Assumes nothing.
 use Rattle.basics.proofs.Prelude.{_≡_, refl, sym, ap, _∙_, Bool, true, cond, _&&_, [], _∷_, ℕ, _+_, _-_, _*_}
 use Rattle.basics.proofs.Prelude.{_/_, _%_, _^_, _<_, arith, eqb, eqb-true, eq-eqb}
@@ -13,9 +13,9 @@ use Rattle.message.specs.declared.Message.the-variants.{GetInfo, Info, D
 use Rattle.message.specs.declared.Unpacked.{Unpacked}
 use Rattle.message.specs.declared.Unpacked.the-variants.{Good}
 use Rattle.message.specs.declared.Words.{Words}
-use Rattle.message.specs.Pair.{pairOf}
-use Rattle.message.specs.Layout.{kindOf, tagOf, counterOf, clientOf, entryOf, zeros, malformed}
-use Rattle.message.specs.Layout.{messageOf, wordsNumber}
+use Rattle.message.specs.Pair.{clientBits, entryBits, pairBits, clientAt, counterAt, pairOf}
+use Rattle.message.specs.Layout.{tagBits, lastRead, kindOf, tagOf, counterOf, clientOf, entryOf}
+use Rattle.message.specs.Layout.{zeros, malformed, messageOf, wordsNumber}
 
 -- ---- which fields are zero
 
@@ -24,70 +24,83 @@ same-test a b f g =
     by-test a (λ e. e ∙ sym (f e))
     (λ e. by-test b (λ e′. absurd (true-or-false a (g e′) e)) (λ e′. e ∙ sym e′))
 
--- client and entry are zero when the low 44 bits are
-zero-rest : (l : ℕ) → zeros (l / 2 ^ 40 % 2 ^ 4 ∷ l % 2 ^ 40 ∷ []) ≡ eqb (l % 2 ^ 44) 0
-zero-rest l =
-    same-test _ _
-    (λ e. let p = both (eqb (l / 2 ^ 40 % 2 ^ 4) 0) _ e in
-    let d = eqb-true (l / 2 ^ 40 % 2 ^ 4) 0 (p .0) in
-    let f = eqb-true (l % 2 ^ 40) 0 (both (eqb (l % 2 ^ 40) 0) true (p .1) .0) in
-    eq-eqb (l % 2 ^ 44) 0 (omega arith))
-    (λ e. let z = eqb-true (l % 2 ^ 44) 0 e in
-    both-of _ _ (eq-eqb (l / 2 ^ 40 % 2 ^ 4) 0 (omega arith))
-    (both-of _ _ (eq-eqb (l % 2 ^ 40) 0 (omega arith)) refl))
+-- what the low bits hold: counter, client and entry; and all that stands behind the counter
+abbrev count : ℕ → ℕ
+count low = low / 2 ^ counterAt
 
--- counter, client and entry are zero when all 64 bits are
-zero-low : (l : ℕ) → zeros (l / 2 ^ 44 ∷ l / 2 ^ 40 % 2 ^ 4 ∷ l % 2 ^ 40 ∷ []) ≡ eqb l 0
-zero-low l =
-    rw (zero-rest l)
-    (same-test (eqb (l / 2 ^ 44) 0 && eqb (l % 2 ^ 44) 0) (eqb l 0)
-    (λ e. let p = both (eqb (l / 2 ^ 44) 0) (eqb (l % 2 ^ 44) 0) e in
-    let c = eqb-true (l / 2 ^ 44) 0 (p .0) in
-    let r = eqb-true (l % 2 ^ 44) 0 (p .1) in
-    eq-eqb l 0 (omega arith))
-    (λ e. let z = eqb-true l 0 e in
-    both-of (eqb (l / 2 ^ 44) 0) (eqb (l % 2 ^ 44) 0) (eq-eqb (l / 2 ^ 44) 0 (omega arith))
-    (eq-eqb (l % 2 ^ 44) 0 (omega arith))))
+abbrev writer : ℕ → ℕ
+writer low = low / 2 ^ clientAt % 2 ^ clientBits
+
+abbrev content : ℕ → ℕ
+content low = low % 2 ^ entryBits
+
+abbrev behind : ℕ → ℕ
+behind low = low % 2 ^ counterAt
+
+-- client and entry are zero when all behind the counter is
+zero-rest : (low : ℕ) → zeros (writer low ∷ content low ∷ []) ≡ eqb (behind low) 0
+zero-rest low =
+    same-test _ _
+    (λ e. let p = both (eqb (writer low) 0) _ e in
+    let d = eqb-true (writer low) 0 (p .0) in
+    let f = eqb-true (content low) 0 (both (eqb (content low) 0) true (p .1) .0) in
+    eq-eqb (behind low) 0 (omega arith)) (λ e. let z = eqb-true (behind low) 0 e in
+    both-of _ _ (eq-eqb (writer low) 0 (omega arith))
+    (both-of _ _ (eq-eqb (content low) 0 (omega arith)) refl))
+
+-- counter, client and entry are zero when all low bits are
+zero-low : (low : ℕ) → zeros (count low ∷ writer low ∷ content low ∷ []) ≡ eqb low 0
+zero-low low =
+    rw (zero-rest low) (same-test (eqb (count low) 0 && eqb (behind low) 0) (eqb low 0)
+    (λ e. let p = both (eqb (count low) 0) (eqb (behind low) 0) e in
+    let c = eqb-true (count low) 0 (p .0) in
+    let r = eqb-true (behind low) 0 (p .1) in
+    eq-eqb low 0 (omega arith)) (λ e. let z = eqb-true low 0 e in
+    both-of (eqb (count low) 0) (eqb (behind low) 0) (eq-eqb (count low) 0 (omega arith))
+    (eq-eqb (behind low) 0 (omega arith))))
 
 -- ---- the message of two words
 
 -- as `kind` of Layout, with one test
 abbrev pub case : ℕ → ℕ → Bool → Message → Unpacked → Unpacked
-case k j fine m other = cond (eqb k j) (cond fine (Good m) malformed) other
+case kind expected fine message other = cond (eqb kind expected) (cond fine (Good message) malformed) other
 
--- kind k, tag t, low bits l
+-- by kind, tag and low bits
 unfoldable pub byWords : ℕ → ℕ → ℕ → Unpacked
-byWords k t l =
-    case k 1 (eqb l 0) (GetInfo (record { 0 = t }))
-    (case k 2 true (Info (record { 0 = t }) (record { 0 = l }))
-    (case k 3 (eqb t 0 && eqb l 0) Done
-    (case k 4 (eqb t 0 && true) (WriteInfo (record { 0 = l }))
-    (case k 5 (eqb t 0 && true) (Fwd (record { 0 = l }))
-    (case k 6 (eqb t 0 && eqb (l % 2 ^ 44) 0) (WriteAck (record { 0 = l / 2 ^ 44 })) malformed)))))
+byWords kind tag low =
+    case kind 1 (eqb low 0) (GetInfo (record { 0 = tag }))
+    (case kind 2 true (Info (record { 0 = tag }) (record { 0 = low }))
+    (case kind 3 (eqb tag 0 && eqb low 0) Done
+    (case kind 4 (eqb tag 0 && true) (WriteInfo (record { 0 = low }))
+    (case kind 5 (eqb tag 0 && true) (Fwd (record { 0 = low }))
+    (case kind 6 (eqb tag 0 && eqb (behind low) 0) (WriteAck (record { 0 = count low })) malformed)))))
 
-pub by-words : (h l : ℕ) → l < 2 ^ 64 → messageOf (h * 2 ^ 64 + l) ≡ byWords (h / 2 ^ 20) (h % 2 ^ 20) l
+pub by-words : (head low : ℕ) → low < 2 ^ pairBits
+    → messageOf (head * 2 ^ pairBits + low) ≡ byWords (head / 2 ^ tagBits) (head % 2 ^ tagBits) low
 unfolding messageOf byWords pairOf
-by-words h l small =
-    let n = h * 2 ^ 64 + l in
+by-words head low small =
+    let n = head * 2 ^ pairBits + low in
     rw (
-      (let kind : kindOf n ≡ h / 2 ^ 20 = omega arith in kind),
-      (let tag : tagOf n ≡ h % 2 ^ 20 = omega arith in tag),
-      (let pair : counterOf n * 2 ^ 44 + clientOf n * 2 ^ 40 + entryOf n ≡ l = omega arith in pair),
-      (let count : counterOf n ≡ l / 2 ^ 44 = omega arith in count),
-      (let client : clientOf n ≡ l / 2 ^ 40 % 2 ^ 4 = omega arith in client),
-      (let content : entryOf n ≡ l % 2 ^ 40 = omega arith in content),
-      zero-low l,
-      zero-rest l,
+      (let kind : kindOf n ≡ head / 2 ^ tagBits = omega arith in kind),
+      (let tag : tagOf n ≡ head % 2 ^ tagBits = omega arith in tag),
+      (let pair : counterOf n * 2 ^ counterAt + clientOf n * 2 ^ clientAt + entryOf n ≡ low = omega arith in
+          pair),
+      (let first : counterOf n ≡ count low = omega arith in first),
+      (let second : clientOf n ≡ writer low = omega arith in second),
+      (let third : entryOf n ≡ content low = omega arith in third),
+      zero-low low,
+      zero-rest low,
     )
 
 -- as the code has them: the tag by a mask
-pub of-words-is : (w : Words) → w .1 < 2 ^ 64
-    → messageOf (wordsNumber w) ≡ byWords (w .0 / 2 ^ 20) (bitAnd (w .0) (2 ^ 20 - 1)) (w .1)
-of-words-is w small =
-    by-words (w .0) (w .1) small ∙ ap (λ (t : ℕ). byWords (w .0 / 2 ^ 20) t (w .1)) (sym (and-mask (w .0) 20))
+pub of-words-is : (words : Words) → words .1 < 2 ^ pairBits
+    → messageOf (wordsNumber words) ≡ byWords (words .0 / 2 ^ tagBits) (bitAnd (words .0) lastRead) (words .1)
+of-words-is words small =
+    by-words (words .0) (words .1) small
+    ∙ ap (λ (tag : ℕ). byWords (words .0 / 2 ^ tagBits) tag (words .1)) (sym (and-mask (words .0) tagBits))
 
 -- and the kind as it is known
-pub found-as : (w : Words) → w .1 < 2 ^ 64 → (kind : ℕ) → w .0 / 2 ^ 20 ≡ kind
-    → messageOf (wordsNumber w) ≡ byWords kind (bitAnd (w .0) (2 ^ 20 - 1)) (w .1)
-found-as w small kind e =
-    of-words-is w small ∙ ap (λ (k : ℕ). byWords k (bitAnd (w .0) (2 ^ 20 - 1)) (w .1)) e
+pub found-as : (words : Words) → words .1 < 2 ^ pairBits → (kind : ℕ) → words .0 / 2 ^ tagBits ≡ kind
+    → messageOf (wordsNumber words) ≡ byWords kind (bitAnd (words .0) lastRead) (words .1)
+found-as words small kind e =
+    of-words-is words small ∙ ap (λ (k : ℕ). byWords k (bitAnd (words .0) lastRead) (words .1)) e

@@ -1,8 +1,8 @@
 -- The message of words that are known to go up to a server, or down from one, by its kind alone.
 --
 -- Why: words that are no message go nowhere. So a kind of that way has zeros in all fields that it does not
--- use (`fine`), and what is neither of two kinds of a way is the third (`second`): the other three go the
--- other way.
+-- use (`fine`), and what is none of the three kinds of a way does not go it (`none-goes`): the other three
+-- go the other way.
 -- Assumes nothing.
 use Rattle.basics.proofs.Prelude.{_≡_, refl, Bool, true, false, cond, _&&_, ℕ, _/_, _%_, _^_, eqb, ne-eqb}
 use Rattle.basics.proofs.Cases.{true-or-false}
@@ -11,6 +11,7 @@ use Rattle.message.specs.declared.Message.the-variants.{GetInfo, Info, D
 use Rattle.message.specs.declared.Unpacked.{Unpacked}
 use Rattle.message.specs.declared.Unpacked.the-variants.{Good}
 use Rattle.message.specs.Layout.{isReply, goes, malformed}
+use Rattle.message.specs.Pair.{counterAt}
 use Rattle.message.proofs.Fields.{byWords}
 
 abbrev pub if-fine : Bool → Message → Unpacked
@@ -22,22 +23,20 @@ unfolding goes
 fine down true message g = refl
 fine down false message g = absurd (true-or-false false g refl)
 
--- of four messages, each by its test, three go the other way: the one that goes this way is the second
-second : (down b c d e w x y z : Bool) (k l m n : Message)
-    → goes down (Good k) ≡ false → goes down (Good m) ≡ false → goes down (Good n) ≡ false
-    → let all = cond b (if-fine w k)
-    (cond c (if-fine x l) (cond d (if-fine y m) (cond e (if-fine z n) malformed))) in
-    goes down all ≡ true → Good l ≡ all
+-- of three messages, each by its test, all go the other way: so none goes this way
+none-goes : (down is-one is-two is-three fine-one fine-two fine-three : Bool) (one two three : Message)
+    → goes down (Good one) ≡ false → goes down (Good two) ≡ false → goes down (Good three) ≡ false
+    → goes down (cond is-one (if-fine fine-one one)
+    (cond is-two (if-fine fine-two two) (cond is-three (if-fine fine-three three) malformed)))
+    ≡ false
 unfolding goes
-second down true c d e true x y z k l m n p q r g = absurd (true-or-false _ g p)
-second down true c d e false x y z k l m n p q r g = absurd (true-or-false false g refl)
-second down false true d e w true y z k l m n p q r g = refl
-second down false true d e w false y z k l m n p q r g = absurd (true-or-false false g refl)
-second down false false true e w x true z k l m n p q r g = absurd (true-or-false _ g q)
-second down false false true e w x false z k l m n p q r g = absurd (true-or-false false g refl)
-second down false false false true w x y true k l m n p q r g = absurd (true-or-false _ g r)
-second down false false false true w x y false k l m n p q r g = absurd (true-or-false false g refl)
-second down false false false false w x y z k l m n p q r g = absurd (true-or-false false g refl)
+none-goes down true is-two is-three true fine-two fine-three one two three p q r = p
+none-goes down true is-two is-three false fine-two fine-three one two three p q r = refl
+none-goes down false true is-three fine-one true fine-three one two three p q r = q
+none-goes down false true is-three fine-one false fine-three one two three p q r = refl
+none-goes down false false true fine-one fine-two true one two three p q r = r
+none-goes down false false true fine-one fine-two false one two three p q r = refl
+none-goes down false false false fine-one fine-two fine-three one two three p q r = refl
 
 -- by kind, tag and low bits, as the code asks
 pub kind-known : (down test : Bool) (message : Message) {found : Unpacked} → found ≡ if-fine test message
@@ -48,22 +47,20 @@ module _ (kind tag low : ℕ) where
   abbrev info : Message
   info = Info (record { 0 = tag }) (record { 0 = low })
 
-  pub last-up : (kind ≡ 1 → ⊥) → (kind ≡ 4 → ⊥) → goes false (byWords kind tag low) ≡ true
-      → Good Done ≡ byWords kind tag low
+  pub none-up : (kind ≡ 1 → ⊥) → (kind ≡ 4 → ⊥) → (kind ≡ 3 → ⊥)
+      → goes false (byWords kind tag low) ≡ true → ⊥
   unfolding byWords goes isReply
-  last-up a b g =
-      rw (ne-eqb kind 1 a, ne-eqb kind 4 b)
-      (second false (eqb kind 2) (eqb kind 3) (eqb kind 5) (eqb kind 6)
-      true (eqb tag 0 && eqb low 0) (eqb tag 0 && true) (eqb tag 0 && eqb (low % 2 ^ 44) 0)
-      info Done (Fwd (record { 0 = low })) (WriteAck (record { 0 = low / 2 ^ 44 }))
-      refl refl refl (rw (ne-eqb kind 1 a, ne-eqb kind 4 b) at g))
+  none-up a b c g =
+      true-or-false _ g (rw (ne-eqb kind 1 a, ne-eqb kind 4 b, ne-eqb kind 3 c)
+      (none-goes false (eqb kind 2) (eqb kind 5) (eqb kind 6)
+      true (eqb tag 0 && true) (eqb tag 0 && eqb (low % 2 ^ counterAt) 0)
+      info (Fwd (record { 0 = low })) (WriteAck (record { 0 = low / 2 ^ counterAt })) refl refl refl))
 
-  pub last-down : (kind ≡ 5 → ⊥) → (kind ≡ 6 → ⊥) → goes true (byWords kind tag low) ≡ true
-      → Good info ≡ byWords kind tag low
+  pub none-down : (kind ≡ 5 → ⊥) → (kind ≡ 6 → ⊥) → (kind ≡ 2 → ⊥)
+      → goes true (byWords kind tag low) ≡ true → ⊥
   unfolding byWords goes isReply
-  last-down a b g =
-      rw (ne-eqb kind 5 a, ne-eqb kind 6 b)
-      (second true (eqb kind 1) (eqb kind 2) (eqb kind 3) (eqb kind 4)
-      (eqb low 0) true (eqb tag 0 && eqb low 0) (eqb tag 0 && true)
-      (GetInfo (record { 0 = tag })) info Done (WriteInfo (record { 0 = low }))
-      refl refl refl (rw (ne-eqb kind 5 a, ne-eqb kind 6 b) at g))
+  none-down a b c g =
+      true-or-false _ g (rw (ne-eqb kind 5 a, ne-eqb kind 6 b, ne-eqb kind 2 c)
+      (none-goes true (eqb kind 1) (eqb kind 3) (eqb kind 4)
+      (eqb low 0) (eqb tag 0 && eqb low 0) (eqb tag 0 && true)
+      (GetInfo (record { 0 = tag })) Done (WriteInfo (record { 0 = low })) refl refl refl))

@@ -10,33 +10,35 @@ use Rattle.refusal.specs.Numbers.{numbered}
 use Rattle.refusal.specs.Ladder.{rising}
 use Rattle.message.specs.declared.Message.{Message}
 use Rattle.message.specs.declared.Packed.{Packed}
-use Rattle.message.specs.Layout.{wellFormed, bytesOf}
+use Rattle.message.specs.Layout.{messageBytes, wellFormed, bytesOf}
 use Rattle.message.specs.Packing.{packLadder, packAnswer, packLeaves}
 use Rattle.message.proofs.RoundTrip.{packed-length}
 
 -- the ladder stands in the table's order
-pub pack-rising : (m : Message) (s : List ℕ) → rising 0 (packLadder m s) ≡ true
-pack-rising m s = refl
+pub pack-rising : (message : Message) (out : List ℕ) → rising 0 (packLadder message out) ≡ true
+pack-rising message out = refl
 
 -- an answer, and what it leaves
 abbrev pub Packs : Message → List ℕ → Packed → List ℕ → Type 0
-Packs m s answer after = (answer ≡ packAnswer m s) × (after ≡ packLeaves m s)
+Packs message out answer after = (answer ≡ packAnswer message out) × (after ≡ packLeaves message out)
 
-module _ (m : Message) (s : List ℕ) where
-  pub malformed : wellFormed m ≡ false → Packs m s (Packed.Refused (numbered 9)) s
+module _ (message : Message) (out : List ℕ) where
+  pub malformed : wellFormed message ≡ false → Packs message out (Packed.Refused (numbered 9)) out
   unfolding packAnswer packLeaves
-  malformed w = (rw w, rw w)
+  malformed fine = (rw fine, rw fine)
 
-  pub short : wellFormed m ≡ true → length s < 11 → Packs m s (Packed.Refused (numbered 13)) s
+  pub short : wellFormed message ≡ true → length out < messageBytes
+      → Packs message out (Packed.Refused (numbered 13)) out
   unfolding packAnswer packLeaves
-  short w l = let t = lt-ltb (length s) 11 l in (rw (w, t), rw (w, t))
+  short fine less = let t = lt-ltb (length out) messageBytes less in (rw (fine, t), rw (fine, t))
 
-  pub packed : wellFormed m ≡ true → 11 ≤ length s → Packs m s Packed.Done (sets s 0 (bytesOf m))
+  pub packed : wellFormed message ≡ true → messageBytes ≤ length out
+      → Packs message out Packed.Done (sets out 0 (bytesOf message))
   unfolding packAnswer packLeaves
-  packed w l =
-      let t = le-ltb (length s) 11 l in
-      let eleven = packed-length m in
-      let stored : sets s 0 (bytesOf m) ≡ bytesOf m ++ drop 11 s =
-      sets-eq (bytesOf m) s 0 (omega arith)
-      ∙ ap (λ (n : ℕ). bytesOf m ++ drop n s) (zero-add (length (bytesOf m)) ∙ eleven) in
-      (rw (w, t), rw (w, t) stored)
+  packed fine long =
+      let t = le-ltb (length out) messageBytes long in
+      let eleven = packed-length message in
+      let stored : sets out 0 (bytesOf message) ≡ bytesOf message ++ drop messageBytes out =
+      sets-eq (bytesOf message) out 0 (omega arith)
+      ∙ ap (λ (n : ℕ). bytesOf message ++ drop n out) (zero-add (length (bytesOf message)) ∙ eleven) in
+      (rw (fine, t), rw (fine, t) stored)

@@ -15,73 +15,77 @@ use Rattle.basics.proofs.Cases.{by-test}
 use Rattle.message.specs.declared.Entry.{Entry}
 use Rattle.message.specs.declared.Pair.{Pair}
 use Rattle.message.specs.declared.WriteCounter.{WriteCounter}
-use Rattle.message.specs.Pair.{counter, client, entry, stamp, pairOf, initial, below}
+use Rattle.message.specs.Pair.{counterBits, clientBits, entryBits, stampBits, pairBits, clientAt}
+use Rattle.message.specs.Pair.{counterAt, counter, client, entry, stamp, pairOf, initial, below}
 use Rattle.message.specs.Order.{firstThen, earlier, lower}
 
 -- ---- the parts of a pair of parts
 
-module _ (c : WriteCounter) (d : ℕ) (e : Entry) (dh : d < 2 ^ 4) (eh : e .0 < 2 ^ 40) where
-  pub counter-of : counter (pairOf c d e) ≡ c
+module _ (count : WriteCounter) (d : ℕ) (content : Entry) (narrow : d < 2 ^ clientBits)
+    (small : content .0 < 2 ^ entryBits) where
+  pub counter-of : counter (pairOf count d content) ≡ count
   unfolding counter pairOf
   counter-of =
-      let h : (c .0 * 2 ^ 44 + d * 2 ^ 40 + e .0) / 2 ^ 44 ≡ c .0 = omega arith in λ i. record { 0 = h i }
+      let h : pairOf count d content .0 / 2 ^ counterAt ≡ count .0 = omega arith in
+      λ i. record { 0 = h i }
 
-  pub client-of : client (pairOf c d e) ≡ d
+  pub client-of : client (pairOf count d content) ≡ d
   unfolding client pairOf
   client-of = omega arith
 
-  pub entry-of : entry (pairOf c d e) ≡ e
+  pub entry-of : entry (pairOf count d content) ≡ content
   unfolding entry pairOf
   entry-of =
-      let h : (c .0 * 2 ^ 44 + d * 2 ^ 40 + e .0) % 2 ^ 40 ≡ e .0 = omega arith in λ i. record { 0 = h i }
+      let h : pairOf count d content .0 % 2 ^ entryBits ≡ content .0 = omega arith in
+      λ i. record { 0 = h i }
 
-  pub stamp-of : stamp (pairOf c d e) ≡ c .0 * 16 + d
+  pub stamp-of : stamp (pairOf count d content) ≡ count .0 * 2 ^ clientBits + d
   unfolding stamp pairOf
   stamp-of = omega arith
 
-  pub pair-fits : c .0 < 2 ^ 20 → pairOf c d e .0 < 2 ^ 64
+  pub pair-fits : count .0 < 2 ^ counterBits → pairOf count d content .0 < 2 ^ pairBits
   unfolding pairOf
   pair-fits h = omega arith
 
 -- ---- a pair is its parts, each within its width
 
-pub parts : (p : Pair) → pairOf (counter p) (client p) (entry p) ≡ p
+pub parts : (pair : Pair) → pairOf (counter pair) (client pair) (entry pair) ≡ pair
 unfolding pairOf counter client entry
-parts p =
-    let h : p .0 / 2 ^ 44 * 2 ^ 44 + p .0 / 2 ^ 40 % 2 ^ 4 * 2 ^ 40 + p .0 % 2 ^ 40 ≡ p .0 = omega arith in
+parts pair =
+    let h : pairOf (counter pair) (client pair) (entry pair) .0 ≡ pair .0 = omega arith in
     λ i. record { 0 = h i }
 
-pub stamp-is : (p : Pair) → stamp p ≡ counter p .0 * 16 + client p
+pub stamp-is : (pair : Pair) → stamp pair ≡ counter pair .0 * 2 ^ clientBits + client pair
 unfolding stamp counter client
-stamp-is p = omega arith
+stamp-is pair = omega arith
 
-pub number-is : (p : Pair) → p .0 ≡ stamp p * 2 ^ 40 + entry p .0
+pub number-is : (pair : Pair) → pair .0 ≡ stamp pair * 2 ^ clientAt + entry pair .0
 unfolding stamp entry
-number-is p = sym (split (p .0) 40)
+number-is pair = sym (split (pair .0) entryBits)
 
-pub counter-fits : (p : Pair) → p .0 < 2 ^ 64 → counter p .0 < 2 ^ 20
+pub counter-fits : (pair : Pair) → pair .0 < 2 ^ pairBits → counter pair .0 < 2 ^ counterBits
 unfolding counter
-counter-fits p h = shr-lt 20 44 h
+counter-fits pair h = shr-lt counterBits counterAt h
 
-pub client-fits : (p : Pair) → client p < 2 ^ 4
+pub client-fits : (pair : Pair) → client pair < 2 ^ clientBits
 unfolding client
-client-fits p = mod-lt (p .0 / 2 ^ 40) (pow-pos 4)
+client-fits pair = mod-lt (pair .0 / 2 ^ clientAt) (pow-pos clientBits)
 
-pub entry-fits : (p : Pair) → entry p .0 < 2 ^ 40
+pub entry-fits : (pair : Pair) → entry pair .0 < 2 ^ entryBits
 unfolding entry
-entry-fits p = mod-lt (p .0) (pow-pos 40)
+entry-fits pair = mod-lt (pair .0) (pow-pos entryBits)
 
-pub stamp-fits : (p : Pair) → p .0 < 2 ^ 64 → stamp p < 2 ^ 24
+pub stamp-fits : (pair : Pair) → pair .0 < 2 ^ pairBits → stamp pair < 2 ^ stampBits
 unfolding stamp
-stamp-fits p h = shr-lt 24 40 h
+stamp-fits pair h = shr-lt stampBits clientAt h
 
 -- a number is one pair only
-pub same-number : (p q : Pair) → p .0 ≡ q .0 → p ≡ q
-same-number p q h = λ i. record { 0 = h i }
+pub same-number : (pair other : Pair) → pair .0 ≡ other .0 → pair ≡ other
+same-number pair other h = λ i. record { 0 = h i }
 
-pub client-of-stamp : (p : Pair) → client p ≡ stamp p % 16
+pub client-of-stamp : (pair : Pair) → client pair ≡ stamp pair % 2 ^ clientBits
 unfolding client stamp
-client-of-stamp p = refl
+client-of-stamp pair = refl
 
 -- 01: 'The start is the empty entry at counter 0, desk 0'
 pub initial-parts : pairOf (record { 0 = 0 }) 0 (record { 0 = 0 }) ≡ initial
@@ -95,10 +99,11 @@ initial-stamp = refl
 -- ---- the order
 
 -- the pair with the higher timestamp is the higher
-pub stamp-lt : (p q : Pair) → stamp p < stamp q → p .0 < q .0
-stamp-lt p q h =
-    let k : stamp p * 2 ^ 40 + entry p .0 < stamp q * 2 ^ 40 = digits-lt h (entry-fits p) in
-    omega (arith, number-is p, number-is q)
+pub stamp-lt : (pair other : Pair) → stamp pair < stamp other → pair .0 < other .0
+stamp-lt pair other h =
+    let k : stamp pair * 2 ^ clientAt + entry pair .0 < stamp other * 2 ^ clientAt =
+    digits-lt h (entry-fits pair) in
+    omega (arith, number-is pair, number-is other)
 
 -- two digits: the first decides, and the second where the first are equal
 same-first : (n r s : ℕ) → ltb (n + r) (n + s) ≡ ltb r s
@@ -121,29 +126,30 @@ digits-order a b r s m rh sh =
     rw (e, eq-eqb a b q) (ap (λ (n : ℕ). ltb (n * m + r) (b * m + s)) q ∙ same-first (b * m) r s)))
 
 -- timestamps by counter, then client: the order of their numbers
-pub earlier-is : (p q : Pair) → earlier p q ≡ ltb (stamp p) (stamp q)
+pub earlier-is : (pair other : Pair) → earlier pair other ≡ ltb (stamp pair) (stamp other)
 unfolding earlier
-earlier-is p q =
-    rw (stamp-is p, stamp-is q)
-    (sym (digits-order (counter p .0) (counter q .0) (client p) (client q) 16
-    (client-fits p) (client-fits q)))
+earlier-is pair other =
+    rw (stamp-is pair, stamp-is other)
+    (sym (digits-order (counter pair .0) (counter other .0) (client pair) (client other) (2 ^ clientBits)
+    (client-fits pair) (client-fits other)))
 
 -- pairs by counter, then client, then entry: the order of their numbers
-rest-fits : (p : Pair) → client p * 2 ^ 40 + entry p .0 < 2 ^ 44
-rest-fits p = digits-lt {c = 2 ^ 40} (client-fits p) (entry-fits p)
+rest-fits : (pair : Pair) → client pair * 2 ^ clientAt + entry pair .0 < 2 ^ counterAt
+rest-fits pair = digits-lt {c = 2 ^ entryBits} (client-fits pair) (entry-fits pair)
 
-three-parts : (p : Pair) → counter p .0 * 2 ^ 44 + (client p * 2 ^ 40 + entry p .0) ≡ p .0
+three-parts : (pair : Pair)
+    → counter pair .0 * 2 ^ counterAt + (client pair * 2 ^ clientAt + entry pair .0) ≡ pair .0
 unfolding counter client entry
-three-parts p = omega arith
+three-parts pair = omega arith
 
-pub lower-is : (p q : Pair) → lower p q ≡ below p q
+pub lower-is : (pair other : Pair) → lower pair other ≡ below pair other
 unfolding lower
-lower-is p q =
+lower-is pair other =
     let first =
-    digits-order (counter p .0) (counter q .0) (client p * 2 ^ 40 + entry p .0)
-    (client q * 2 ^ 40 + entry q .0) (2 ^ 44) (rest-fits p) (rest-fits q) in
+    digits-order (counter pair .0) (counter other .0) (client pair * 2 ^ clientAt + entry pair .0)
+    (client other * 2 ^ clientAt + entry other .0) (2 ^ counterAt) (rest-fits pair) (rest-fits other) in
     let second =
-    digits-order (client p) (client q) (entry p .0) (entry q .0) (2 ^ 40) (entry-fits p) (entry-fits q) in
-    ap (λ (t : Bool). firstThen (counter p .0) (counter q .0) t) (sym second) ∙ sym first
-    ∙ ap (λ (n : ℕ). ltb n (counter q .0 * 2 ^ 44 + (client q * 2 ^ 40 + entry q .0))) (three-parts p)
-    ∙ ap (λ (n : ℕ). ltb (p .0) n) (three-parts q)
+    digits-order (client pair) (client other) (entry pair .0) (entry other .0) (2 ^ entryBits)
+    (entry-fits pair) (entry-fits other) in
+    ap (λ (t : Bool). firstThen (counter pair .0) (counter other .0) t) (sym second) ∙ sym first
+    ∙ rw (three-parts pair, three-parts other)

@@ -13,70 +13,77 @@ use Rattle.basics.proofs.Bytes.{bytes-length, bytes-are, spelt-is, bytes-back}
 use Rattle.basics.proofs.Cases.{by-test, both}
 use Rattle.message.specs.declared.Message.{Message}
 use Rattle.message.specs.declared.Unpacked.the-variants.{Good}
-use Rattle.message.specs.Layout.{numberOf, malformed, messageOf, wellFormed, bytesOf, unpackOf, words}
-use Rattle.message.specs.Layout.{wordsNumber, wordsOf}
+use Rattle.message.specs.Layout.{messageBytes, numberOf, malformed, messageOf, wellFormed, bytesOf}
+use Rattle.message.specs.Layout.{unpackOf, words, wordsNumber, wordsOf}
+use Rattle.message.specs.Pair.{pairBits}
 use Rattle.message.proofs.Numbers.{number-words, head-lt, low-lt, found, only, no-message}
 use Rattle.message.proofs.Numbers.{words-number}
 
 -- every message's number has 88 bits
-pub number-lt : (m : Message) → numberOf m < 256 ^ 11
-number-lt m = omega (arith, number-words m, head-lt m, low-lt m)
+pub number-lt : (message : Message) → numberOf message < 256 ^ messageBytes
+number-lt message = omega (arith, number-words message, head-lt message, low-lt message)
 
 -- eleven bytes are tested no further
-pub unpack-bytes : (s : List ℕ) → length s ≡ 11 → areBytes s ≡ true → unpackOf s ≡ messageOf (spelt 0 s)
+pub unpack-bytes : (bytes : List ℕ) → length bytes ≡ messageBytes → areBytes bytes ≡ true
+    → unpackOf bytes ≡ messageOf (spelt 0 bytes)
 unfolding unpackOf
-unpack-bytes s l b = rw (eq-eqb (length s) 11 l, b)
+unpack-bytes bytes eleven small = rw (eq-eqb (length bytes) messageBytes eleven, small)
 
 -- a message within its widths packs into eleven bytes
-pub packed-length : (m : Message) → length (bytesOf m) ≡ 11
-packed-length m = bytes-length 11 (numberOf m)
+pub packed-length : (message : Message) → length (bytesOf message) ≡ messageBytes
+packed-length message = bytes-length messageBytes (numberOf message)
 
 -- .. that unpack to it
-pub unpack-pack : (m : Message) → wellFormed m ≡ true → unpackOf (bytesOf m) ≡ Good m
-unpack-pack m w =
-    unpack-bytes (bytesOf m) (packed-length m) (bytes-are 11 (numberOf m))
-    ∙ ap messageOf (spelt-is 11 (numberOf m) (number-lt m)) ∙ found m w
+pub unpack-pack : (message : Message) → wellFormed message ≡ true → unpackOf (bytesOf message) ≡ Good message
+unpack-pack message within =
+    unpack-bytes (bytesOf message) (packed-length message) (bytes-are messageBytes (numberOf message))
+    ∙ ap messageOf (spelt-is messageBytes (numberOf message) (number-lt message)) ∙ found message within
 
 -- numbers that unpack to a message are its packing, and it is within its widths
-pub record Unpacks (s : List ℕ) (m : Message) : Type 0 where
-  pub packing : bytesOf m ≡ s
-  pub within : wellFormed m ≡ true
+pub record Unpacks (bytes : List ℕ) (message : Message) : Type 0 where
+  pub packing : bytesOf message ≡ bytes
+  pub within : wellFormed message ≡ true
 
-pub pack-unpack : (s : List ℕ) (m : Message) → unpackOf s ≡ Good m → Unpacks s m
+pub pack-unpack : (bytes : List ℕ) (message : Message) → unpackOf bytes ≡ Good message → Unpacks bytes message
 unfolding unpackOf
-pack-unpack s m e =
-    by-test (eqb (length s) 11 && areBytes s)
-    (λ t. let p = both (eqb (length s) 11) (areBytes s) t in
-    let l : length s ≡ 11 = eqb-true (length s) 11 (p .0) in
-    let f = only (spelt 0 s) m (rw t at e) in
+pack-unpack bytes message e =
+    by-test (eqb (length bytes) messageBytes && areBytes bytes)
+    (λ t. let p = both (eqb (length bytes) messageBytes) (areBytes bytes) t in
+    let eleven : length bytes ≡ messageBytes = eqb-true (length bytes) messageBytes (p .0) in
+    let f = only (spelt 0 bytes) message (rw t at e) in
     record {
       packing =
-          ap (λ (n : ℕ). bigEndian 11 n) (f .number) ∙ ap (λ (k : ℕ). bigEndian k (spelt 0 s)) (sym l)
-          ∙ bytes-back 0 s (p .1);
+          ap (λ (n : ℕ). bigEndian messageBytes n) (f .number)
+          ∙ ap (λ (k : ℕ). bigEndian k (spelt 0 bytes)) (sym eleven) ∙ bytes-back 0 bytes (p .1);
       within = f .within;
     })
-    (λ t. absurd (no-message m (rw t at e)))
+    (λ t. absurd (no-message message (rw t at e)))
 
 -- so a message unpacks from one list only, and one list to one message only
-pub one-packing : (s t : List ℕ) (m : Message) → unpackOf s ≡ Good m → unpackOf t ≡ Good m → s ≡ t
-one-packing s t m p q = sym (pack-unpack s m p .packing) ∙ pack-unpack t m q .packing
+pub one-packing : (bytes others : List ℕ) (message : Message) → unpackOf bytes ≡ Good message
+    → unpackOf others ≡ Good message → bytes ≡ others
+one-packing bytes others message p q =
+    sym (pack-unpack bytes message p .packing) ∙ pack-unpack others message q .packing
 
 -- what is refused is no message's packing
-pub refused-none : (s : List ℕ) (m : Message) → unpackOf s ≡ malformed → wellFormed m ≡ true
-    → bytesOf m ≡ s → ⊥
-refused-none s m b w e = no-message m (sym b ∙ ap unpackOf (sym e) ∙ unpack-pack m w)
+pub refused-none : (bytes : List ℕ) (message : Message) → unpackOf bytes ≡ malformed
+    → wellFormed message ≡ true → bytesOf message ≡ bytes → ⊥
+refused-none bytes message bad within e =
+    no-message message (sym bad ∙ ap unpackOf (sym e) ∙ unpack-pack message within)
 
 -- ---- by words: what `words_of`, `store`, `load` and `of_words` do one after the other
 
 -- its packing spells its number
-pub packing-spells : (m : Message) → spelt 0 (bytesOf m) ≡ numberOf m
-packing-spells m = spelt-is 11 (numberOf m) (number-lt m)
+pub packing-spells : (message : Message) → spelt 0 (bytesOf message) ≡ numberOf message
+packing-spells message = spelt-is messageBytes (numberOf message) (number-lt message)
 
 -- its words are its own
-pub of-words-of : (m : Message) → wellFormed m ≡ true → messageOf (wordsNumber (wordsOf m)) ≡ Good m
-of-words-of m w = ap messageOf (words-number m) ∙ found m w
+pub of-words-of : (message : Message) → wellFormed message ≡ true
+    → messageOf (wordsNumber (wordsOf message)) ≡ Good message
+of-words-of message within = ap messageOf (words-number message) ∙ found message within
 
 -- the words of eleven bytes hold the message that the bytes unpack to
-pub of-words-unpacks : (s : List ℕ) → length s ≡ 11 → areBytes s ≡ true
-    → messageOf (wordsNumber (words (spelt 0 s))) ≡ unpackOf s
-of-words-unpacks s l b = ap messageOf (split (spelt 0 s) 64) ∙ sym (unpack-bytes s l b)
+pub of-words-unpacks : (bytes : List ℕ) → length bytes ≡ messageBytes → areBytes bytes ≡ true
+    → messageOf (wordsNumber (words (spelt 0 bytes))) ≡ unpackOf bytes
+of-words-unpacks bytes eleven small =
+    ap messageOf (split (spelt 0 bytes) pairBits) ∙ sym (unpack-bytes bytes eleven small)

@@ -13,6 +13,7 @@ use lib.Dec.{eqb, ltb}
 use lib.ListN.{length}
 use lib.Pow.{areBytes}
 use Rattle.basics.specs.Bytes.{bigEndian, spelt}
+use Rattle.basics.specs.Fields.{Place, field, placed}
 use Rattle.refusal.specs.Numbers.{numbered}
 use Rattle.message.specs.declared.Message.{Message}
 use Rattle.message.specs.declared.Message.the-variants.{GetInfo, Info, Done, WriteInfo, Fwd, WriteAck}
@@ -22,7 +23,7 @@ use Rattle.message.specs.declared.Unpacked.{Unpacked}
 use Rattle.message.specs.declared.Unpacked.the-variants.{Good, Refused}
 use Rattle.message.specs.declared.Words.{Words}
 use Rattle.message.specs.declared.WriteCounter.{WriteCounter}
-use Rattle.message.specs.Pair.{clientAt, counterAt, counter, client, entry, pairOf}
+use Rattle.message.specs.Pair.{pairBits, clientAt, counterAt, counter, client, entry, pairOf}
 pub use Rattle.message.specs.Pair.{counterBits, clientBits, entryBits}
 
 -- ---- the fields
@@ -43,45 +44,59 @@ lastCounter = 2 ^ counterBits - 1
 
 -- how many bits stand behind the tag, which are the pair's, and behind the kind
 abbrev pub tagAt : ℕ
-tagAt = counterAt + counterBits
+tagAt = pairBits
 
 abbrev pub kindAt : ℕ
 kindAt = tagAt + tagBits
+
+-- how many bits stand before the pair's: those of a message's first word
+abbrev pub headBits : ℕ
+headBits = kindBits + tagBits
 
 -- the bytes of a message: 11
 abbrev pub messageBytes : ℕ
 messageBytes = (kindAt + kindBits) / 8
 
--- the field of w bits in a number, and the last w bits of a value put there
-abbrev pub field : ℕ → ℕ → ℕ → ℕ
-field at w n = n / 2 ^ at % 2 ^ w
+-- where each field stands
+abbrev pub tagPlace : Place
+tagPlace = record { width = tagBits; offset = tagAt }
 
-abbrev pub placed : ℕ → ℕ → ℕ → ℕ
-placed at w v = v % 2 ^ w * 2 ^ at
+abbrev pub counterPlace : Place
+counterPlace = record { width = counterBits; offset = counterAt }
+
+abbrev pub clientPlace : Place
+clientPlace = record { width = clientBits; offset = clientAt }
+
+abbrev pub entryPlace : Place
+entryPlace = record { width = entryBits; offset = 0 }
 
 -- the fields of a number; the kind is all that stands before the others
 abbrev pub kindOf : ℕ → ℕ
-kindOf n = n / 2 ^ kindAt
+kindOf number = number / 2 ^ kindAt
 
 abbrev pub tagOf : ℕ → ℕ
-tagOf = field tagAt tagBits
+tagOf = field tagPlace
 
 abbrev pub counterOf : ℕ → ℕ
-counterOf = field counterAt counterBits
+counterOf = field counterPlace
 
 abbrev pub clientOf : ℕ → ℕ
-clientOf = field clientAt clientBits
+clientOf = field clientPlace
 
 abbrev pub entryOf : ℕ → ℕ
-entryOf = field 0 entryBits
+entryOf = field entryPlace
+
+-- the last bits of a value, as many as a place has, moved to it
+abbrev pub lastBits : Place → ℕ → ℕ
+lastBits place value = placed place (value % 2 ^ place .width)
 
 -- ---- the number of a message
 
 -- the number of a kind and its fields: tag, counter, client, entry
 abbrev pub joined : ℕ → ℕ → ℕ → ℕ → ℕ → ℕ
 joined kind tag count d content =
-    kind * 2 ^ kindAt + placed tagAt tagBits tag + placed counterAt counterBits count
-    + placed clientAt clientBits d + placed 0 entryBits content
+    kind * 2 ^ kindAt + lastBits tagPlace tag + lastBits counterPlace count
+    + lastBits clientPlace d + lastBits entryPlace content
 
 -- 'Kinds and the fields they use .. A field not used is zero.'
 unfoldable pub numberOf : Message → ℕ
@@ -96,13 +111,13 @@ numberOf (WriteAck count) = joined 6 0 (count .0) 0 0
 
 -- the fields as what they mean
 abbrev pub readNumberOf : ℕ → ReadNumber
-readNumberOf n = record { 0 = tagOf n }
+readNumberOf number = record { 0 = tagOf number }
 
 abbrev pub writeCounterOf : ℕ → WriteCounter
-writeCounterOf n = record { 0 = counterOf n }
+writeCounterOf number = record { 0 = counterOf number }
 
 abbrev pub pairIn : ℕ → Pair
-pairIn n = pairOf (writeCounterOf n) (clientOf n) (record { 0 = entryOf n })
+pairIn number = pairOf (writeCounterOf number) (clientOf number) (record { 0 = entryOf number })
 
 -- what is no message is refused 9
 abbrev pub malformed : Unpacked
@@ -111,23 +126,24 @@ malformed = Refused (numbered 9)
 -- every number of the list is zero
 abbrev pub zeros : List ℕ → Bool
 zeros [] = true
-zeros (x ∷ xs) = eqb x 0 && zeros xs
+zeros (value ∷ values) = eqb value 0 && zeros values
 
 -- a number of this kind is the message if the fields that the kind does not use are zero; a number of another
 -- kind is `other`
 abbrev pub kind : ℕ → ℕ → List ℕ → Message → Unpacked → Unpacked
-kind n number unused message other =
-    cond (eqb (kindOf n) number) (cond (zeros unused) (Good message) malformed) other
+kind number expected unused message other =
+    cond (eqb (kindOf number) expected) (cond (zeros unused) (Good message) malformed) other
 
 -- kind, unused fields, and the message of the used ones
 unfoldable pub messageOf : ℕ → Unpacked
-messageOf n =
-    kind n 1 (counterOf n ∷ clientOf n ∷ entryOf n ∷ []) (GetInfo (readNumberOf n))
-    (kind n 2 [] (Info (readNumberOf n) (pairIn n))
-    (kind n 3 (tagOf n ∷ counterOf n ∷ clientOf n ∷ entryOf n ∷ []) Done
-    (kind n 4 (tagOf n ∷ []) (WriteInfo (pairIn n))
-    (kind n 5 (tagOf n ∷ []) (Fwd (pairIn n))
-    (kind n 6 (tagOf n ∷ clientOf n ∷ entryOf n ∷ []) (WriteAck (writeCounterOf n)) malformed)))))
+messageOf number =
+    kind number 1 (counterOf number ∷ clientOf number ∷ entryOf number ∷ []) (GetInfo (readNumberOf number))
+    (kind number 2 [] (Info (readNumberOf number) (pairIn number))
+    (kind number 3 (tagOf number ∷ counterOf number ∷ clientOf number ∷ entryOf number ∷ []) Done
+    (kind number 4 (tagOf number ∷ []) (WriteInfo (pairIn number))
+    (kind number 5 (tagOf number ∷ []) (Fwd (pairIn number))
+    (kind number 6 (tagOf number ∷ clientOf number ∷ entryOf number ∷ []) (WriteAck (writeCounterOf number))
+    malformed)))))
 
 -- ---- kinds and widths
 
@@ -144,7 +160,13 @@ isReply (WriteAck count) = true
 unfoldable pub goes : Bool → Unpacked → Bool
 unfolding isReply
 goes down (Good message) = cond down (isReply message) (not (isReply message))
-goes down (Refused refusal) = false
+goes down (Refused why) = false
+
+abbrev pub goesUp : Unpacked → Bool
+goesUp = goes false
+
+abbrev pub goesDown : Unpacked → Bool
+goesDown = goes true
 
 -- no field of the message is over its width; those of a pair are not if its number has 64 bits
 unfoldable pub wellFormed : Message → Bool
@@ -168,7 +190,7 @@ unpackOf bytes =
 
 -- a number in two words, the pair's 64 bits and those before, and back
 abbrev pub words : ℕ → Words
-words n = record { 0 = n / 2 ^ tagAt; 1 = n % 2 ^ tagAt }
+words number = record { 0 = number / 2 ^ tagAt; 1 = number % 2 ^ tagAt }
 
 abbrev pub wordsNumber : Words → ℕ
 wordsNumber pieces = pieces .0 * 2 ^ tagAt + pieces .1

@@ -12,13 +12,14 @@ use Rattle.message.specs.Pair.{counter, client, entry}
 
 -- a lower first part, or the same one and a lower rest
 abbrev pub firstThen : ℕ → ℕ → Bool → Bool
-firstThen a b rest = ltb a b || (eqb a b && rest)
+firstThen first second rest = ltb first second || (eqb first second && rest)
 
--- p has the lower timestamp: by counter first, then by client
+-- the first has the lower timestamp: by counter first, then by client
 unfoldable pub earlier : Pair → Pair → Bool
-earlier p q = firstThen (counter p .0) (counter q .0) (ltb (client p) (client q))
+earlier pair other = firstThen (counter pair .0) (counter other .0) (ltb (client pair) (client other))
 
--- p is the lower pair: by timestamp, then by entry
+-- the first is the lower pair: by timestamp, then by entry
 unfoldable pub lower : Pair → Pair → Bool
-lower p q =
-    firstThen (counter p .0) (counter q .0) (firstThen (client p) (client q) (ltb (entry p .0) (entry q .0)))
+lower pair other =
+    firstThen (counter pair .0) (counter other .0)
+    (firstThen (client pair) (client other) (ltb (entry pair .0) (entry other .0)))

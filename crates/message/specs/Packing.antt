@@ -23,7 +23,7 @@ packLadder message out =
 -- 01's answer: packed, or refused 9, 'misprint', or 13, 'short sheet'
 abbrev pub answered : Option Refusal → Packed
 answered none = Packed.Done
-answered (some r) = Packed.Refused r
+answered (some why) = Packed.Refused why
 
 unfoldable pub packAnswer : Message → List ℕ → Packed
 packAnswer message out = answered (lowest (packLadder message out))
@@ -31,7 +31,7 @@ packAnswer message out = answered (lowest (packLadder message out))
 -- the buffer: the message's bytes in front of what stood behind them, or, refused, what it was
 abbrev pub kept : Option Refusal → List ℕ → List ℕ → List ℕ
 kept none out bytes = bytes ++ drop messageBytes out
-kept (some r) out bytes = out
+kept (some why) out bytes = out
 
 unfoldable pub packLeaves : Message → List ℕ → List ℕ
 packLeaves message out = kept (lowest (packLadder message out)) out (bytesOf message)

@@ -14,7 +14,7 @@ use Rattle.message.specs.declared.Entry.{Entry}
 use Rattle.message.specs.declared.Pair.{Pair}
 use Rattle.message.specs.declared.WriteCounter.{WriteCounter}
 
--- how many bits each part has
+-- how many bits each part has, the timestamp, and the pair
 abbrev pub counterBits : ℕ
 counterBits = 20
 
@@ -23,6 +23,12 @@ clientBits = 4
 
 abbrev pub entryBits : ℕ
 entryBits = 40
+
+abbrev pub stampBits : ℕ
+stampBits = counterBits + clientBits
+
+abbrev pub pairBits : ℕ
+pairBits = stampBits + entryBits
 
 -- how many bits stand behind the client, and behind the counter
 abbrev pub clientAt : ℕ

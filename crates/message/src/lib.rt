@@ -12,6 +12,7 @@ ghost use Rattle.message.specs.Layout.{words, wordsNumber, wordsOf};
 ghost use Rattle.message.specs.Packing.{packAnswer, packLeaves};
 ghost use Rattle.message.specs.Pair.{counterBits, clientBits, entryBits};
 ghost use Rattle.message.specs.Pair.{counter, client, entry, stamp, pairOf, below};
+use basics::OVER_32;
 use refusal::Refusal;
 
 // The number of a client's read (01: the tag). Never a write counter, although document 001 calls both
@@ -57,38 +58,50 @@ pub enum Packed {
 }
 
 // The bytes of a message's first word, of its second, and of all.
-const HEAD_BYTES: usize = 3;
+pub const HEAD_BYTES: usize = 3;
 
 const LOW_BYTES: usize = 8;
 
 pub const MESSAGE_BYTES: usize = HEAD_BYTES + LOW_BYTES;
 
-// The bits behind the kind in the first word, and behind counter and client in the second.
-const KIND_AT: u32 = 20;
+// How many bits each field has.
+pub const KIND_BITS: u32 = 4;
 
-const COUNTER_AT: u32 = 44;
+pub const TAG_BITS: u32 = 20;
 
-const CLIENT_AT: u32 = 40;
+pub const COUNTER_BITS: u32 = 20;
 
-// The bits of a tag or counter, and the first number over its width.
-const TWENTY_BITS: u32 = 0xF_FFFF;
+pub const CLIENT_BITS: u32 = 4;
 
-const OVER_TWENTY: u32 = TWENTY_BITS + 1;
+pub const ENTRY_BITS: u32 = 40;
 
-// The bits of a client, of an entry, and all behind the counter.
-const CLIENT_BITS: u64 = 0xF;
+// The bits behind the kind in the first word, and behind client and counter in the second.
+pub const KIND_AT: u32 = TAG_BITS;
 
-const ENTRY_BITS: u64 = 0xFF_FFFF_FFFF;
+const CLIENT_AT: u32 = ENTRY_BITS;
 
-const BEHIND_COUNTER: u64 = 0xFFF_FFFF_FFFF;
+const COUNTER_AT: u32 = CLIENT_AT + CLIENT_BITS;
 
-// The highest read number, and the highest write counter.
-const LAST_READ: u32 = TWENTY_BITS;
+// The highest of each width, which is also its mask, and all bits behind the counter.
+const TAG_MASK: u32 = (1 << TAG_BITS) - 1;
 
-const LAST_COUNTER: u32 = TWENTY_BITS;
+const COUNTER_MASK: u32 = (1 << COUNTER_BITS) - 1;
 
-// A number of 32 bits is below this.
-const OVER_32: u64 = 0x1_0000_0000;
+const CLIENT_MASK: u64 = (1 << CLIENT_BITS) - 1;
+
+const ENTRY_MASK: u64 = (1 << ENTRY_BITS) - 1;
+
+const BEHIND_COUNTER: u64 = (1 << COUNTER_AT) - 1;
+
+// The highest read number (the tag is one), and the highest write counter.
+const LAST_READ: u32 = TAG_MASK;
+
+const LAST_COUNTER: u32 = COUNTER_MASK;
+
+// The first numbers over the widths of tag and counter.
+const OVER_TAG: u32 = TAG_MASK + 1;
+
+const OVER_COUNTER: u32 = COUNTER_MASK + 1;
 
 // ---- read numbers
 
@@ -116,7 +129,7 @@ pub fn next_read(tag: ReadNumber) -> ReadNumber
 pub fn fits_read(word: u64) -> bool
     ensures { λ r. ⌜ r ≡ ltb word (2 ^ tagBits) ⌝ }
 {
-    word < OVER_TWENTY as u64
+    word < OVER_TAG as u64
 }
 
 // The read number of a word, of which the low 32 bits count, and its word.
@@ -158,7 +171,7 @@ pub fn next_counter(count: WriteCounter) -> WriteCounter
 pub fn fits_counter(word: u64) -> bool
     ensures { λ r. ⌜ r ≡ ltb word (2 ^ counterBits) ⌝ }
 {
-    word < OVER_TWENTY as u64
+    word < OVER_COUNTER as u64
 }
 
 // The counter of a word, of which the low 32 bits count, and its word.
@@ -185,13 +198,13 @@ pub fn counter_of(pair: Pair) -> WriteCounter
 pub fn client_of(pair: Pair) -> u8
     ensures { λ r. ⌜ r ≡ client pair ⌝ }
 {
-    ((pair.0 >> CLIENT_AT) & CLIENT_BITS) as u8
+    ((pair.0 >> CLIENT_AT) & CLIENT_MASK) as u8
 }
 
 pub fn entry_of(pair: Pair) -> Entry
     ensures { λ r. ⌜ r ≡ entry pair ⌝ }
 {
-    Entry(pair.0 & ENTRY_BITS)
+    Entry(pair.0 & ENTRY_MASK)
 }
 
 pub fn stamp_of(pair: Pair) -> Timestamp
@@ -229,7 +242,7 @@ fn head(kind: u32, tag: u32) -> u32
     requires { ⌜ kind < 2 ^ kindBits ⌝ }
     ensures { λ r. ⌜ r ≡ kind * 2 ^ tagBits + tag % 2 ^ tagBits ⌝ }
 {
-    (kind << KIND_AT) | (tag & TWENTY_BITS)
+    (kind << KIND_AT) | (tag & TAG_MASK)
 }
 
 // The number of a message. A tag or counter over its width loses bits here; `pack` refuses it.
@@ -244,7 +257,7 @@ pub fn words_of(message: Message) -> Words
         Message::Fwd(pair) => Words(head(5, 0), pair.0),
         Message::WriteAck(count) => Words(
             head(6, 0),
-            ((count.0 & TWENTY_BITS) as u64) << COUNTER_AT,
+            ((count.0 & COUNTER_MASK) as u64) << COUNTER_AT,
         ),
     }
 }
@@ -267,7 +280,7 @@ pub fn of_words(words: Words) -> Unpacked
     ensures { λ r. ⌜ r ≡ messageOf (wordsNumber words) ⌝ }
 {
     let kind = words.0 >> KIND_AT;
-    let tag = words.0 & TWENTY_BITS;
+    let tag = words.0 & TAG_MASK;
     let low = words.1;
     match kind {
         1 => if_zero(0, low, Message::GetInfo(ReadNumber(tag))),
@@ -285,19 +298,22 @@ pub fn of_words(words: Words) -> Unpacked
 }
 
 // The message of a number that is known to go up to a server, or down from one, as on a sound channel: the
-// kind alone tells which.
+// kind alone tells which. By what is known no other kind comes here, so the last line is never reached.
 pub fn request_of(words: Words) -> Unpacked
     requires { ⌜ goes false (messageOf (wordsNumber words)) ≡ true ⌝ }
     ensures { λ r. ⌜ r ≡ messageOf (wordsNumber words) ⌝ }
 {
     let kind = words.0 >> KIND_AT;
     if kind == 1 {
-        return Unpacked::Good(Message::GetInfo(ReadNumber(words.0 & TWENTY_BITS)));
+        return Unpacked::Good(Message::GetInfo(ReadNumber(words.0 & TAG_MASK)));
     }
     if kind == 4 {
         return Unpacked::Good(Message::WriteInfo(Pair(words.1)));
     }
-    Unpacked::Good(Message::Done)
+    if kind == 3 {
+        return Unpacked::Good(Message::Done);
+    }
+    Unpacked::Refused(Refusal::Malformed)
 }
 
 pub fn reply_of(words: Words) -> Unpacked
@@ -312,7 +328,10 @@ pub fn reply_of(words: Words) -> Unpacked
         let counter = WriteCounter((words.1 >> COUNTER_AT) as u32);
         return Unpacked::Good(Message::WriteAck(counter));
     }
-    Unpacked::Good(Message::Info(ReadNumber(words.0 & TWENTY_BITS), Pair(words.1)))
+    if kind == 2 {
+        return Unpacked::Good(Message::Info(ReadNumber(words.0 & TAG_MASK), Pair(words.1)));
+    }
+    Unpacked::Refused(Refusal::Malformed)
 }
 
 // ---- words as bytes
@@ -388,12 +407,12 @@ pub fn is_well_formed(message: Message) -> bool
     ensures { λ r. ⌜ r ≡ wellFormed message ⌝ }
 {
     match message {
-        Message::GetInfo(tag) => tag.0 < OVER_TWENTY,
-        Message::Info(tag, _pair) => tag.0 < OVER_TWENTY,
+        Message::GetInfo(tag) => tag.0 < OVER_TAG,
+        Message::Info(tag, _pair) => tag.0 < OVER_TAG,
         Message::Done => true,
         Message::WriteInfo(_pair) => true,
         Message::Fwd(_pair) => true,
-        Message::WriteAck(count) => count.0 < OVER_TWENTY,
+        Message::WriteAck(count) => count.0 < OVER_COUNTER,
     }
 }
 

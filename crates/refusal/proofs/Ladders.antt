@@ -24,41 +24,42 @@ use Rattle.refusal.specs.Ladder.{Rung, _whenever_, lowest}
 -- no rung applies
 abbrev pub NoneApplies : List Rung → Type 0
 NoneApplies [] = Unit {0}
-NoneApplies (x ∷ xs) = (x .applies ≡ false) × NoneApplies xs
+NoneApplies (rung ∷ rungs) = (rung .applies ≡ false) × NoneApplies rungs
 
-passed : {P : Type 0} (a : Bool) (r : Refusal) (o : Option Refusal) → (o ≡ none → P)
-    → cond a (some r) o ≡ none
-    → (a ≡ false) × P
-passed true r o rest e = absurd (let z : _≡_ {A = ℕ} 0 1 = cc in omega arith)
-passed false r o rest e = (refl, rest e)
+passed : {P : Type 0} (test : Bool) (why : Refusal) (lower : Option Refusal) → (lower ≡ none → P)
+    → cond test (some why) lower ≡ none → (test ≡ false) × P
+passed true why lower rest e = absurd (let z : _≡_ {A = ℕ} 0 1 = cc in omega arith)
+passed false why lower rest e = (refl, rest e)
 
-pub none-applies : (xs : List Rung) → lowest xs ≡ none → NoneApplies xs
+pub none-applies : (rungs : List Rung) → lowest rungs ≡ none → NoneApplies rungs
 none-applies [] e = tt
-none-applies (x ∷ xs) e = passed (x .applies) (numbered (x .number)) (lowest xs) (none-applies xs) e
+none-applies (rung ∷ rungs) e =
+    passed (rung .applies) (numbered (rung .number)) (lowest rungs) (none-applies rungs) e
 
 -- ---- a ladder climbed, as code does it
 
 -- one test after the other: `next` where it does not apply, `stop` where it does, `end` where none is left
 pub data Climbs : List Rung → Option Refusal → Type 0 where
   end : Climbs [] none
-  stop : {n : ℕ} {a : Bool} {xs : List Rung} → a ≡ true → Climbs (n whenever a ∷ xs) (some (numbered n))
-  next : {n : ℕ} {a : Bool} {xs : List Rung} {o : Option Refusal} → a ≡ false → Climbs xs o
-      → Climbs (n whenever a ∷ xs) o
+  stop : {n : ℕ} {a : Bool} {rungs : List Rung} → a ≡ true → Climbs (n whenever a ∷ rungs) (some (numbered n))
+  next : {n : ℕ} {a : Bool} {rungs : List Rung} {o : Option Refusal} → a ≡ false → Climbs rungs o
+      → Climbs (n whenever a ∷ rungs) o
 
-pub climbs : (xs : List Rung) {o : Option Refusal} → Climbs xs o → o ≡ lowest xs
+pub climbs : (rungs : List Rung) {o : Option Refusal} → Climbs rungs o → o ≡ lowest rungs
 climbs _ end = refl
 climbs _ (stop e) = rw e
-climbs _ (next {xs = xs} e rest) = rw e (climbs xs rest)
+climbs _ (next {rungs = rungs} e rest) = rw e (climbs rungs rest)
 
 -- ---- two ladders
 
 -- the same refusals, and each test agrees where no rung before it applies
 pub data Alike : List Rung → List Rung → Type 0 where
   done : Alike [] []
-  same : {n : ℕ} {a b : Bool} {xs ys : List Rung} → a ≡ b → (b ≡ false → Alike xs ys)
-      → Alike (n whenever a ∷ xs) (n whenever b ∷ ys)
+  same : {n : ℕ} {a b : Bool} {rungs others : List Rung} → a ≡ b → (b ≡ false → Alike rungs others)
+      → Alike (n whenever a ∷ rungs) (n whenever b ∷ others)
 
-pub lowest-same : (xs ys : List Rung) → Alike xs ys → lowest xs ≡ lowest ys
+pub lowest-same : (rungs others : List Rung) → Alike rungs others → lowest rungs ≡ lowest others
 lowest-same _ _ done = refl
 lowest-same _ _ (same {b = true} e rest) = rw e
-lowest-same _ _ (same {b = false} {xs = xs} {ys = ys} e rest) = rw e (lowest-same xs ys (rest refl))
+lowest-same _ _ (same {b = false} {rungs = rungs} {others = others} e rest) =
+    rw e (lowest-same rungs others (rest refl))

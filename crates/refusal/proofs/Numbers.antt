@@ -13,7 +13,7 @@ use Rattle.refusal.specs.declared.Refusal.{Refusal}
 use Rattle.refusal.specs.declared.Refusal.the-variants as no
 use Rattle.refusal.specs.Numbers.{numberOf, numbered}
 
-pub numbered-number : (r : Refusal) → numbered (numberOf r) ≡ r
+pub numbered-number : (why : Refusal) → numbered (numberOf why) ≡ why
 numbered-number no.BadSettings = refl
 numbered-number no.TooManyFaulty = refl
 numbered-number no.Unsound = refl
@@ -28,8 +28,8 @@ numbered-number no.Exhausted = refl
 numbered-number no.FullChannel = refl
 numbered-number no.ShortBuffer = refl
 
-pub one-to-one : (r s : Refusal) → numberOf r ≡ numberOf s → r ≡ s
-one-to-one r s e = sym (numbered-number r) ∙ ap numbered e ∙ numbered-number s
+pub one-to-one : (why other : Refusal) → numberOf why ≡ numberOf other → why ≡ other
+one-to-one why other e = sym (numbered-number why) ∙ ap numbered e ∙ numbered-number other
 
 -- each number from 1 to k is that of the refusal it gives
 abbrev GivenBack : ℕ → Type 0
@@ -37,9 +37,9 @@ GivenBack zero = Unit {0}
 GivenBack (suc k) = GivenBack k × (numberOf (numbered (suc k)) ≡ suc k)
 
 within : (k n : ℕ) → GivenBack k → 1 ≤ n → n ≤ k → numberOf (numbered n) ≡ n
-within zero n g low high = absurd (let z : ⊥ = omega arith in z)
-within (suc k) n g low high =
-    ⊎-elim (λ h. within k n (g .0) low h) (λ (e : n ≡ suc k). rw e (g .1)) (le-suc-iff .0 high)
+within zero n given low high = absurd (let z : ⊥ = omega arith in z)
+within (suc k) n given low high =
+    ⊎-elim (λ h. within k n (given .0) low h) (λ (e : n ≡ suc k). rw e (given .1)) (le-suc-iff .0 high)
 
 thirteen : GivenBack 13
 thirteen =

@@ -17,14 +17,14 @@ pub record Rung : Type 0 where
 
 infix 70 _whenever_
 abbrev pub _whenever_ : ℕ → Bool → Rung
-n whenever b = record { number = n; applies = b }
+number whenever test = record { number = number; applies = test }
 
 -- the first refusal of the ladder that applies
 abbrev pub lowest : List Rung → Option Refusal
 lowest [] = none
-lowest (r ∷ rs) = cond (r .applies) (some (numbered (r .number))) (lowest rs)
+lowest (rung ∷ rungs) = cond (rung .applies) (some (numbered (rung .number))) (lowest rungs)
 
 -- every rung has a higher number than n and than those before it
 abbrev pub rising : ℕ → List Rung → Bool
 rising n [] = true
-rising n (r ∷ rs) = ltb n (r .number) && rising (r .number) rs
+rising n (rung ∷ rungs) = ltb n (rung .number) && rising (rung .number) rungs

@@ -20,10 +20,10 @@ pub enum Refusal {
 }
 
 // The refusal's number in the table.
-pub fn number(r: Refusal) -> u8
-    ensures { λ n. ⌜ n ≡ numberOf r ⌝ }
+pub fn number(why: Refusal) -> u8
+    ensures { λ n. ⌜ n ≡ numberOf why ⌝ }
 {
-    match r {
+    match why {
         Refusal::BadSettings => 1,
         Refusal::TooManyFaulty => 2,
         Refusal::Unsound => 3,

@@ -6,144 +6,155 @@
 -- when it takes it, for it is storing with that counter.
 -- In order: on the channels; at the client; along a run.
 -- Assumes nothing.
+use Rattle.register.proofs.Vocabulary.{Member, Settings, isClient, isHonest, Server, serverSends}
+use Rattle.register.proofs.Vocabulary.{sentTo, Client, entryOf, started, withAck, Response, World}
+use Rattle.register.proofs.Vocabulary.{Event, takes, stops, responseOf, nextStopped, apply, Formats}
+use Rattle.register.proofs.Vocabulary.{worldAt}
 use Rattle.basics.proofs.Prelude.{_≡_, refl, sym, _∙_, subst, true, false, cond, _⊎_, inl, inr, _≢_, List, []}
 use Rattle.basics.proofs.Prelude.{_∷_, ℕ, zero, suc, _^_, _≤_, _<_, arith, eqb, eqb-true, eqb-false, eq-eqb}
-use Rattle.basics.specs.Members.{Member}
 use Rattle.basics.proofs.Cases.{by-test, by-either, true-or-false, clash}
 use Rattle.basics.proofs.Members.{member-right}
 use Rattle.basics.proofs.Update.{update-same, update-other}
+use Rattle.message.proofs.Pairs.{counter-of}
 use Rattle.register.proofs.Vocabulary.{Entry, Message, WriteInfo, Fwd, WriteAck, Pair, WriteCounter}
 use Rattle.register.proofs.Vocabulary.{counter, pairOf, Phase, Idle, Reading, ReadingForWrite, Storing}
-use Rattle.message.proofs.Pairs.{counter-of}
-use Rattle.register.specs.Settings.{Settings, isClient, isHonest}
-use Rattle.register.specs.Server.{Server, serverSends, sentTo}
-use Rattle.register.specs.Client.{Client, entryOf, started, withAck, Response}
-use Rattle.register.specs.World.{World, Event, takes, stops, responseOf, nextStopped, apply}
-use Rattle.register.specs.Steps.{Formats}
-use Rattle.register.specs.History.{worldAt}
 use Rattle.register.proofs.Bounds.{client-small}
 use Rattle.register.proofs.Enabled.{Enabled, Starts}
-use Rattle.register.proofs.Run.{Run, world, event, enabled-at}
+use Rattle.register.proofs.Run.{Run, worldIn, eventIn, enabled-at}
 use Rattle.register.proofs.Sends.{direct, sent-direct}
 use Rattle.register.proofs.Outcomes.{Outcome, dropped, waits, shows, spends, sends, acks, ends}
 use Rattle.register.proofs.Outcomes.{grown-phase, nextCounter}
-use Rattle.register.proofs.Frames.{Takes, ClientNext, same, starts, responds, client-next, Puts}
-use Rattle.register.proofs.Frames.{up-stays, up-new, down-stays, down-new, stopped-next}
+use Rattle.register.proofs.Frames.{Takes, ClientNext, same, starts, responds, client-next}
+use Rattle.register.proofs.Frames.{stopped-next}
+use Rattle.register.proofs.Channels.{Puts, up-stays, up-new, down-stays, down-new}
 use Rattle.register.proofs.Entries.{entries}
 use Rattle.register.proofs.Live.{not-reading}
 
--- WRITE_INFO with the counter c is on its way to server k, or WRITE_ACK with it on its way back
+-- WRITE_INFO with the counter is on its way to server k, or WRITE_ACK with it on its way back
 abbrev pub OnTheWay : World → ℕ → ℕ → WriteCounter → Type 0
-OnTheWay w d k c =
-    ((p : Pair) × Member (WriteInfo p) (w .up d k) × (counter p ≡ c)) ⊎ Member (WriteAck c) (w .down d k)
+OnTheWay world d k count =
+    ((pair : Pair) × Member (WriteInfo pair) (world .up d k) × (counter pair ≡ count))
+    ⊎ Member (WriteAck count) (world .down d k)
 
--- or the acknowledgement is counted by the client x
+-- or the acknowledgement is counted by the client `self`
 abbrev pub Awaits : World → ℕ → ℕ → WriteCounter → Client → Type 0
-Awaits w d k c x = (x .acks k ≡ true) ⊎ OnTheWay w d k c
+Awaits world d k count self = (self .acks k ≡ true) ⊎ OnTheWay world d k count
 
 -- ---- on the channels
 
-ack-sent : (s : Server) (d : ℕ) (p : Pair) → 1 ≤ d → d ≤ 6
-    → Member (WriteAck (counter p)) (sentTo d (serverSends s d (WriteInfo p)))
+ack-sent : (server : Server) (d : ℕ) (pair : Pair) → 1 ≤ d → d ≤ 6
+    → Member (WriteAck (counter pair)) (sentTo d (serverSends server d (WriteInfo pair)))
 unfolding direct
-ack-sent s d p low high =
-    rw (sent-direct s d (WriteInfo p) d low high)
-    (member-right (WriteAck (counter p)) (cond (s .readers d) (Fwd p ∷ []) []) _
+ack-sent server d pair low high =
+    rw (sent-direct server d (WriteInfo pair) d low high)
+    (member-right (WriteAck (counter pair)) (cond (server .readers d) (Fwd pair ∷ []) []) _
     (rw (eq-eqb d d refl) (inl refl)))
 
 -- a client that works after an event worked before, and did not stop
-works-before : (S : Settings) (F : Formats) (w : World) (e : Event) (d : ℕ) → apply S w e .stopped d ≡ false
-    → (w .stopped d ≡ false) × (e ≡ stops d → ⊥)
+works-before : (settings : Settings) (judge : Formats) (world : World) (event : Event) (d : ℕ)
+    → apply settings world event .stopped d ≡ false → (world .stopped d ≡ false) × (event ≡ stops d → ⊥)
 unfolding apply nextStopped
-works-before S F w e d h = (
-  by-either (stopped-next S F w e d) (λ q. sym q ∙ h) (λ q. absurd (true-or-false _ (q .1) h)),
+works-before settings judge world event d h = (
+  by-either (stopped-next settings judge world event d) (λ q. sym q ∙ h)
+      (λ q. absurd (true-or-false _ (q .1) h)),
   λ q. true-or-false true refl (rw (q, update-same) at h),
 )
 
-module _ (S : Settings) (F : Formats) (w : World) (e : Event) (en : Enabled S F w e) (d k : ℕ)
-    (range : (1 ≤ d) × (d ≤ 6)) (honest : isHonest S k ≡ true)
-    (small : (v : Entry) → w .clients d .phase ≡ ReadingForWrite v → v .0 < 2 ^ 40)
-    (old : w .stopped d ≡ false → (v : Entry) (c : WriteCounter) → w .clients d .phase ≡ Storing v c
-    → Awaits w d k c (w .clients d)) where
+module _ (settings : Settings) (judge : Formats) (world : World) (event : Event)
+    (checked : Enabled settings judge world event) (d k : ℕ)
+    (range : (1 ≤ d) × (d ≤ 6)) (honest : isHonest settings k ≡ true)
+    (small : (entry : Entry) → world .clients d .phase ≡ ReadingForWrite entry → entry .0 < 2 ^ 40)
+    (old : world .stopped d ≡ false → (entry : Entry) (count : WriteCounter)
+    → world .clients d .phase ≡ Storing entry count → Awaits world d k count (world .clients d)) where
   -- what is on its way stays so, unless the client takes the acknowledgement or stops
-  awaits-next : (c : WriteCounter) (x : Client) → w .stopped d ≡ false → (e ≡ stops d → ⊥)
-      → ((ms : List Message) → e ≡ takes d k (WriteAck c) ms → ⊥) → Awaits w d k c x
-      → Awaits (apply S w e) d k c x
-  awaits-next c x works no-stop no-take (inl a) = inl a
-  awaits-next c x works no-stop no-take (inr (inl (p, h, is))) =
-      by-either (up-stays S F w e en d k (WriteInfo p) h) (λ a. inr (inl (p, a, is)))
-      (λ a. inr (inr (rw (a .1) (down-new S F w k d (WriteInfo p) (a .0) d (WriteAck c) works
-      (rw (← is) (ack-sent (w .servers k) d p (range .0) (range .1)))))))
-  awaits-next c x works no-stop no-take (inr (inr h)) =
-      by-either (down-stays S F w e en d k (WriteAck c) h) (λ a. inr (inr a))
+  awaits-next : (count : WriteCounter) (self : Client) → world .stopped d ≡ false → (event ≡ stops d → ⊥)
+      → ((rest : List Message) → event ≡ takes d k (WriteAck count) rest → ⊥) → Awaits world d k count self
+      → Awaits (apply settings world event) d k count self
+  awaits-next count self works no-stop no-take (inl a) = inl a
+  awaits-next count self works no-stop no-take (inr (inl (pair, member, is))) =
+      by-either (up-stays settings judge world event checked d k (WriteInfo pair) member)
+      (λ a. inr (inl (pair, a, is))) (λ a. inr (inr
+      (rw (a .1) (down-new settings judge world k d (WriteInfo pair) (a .0) d (WriteAck count) works
+      (rw (← is) (ack-sent (world .servers k) d pair (range .0) (range .1)))))))
+  awaits-next count self works no-stop no-take (inr (inr member)) =
+      by-either (down-stays settings judge world event checked d k (WriteAck count) member) (λ a. inr (inr a))
       (λ a. by-either a (λ b. absurd (no-take (b .0) (b .1))) (λ b. absurd (no-stop b)))
 
   -- ---- at the client
 
-  outcome-awaits : (t : Takes S F w e d) (o : Response) → o ≡ responseOf S w d (t .server) (t .message)
-      → Outcome S d (w .clients d) (t .server) (t .message) o → (v : Entry) (c : WriteCounter)
-      → o .client .phase ≡ Storing v c → Awaits (apply S w e) d k c (o .client)
+  outcome-awaits : (taken : Takes settings judge world event d) (response : Response)
+      → response ≡ responseOf settings world d (taken .server) (taken .message)
+      → Outcome settings d (world .clients d) (taken .server) (taken .message) response
+      → (entry : Entry) (count : WriteCounter) → response .client .phase ≡ Storing entry count
+      → Awaits (apply settings world event) d k count (response .client)
   unfolding withAck
-  outcome-awaits t o h (dropped un) v c ph =
-      let q = t .event in
-      let works = t .enabled .works in
-      awaits-next c (w .clients d) works (λ g. clash (cc))
-      (λ ms g. un .noAck v c ph (let z : t .message ≡ WriteAck c = cc in z)) (old works v c ph)
-  outcome-awaits t o h (waits y g r _) v c ph =
-      absurd (not-reading _ r (inr (v, c, sym (grown-phase g) ∙ ph)))
-  outcome-awaits t o h (shows y p g _ _) v c ph = clash (cc)
-  outcome-awaits t o h (spends y p u g _ _ _) v c ph = clash (cc)
-  outcome-awaits t o h (sends y p u g reading _ _) v c ph =
-      let z : nextCounter p ≡ c = cc in
+  outcome-awaits taken response h (dropped un) entry count storing =
+      let q = taken .event in
+      let works = taken .enabled .works in
+      awaits-next count (world .clients d) works (λ g. clash (cc))
+      (λ rest g. un .noAck entry count storing (let is : taken .message ≡ WriteAck count = cc in is))
+      (old works entry count storing)
+  outcome-awaits taken response h (waits grown grows reading _) entry count storing =
+      absurd (not-reading _ reading (inr (entry, count, sym (grown-phase grows) ∙ storing)))
+  outcome-awaits taken response h (shows grown pair grows _ _) entry count storing = clash (cc)
+  outcome-awaits taken response h (spends grown pair other grows _ _ _) entry count storing = clash (cc)
+  outcome-awaits taken response h (sends grown pair other grows reading _ _) entry count storing =
+      let z : nextCounter pair ≡ count = cc in
       let high = range .1 in
-      let is = counter-of (nextCounter p) d u (omega arith) (small u reading) in
-      inr (inl (pairOf (nextCounter p) d u, up-new S F w e d k _ honest puts, is ∙ z))
+      let is = counter-of (nextCounter pair) d other (omega arith) (small other reading) in
+      inr
+      (inl (pairOf (nextCounter pair) d other, up-new settings judge world event d k _ honest puts, is ∙ z))
     where
-      puts : Puts S F w e d (WriteInfo (pairOf (nextCounter p) d u))
+      puts : Puts settings judge world event d (WriteInfo (pairOf (nextCounter pair) d other))
       puts =
-          let q = t .event in
+          let q = taken .event in
           rw q (
             refl,
-            subst (λ (x : Response). Member (WriteInfo (pairOf (nextCounter p) d u)) (x .sends)) h
+            subst (λ (x : Response). Member (WriteInfo (pairOf (nextCounter pair) d other)) (x .sends)) h
                 (inr (inl refl)),
           )
-  outcome-awaits t o h (acks u b i was _) v c ph =
-      let q = t .event in
-      let works = t .enabled .works in
-      by-test (eqb (t .server) k) (λ ek. inl (rw (eqb-true _ k ek, update-same) refl))
-      (λ ek. let ne : t .server ≢ k = eqb-false _ k ek in
-      rw (update-other (w .clients d .acks) (t .server) k true ne)
-      (awaits-next c (w .clients d) works (λ g. clash (cc))
-      (λ ms g. ne (let z : t .server ≡ k = cc in z)) (old works v c ph)))
-  outcome-awaits t o h (ends u b _ _ _) v c ph = clash (cc)
+  outcome-awaits taken response h (acks other other′ i was _) entry count storing =
+      let q = taken .event in
+      let works = taken .enabled .works in
+      by-test (eqb (taken .server) k) (λ ek. inl (rw (eqb-true _ k ek, update-same) refl))
+      (λ ek. let ne : taken .server ≢ k = eqb-false _ k ek in
+      rw (update-other (world .clients d .acks) (taken .server) k true ne)
+      (awaits-next count (world .clients d) works (λ g. clash (cc))
+      (λ rest g. ne (let is : taken .server ≡ k = cc in is)) (old works entry count storing)))
+  outcome-awaits taken response h (ends other other′ _ _ _) entry count storing = clash (cc)
 
-  no-start : (ph : Phase) → Starts F ph → (v : Entry) (c : WriteCounter) → ph ≡ Storing v c → ⊥
-  no-start Idle s v c q = clash (cc)
-  no-start Reading s v c q = clash (cc)
-  no-start (ReadingForWrite u) s v c q = clash (cc)
-  no-start (Storing u b) s v c q = s
+  no-start : (phase : Phase) → Starts judge phase → (entry : Entry) (count : WriteCounter)
+      → phase ≡ Storing entry count → ⊥
+  no-start Idle start entry count q = clash (cc)
+  no-start Reading start entry count q = clash (cc)
+  no-start (ReadingForWrite other) start entry count q = clash (cc)
+  no-start (Storing other other′) start entry count q = start
 
-  client-awaits : (y : Client) → ClientNext S F w e d y → apply S w e .stopped d ≡ false
-      → (v : Entry) (c : WriteCounter) → y .phase ≡ Storing v c → Awaits (apply S w e) d k c y
+  client-awaits : (after : Client) → ClientNext settings judge world event d after
+      → apply settings world event .stopped d ≡ false → (entry : Entry) (count : WriteCounter)
+      → after .phase ≡ Storing entry count → Awaits (apply settings world event) d k count after
   unfolding started
-  client-awaits y (same a b) works v c ph =
-      let worked = works-before S F w e d works in
-      awaits-next c (w .clients d) (worked .0) (worked .1)
-      (λ ms g. true-or-false (eqb d d) (eq-eqb d d refl) (rw g at b)) (old (worked .0) v c ph)
-  client-awaits y (starts ph′ q on) works v c ph = absurd (no-start ph′ (on .phase) v c ph)
-  client-awaits y (responds t o h out) works v c ph = outcome-awaits t o h out v c ph
+  client-awaits after (same a b) works entry count storing =
+      let worked = works-before settings judge world event d works in
+      awaits-next count (world .clients d) (worked .0) (worked .1)
+      (λ rest g. true-or-false (eqb d d) (eq-eqb d d refl) (rw g at b)) (old (worked .0) entry count storing)
+  client-awaits after (starts phase′ q checked) works entry count storing =
+      absurd (no-start phase′ (checked .phase) entry count storing)
+  client-awaits after (responds taken response h out) works entry count storing =
+      outcome-awaits taken response h out entry count storing
 
 -- ---- along a run
 
-module _ (r : Run) where
-  pub awaiting : (n d k : ℕ) → isClient (r .S) d ≡ true → isHonest (r .S) k ≡ true
-      → world r n .stopped d ≡ false → (v : Entry) (c : WriteCounter)
-      → world r n .clients d .phase ≡ Storing v c
-      → Awaits (world r n) d k c (world r n .clients d)
+module _ (run : Run) where
+  pub awaiting : (n d k : ℕ) → isClient (run .settings) d ≡ true → isHonest (run .settings) k ≡ true
+      → worldIn run n .stopped d ≡ false → (entry : Entry) (count : WriteCounter)
+      → worldIn run n .clients d .phase ≡ Storing entry count
+      → Awaits (worldIn run n) d k count (worldIn run n .clients d)
   unfolding worldAt entryOf
-  awaiting zero d k client honest works v c ph = clash (cc)
-  awaiting (suc n) d k client honest works v c ph =
-      client-awaits (r .S) (r .F) (world r n) (event r n) (enabled-at r n) d k
-      (client-small (r .S) (r .accepted) d client) honest
-      (λ v′ reading. rw reading at (entries r n d)) (awaiting n d k client honest) _
-      (client-next (r .S) (r .F) (world r n) (event r n) (enabled-at r n) d) works v c ph
+  awaiting zero d k client honest works entry count storing = clash (cc)
+  awaiting (suc n) d k client honest works entry count storing =
+      client-awaits (run .settings) (run .judge) (worldIn run n) (eventIn run n) (enabled-at run n) d k
+      (client-small (run .settings) (run .accepted) d client) honest
+      (λ entry′ reading. rw reading at (entries run n d)) (awaiting n d k client honest) _
+      (client-next (run .settings) (run .judge) (worldIn run n) (eventIn run n)
+      (enabled-at run n) d) works entry count storing

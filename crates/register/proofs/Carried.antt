@@ -7,27 +7,29 @@ use Rattle.basics.proofs.Prelude.{_≡_, _⊎_, inl, inr}
 use Rattle.register.proofs.Vocabulary.{Message, GetInfo, Info, Done, WriteInfo, Fwd, WriteAck, Pair}
 use Rattle.register.proofs.Vocabulary.{ReadNumber}
 
--- the message of a server carries the pair p
+-- the message of a server carries the pair
 abbrev pub Carries : Message → Pair → Type 0
-Carries m p = (m ≡ Fwd p) ⊎ ((t : ReadNumber) × (m ≡ Info t p))
+Carries message pair = (message ≡ Fwd pair) ⊎ ((tag : ReadNumber) × (message ≡ Info tag pair))
 
 -- a message's pair has the property Q
 abbrev pub Good : (Pair → Type 0) → Message → Type 0
-Good Q (GetInfo t) = Unit {0}
-Good Q (Info t p) = Q p
+Good Q (GetInfo tag) = Unit {0}
+Good Q (Info tag pair) = Q pair
 Good Q Done = Unit {0}
-Good Q (WriteInfo p) = Q p
-Good Q (Fwd p) = Q p
-Good Q (WriteAck c) = Unit {0}
+Good Q (WriteInfo pair) = Q pair
+Good Q (Fwd pair) = Q pair
+Good Q (WriteAck count) = Unit {0}
 
-pub carried : (Q : Pair → Type 0) (m : Message) (p : Pair) → Carries m p → Good Q m → Q p
-carried Q m p (inl e) good = rw e at good
-carried Q m p (inr (t, e)) good = rw e at good
+pub carried : (Q : Pair → Type 0) (message : Message) (pair : Pair) → Carries message pair → Good Q message
+    → Q pair
+carried Q message pair (inl e) good = rw e at good
+carried Q message pair (inr (tag, e)) good = rw e at good
 
-pub good-mono : (Q Q′ : Pair → Type 0) → ((p : Pair) → Q p → Q′ p) → (m : Message) → Good Q m → Good Q′ m
-good-mono Q Q′ more (GetInfo t) good = tt
-good-mono Q Q′ more (Info t p) good = more p good
+pub good-mono : (Q Q′ : Pair → Type 0) → ((pair : Pair) → Q pair → Q′ pair) → (message : Message)
+    → Good Q message → Good Q′ message
+good-mono Q Q′ more (GetInfo tag) good = tt
+good-mono Q Q′ more (Info tag pair) good = more pair good
 good-mono Q Q′ more Done good = tt
-good-mono Q Q′ more (WriteInfo p) good = more p good
-good-mono Q Q′ more (Fwd p) good = more p good
-good-mono Q Q′ more (WriteAck c) good = tt
+good-mono Q Q′ more (WriteInfo pair) good = more pair good
+good-mono Q Q′ more (Fwd pair) good = more pair good
+good-mono Q Q′ more (WriteAck count) good = tt

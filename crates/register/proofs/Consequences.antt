@@ -8,11 +8,9 @@
 -- Assumes nothing.
 use Rattle.basics.proofs.Prelude.{_≡_, _⊎_, inl, inr, _≢_, List, ℕ, _≤_, _<_, arith}
 use Rattle.basics.proofs.Cases.{by-either}
+use Rattle.register.proofs.Vocabulary.{Settings, Accepted, Step, Formats, worldAt, AnswersRead}
+use Rattle.register.proofs.Vocabulary.{AnswersWrite, ReadEnds, WriteEnds, Sends, PairOf}
 use Rattle.register.proofs.Vocabulary.{Pair, stamp, initial}
-use Rattle.register.specs.Settings.{Settings, Accepted}
-use Rattle.register.specs.Steps.{Step, Formats}
-use Rattle.register.specs.History.{worldAt, AnswersRead, AnswersWrite, ReadEnds, WriteEnds, Sends}
-use Rattle.register.specs.History.{PairOf}
 use Rattle.register.proofs.Lawful.{Lawful}
 use Rattle.register.proofs.Run.{Run}
 use Rattle.register.proofs.Grows.{grows-on}
@@ -23,54 +21,62 @@ use Rattle.register.proofs.Translation.{sends-in, ends-in}
 use Rattle.register.proofs.Regular.{showing, pair-of}
 use Rattle.register.proofs.WellAnswered.{read-answered, write-answered}
 
-module _ (S : Settings) (F : Formats) (accepted : Accepted S) (lawful : Lawful F) (steps : List Step) where
+module _ (settings : Settings) (judge : Formats) (accepted : Accepted settings) (lawful : Lawful judge)
+    (steps : List Step) where
   abbrev run : Run
-  run = record { S = S; F = F; steps = steps; accepted = accepted; lawful = lawful }
+  run = record { settings = settings; judge = judge; steps = steps; accepted = accepted; lawful = lawful }
 
-  pub distinct-stamps : (b₁ d₁ j₁ b₂ d₂ j₂ : ℕ) (p₁ p₂ : Pair) → Sends S F steps b₁ d₁ j₁ p₁
-      → Sends S F steps b₂ d₂ j₂ p₂ → stamp p₁ ≡ stamp p₂ → b₁ ≡ b₂
-  distinct-stamps b₁ d₁ j₁ b₂ d₂ j₂ p₁ p₂ s₁ s₂ e = unique (sends-in run s₁) (sends-in run s₂) e
+  pub distinct-stamps : (begin₁ d₁ j₁ begin₂ d₂ j₂ : ℕ) (pair₁ pair₂ : Pair)
+      → Sends settings judge steps begin₁ d₁ j₁ pair₁ → Sends settings judge steps begin₂ d₂ j₂ pair₂
+      → stamp pair₁ ≡ stamp pair₂ → begin₁ ≡ begin₂
+  distinct-stamps begin₁ d₁ j₁ begin₂ d₂ j₂ pair₁ pair₂ sends₁ sends₂ e =
+      unique (sends-in run sends₁) (sends-in run sends₂) e
 
   -- no write sends the initial pair
-  pub sends-other : (b d j : ℕ) (p : Pair) → Sends S F steps b d j p → p ≢ initial
-  sends-other b d j p s = not-initial (sends-in run s)
+  pub sends-other : (begin d j : ℕ) (pair : Pair) → Sends settings judge steps begin d j pair → pair ≢ initial
+  sends-other begin d j pair sends = not-initial (sends-in run sends)
 
   -- a write sends one pair, at one step
-  pub one-pair : (b d₁ j₁ d₂ j₂ : ℕ) (p₁ p₂ : Pair) → Sends S F steps b d₁ j₁ p₁ → Sends S F steps b d₂ j₂ p₂
-      → (d₁ ≡ d₂) × (j₁ ≡ j₂) × (p₁ ≡ p₂)
-  one-pair b d₁ j₁ d₂ j₂ p₁ p₂ s₁ s₂ =
-      let q = sends-once (sends-in run s₁) (sends-in run s₂) in (q .client, q .step, q .pair)
+  pub one-pair : (begin d₁ j₁ d₂ j₂ : ℕ) (pair₁ pair₂ : Pair) → Sends settings judge steps begin d₁ j₁ pair₁
+      → Sends settings judge steps begin d₂ j₂ pair₂ → (d₁ ≡ d₂) × (j₁ ≡ j₂) × (pair₁ ≡ pair₂)
+  one-pair begin d₁ j₁ d₂ j₂ pair₁ pair₂ sends₁ sends₂ =
+      let q = sends-once (sends-in run sends₁) (sends-in run sends₂) in (q .client, q .step, q .pair)
 
-  pub writes-ordered : (b₁ d₁ j₁ c i b₂ d₂ j₂ : ℕ) (p₁ p₂ : Pair) → Sends S F steps b₁ d₁ j₁ p₁
-      → WriteEnds S F steps b₁ c i → Sends S F steps b₂ d₂ j₂ p₂ → i < b₂ → stamp p₁ < stamp p₂
-  writes-ordered b₁ d₁ j₁ c i b₂ d₂ j₂ p₁ p₂ s₁ e s₂ lt =
-      let s = sends-in run s₁ in ordered s (ends-in run s e) (sends-in run s₂) lt
+  pub writes-ordered : (begin₁ d₁ j₁ d′ i begin₂ d₂ j₂ : ℕ) (pair₁ pair₂ : Pair)
+      → Sends settings judge steps begin₁ d₁ j₁ pair₁ → WriteEnds settings judge steps begin₁ d′ i
+      → Sends settings judge steps begin₂ d₂ j₂ pair₂ → i < begin₂ → stamp pair₁ < stamp pair₂
+  writes-ordered begin₁ d₁ j₁ d′ i begin₂ d₂ j₂ pair₁ pair₂ sends₁ ends sends₂ lt =
+      let sending = sends-in run sends₁ in ordered sending (ends-in run sending ends) (sends-in run sends₂) lt
 
-  pub reads-not-old : (b₁ d₁ j₁ c i b₂ d₂ j₂ : ℕ) (p₁ p₂ : Pair) → Sends S F steps b₁ d₁ j₁ p₁
-      → WriteEnds S F steps b₁ c i → ReadEnds S F steps b₂ d₂ j₂ p₂ → i < b₂ → stamp p₁ ≤ stamp p₂
-  reads-not-old b₁ d₁ j₁ c i b₂ d₂ j₂ p₁ p₂ s₁ e x lt =
-      let s = sends-in run s₁ in
-      let st = stored-when-ended s (ends-in run s e) in
-      let h = showing run b₂ d₂ j₂ p₂ x in
-      not-old run j₂ d₂ p₂ (stamp p₁) (h .decides)
-      (rw (h .begun) (stored-stays run i b₂ (stamp p₁) (omega arith) st))
+  pub reads-not-old : (begin₁ d₁ j₁ d′ i begin₂ d₂ j₂ : ℕ) (pair₁ pair₂ : Pair)
+      → Sends settings judge steps begin₁ d₁ j₁ pair₁ → WriteEnds settings judge steps begin₁ d′ i
+      → ReadEnds settings judge steps begin₂ d₂ j₂ pair₂ → i < begin₂ → stamp pair₁ ≤ stamp pair₂
+  reads-not-old begin₁ d₁ j₁ d′ i begin₂ d₂ j₂ pair₁ pair₂ sends₁ ends ends′ lt =
+      let sending = sends-in run sends₁ in
+      let stored = stored-when-ended sending (ends-in run sending ends) in
+      let shown = showing run begin₂ d₂ j₂ pair₂ ends′ in
+      not-old run j₂ d₂ pair₂ (stamp pair₁) (shown .decides)
+      (rw (shown .begun) (stored-stays run i begin₂ (stamp pair₁) (omega arith) stored))
 
   -- what a read shows
-  pub shown-genuine : (b d j : ℕ) (p : Pair) → ReadEnds S F steps b d j p
-      → (p ≡ initial) ⊎ ((w : ℕ) × PairOf S F steps p w × (w < j))
-  shown-genuine b d j p x =
-      by-either (chosen-known run j d p (showing run b d j p x .decides)) (λ e. inl e)
-      (λ k. inr (pair-of run j p (x .ends .inList) k))
+  pub shown-genuine : (begin d j : ℕ) (pair : Pair) → ReadEnds settings judge steps begin d j pair
+      → (pair ≡ initial) ⊎ ((write : ℕ) × PairOf settings judge steps pair write × (write < j))
+  shown-genuine begin d j pair ends =
+      by-either (chosen-known run j d pair (showing run begin d j pair ends .decides)) (λ e. inl e)
+      (λ k. inr (pair-of run j pair (ends .ends .inList) k))
 
   pub stamps-never-fall : (i j : ℕ) → i ≤ j → (k : ℕ)
-      → stamp (worldAt S F steps i .servers k .pair) ≤ stamp (worldAt S F steps j .servers k .pair)
-  stamps-never-fall i j h k = grows-on run i j h k
+      → stamp (worldAt settings judge steps i .servers k .pair) ≤ stamp
+      (worldAt settings judge steps j .servers k .pair)
+  stamps-never-fall i j le k = grows-on run i j le k
 
   -- the one read that a READ ends, the one write that a WROTE or SPENT ends
-  pub reads-answered : (j d : ℕ) (p : Pair) → AnswersRead S F steps j d p
-      → (b : ℕ) × ReadEnds S F steps b d j p × ((b′ : ℕ) → ReadEnds S F steps b′ d j p → b′ ≡ b)
-  reads-answered j d p h = read-answered run j d p h
+  pub reads-answered : (j d : ℕ) (pair : Pair) → AnswersRead settings judge steps j d pair
+      → (begin : ℕ) × ReadEnds settings judge steps begin d j pair
+      × ((begin′ : ℕ) → ReadEnds settings judge steps begin′ d j pair → begin′ ≡ begin)
+  reads-answered j d pair answers = read-answered run j d pair answers
 
-  pub writes-answered : (j d : ℕ) → AnswersWrite S F steps j d
-      → (b : ℕ) × WriteEnds S F steps b d j × ((b′ : ℕ) → WriteEnds S F steps b′ d j → b′ ≡ b)
-  writes-answered j d h = write-answered run j d h
+  pub writes-answered : (j d : ℕ) → AnswersWrite settings judge steps j d
+      → (begin : ℕ) × WriteEnds settings judge steps begin d j
+      × ((begin′ : ℕ) → WriteEnds settings judge steps begin′ d j → begin′ ≡ begin)
+  writes-answered j d answers = write-answered run j d answers

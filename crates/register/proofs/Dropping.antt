@@ -6,18 +6,18 @@ use Rattle.basics.proofs.Prelude.{eqb-true}
 use Rattle.basics.proofs.Cases.{by-test, both}
 use Rattle.message.specs.declared.Message.{Message}
 
-pub put-or-dropped : (P : List Message → Type 0) (drops : Bool) (s t : List Message) → P s
-    → (drops ≡ false → P (s ++ t)) → P (s ++ cond drops [] t)
-put-or-dropped P drops s t old new = by-test drops (λ e. rw (e, append-nil s) old) (λ e. rw e (new e))
+pub put-or-dropped : (P : List Message → Type 0) (drops : Bool) (channel more : List Message) → P channel
+    → (drops ≡ false → P (channel ++ more)) → P (channel ++ cond drops [] more)
+put-or-dropped P drops channel more old new =
+    by-test drops (λ e. rw (e, append-nil channel) old) (λ e. rw e (new e))
 
-pub nothing-put : (drops : Bool) (s : List Message) → s ++ cond drops [] [] ≡ s
-nothing-put true s = append-nil s
-nothing-put false s = append-nil s
+pub nothing-put : (drops : Bool) (channel : List Message) → channel ++ cond drops [] [] ≡ channel
+nothing-put true channel = append-nil channel
+nothing-put false channel = append-nil channel
 
--- one list on channel x y, another elsewhere
-pub at-channel : (P : List Message → Type 0) (a b x y : ℕ) (here there : List Message)
-    → (a ≡ x → b ≡ y → P here) → P there → P (cond (eqb a x && eqb b y) here there)
-at-channel P a b x y here there new old =
-    by-test (eqb a x && eqb b y)
-    (λ e. let q = both (eqb a x) (eqb b y) e in rw e (new (eqb-true a x (q .0)) (eqb-true b y (q .1))))
-    (λ e. rw e old)
+-- one list on the channel of server k and client d, another elsewhere
+pub at-channel : (P : List Message → Type 0) (k′ d′ k d : ℕ) (here there : List Message)
+    → (k′ ≡ k → d′ ≡ d → P here) → P there → P (cond (eqb k′ k && eqb d′ d) here there)
+at-channel P k′ d′ k d here there new old =
+    by-test (eqb k′ k && eqb d′ d) (λ e. let q = both (eqb k′ k) (eqb d′ d) e in
+    rw e (new (eqb-true k′ k (q .0)) (eqb-true d′ d (q .1)))) (λ e. rw e old)

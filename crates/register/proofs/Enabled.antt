@@ -8,16 +8,15 @@ use Rattle.basics.proofs.Prelude.{_≡_, refl, true, false, _||_, List, [], _�
 use Rattle.basics.proofs.Prelude.{le-refl, arith, leb-false, not-false}
 use Rattle.basics.proofs.Cases.{by-option, both}
 use Rattle.refusal.proofs.Ladders.{none-applies}
-use Rattle.message.specs.Layout.{lastRead}
-use Rattle.register.proofs.Vocabulary.{Message, Phase, Idle, Reading, ReadingForWrite, Storing}
+use Rattle.register.proofs.Vocabulary.{lastRead, Good, Settings, isServer, isClient, isHonest, isIdle}
+use Rattle.register.proofs.Vocabulary.{World, Event, refuses, begins, serves, takes, stops, lies}
+use Rattle.register.proofs.Vocabulary.{responseOf, Step, R, W, K, D, C, L, Formats, oldest, hasRoom}
+use Rattle.register.proofs.Vocabulary.{roomUp, roomDown, ladder, refusalOf, accepted, eventOf}
+use Rattle.message.specs.Layout.{goesDown}
 use Rattle.message.specs.declared.Unpacked.{Unpacked}
-use Rattle.message.specs.declared.Unpacked.the-variants.{Good, Refused}
-use Rattle.register.specs.Settings.{Settings, isServer, isClient, isHonest}
-use Rattle.register.specs.Client.{isIdle}
-use Rattle.register.specs.World.{World, Event, refuses, begins, serves, takes, stops, lies, responseOf}
-use Rattle.register.specs.Steps.{Step, R, W, K, D, C, L, Formats, oldest, hasRoom, isReply, roomUp}
-use Rattle.register.specs.Steps.{roomDown, ladder, refusalOf, servesOldest, takesOldest, liesWith}
-use Rattle.register.specs.Steps.{accepted, eventOf}
+use Rattle.message.specs.declared.Unpacked.the-variants.{Refused}
+use Rattle.register.specs.Steps.{servesOldest, takesOldest, liesWith}
+use Rattle.register.proofs.Vocabulary.{Message, Phase, Idle, Reading, ReadingForWrite, Storing}
 use Rattle.register.proofs.Bounds.{honest-of}
 
 -- the slots that a start keeps free on every channel to an honest server: a read's DONE, a write's
@@ -25,82 +24,97 @@ use Rattle.register.proofs.Bounds.{honest-of}
 abbrev pub slotsFor : Phase → ℕ
 slotsFor Idle = 1
 slotsFor Reading = 2
-slotsFor (ReadingForWrite e) = 3
-slotsFor (Storing e c) = 1
+slotsFor (ReadingForWrite entry) = 3
+slotsFor (Storing entry count) = 1
 
-pub some-slot : (ph : Phase) → 1 ≤ slotsFor ph
+pub some-slot : (phase : Phase) → 1 ≤ slotsFor phase
 some-slot Idle = le-refl _
 some-slot Reading = omega arith
-some-slot (ReadingForWrite e) = omega arith
-some-slot (Storing e c) = le-refl _
+some-slot (ReadingForWrite entry) = omega arith
+some-slot (Storing entry count) = le-refl _
 
 -- the phase of a start, with a licence entry
 abbrev pub Starts : Formats → Phase → Type 0
-Starts F Idle = ⊥
-Starts F Reading = Unit {0}
-Starts F (ReadingForWrite e) = F .isLicence e ≡ true
-Starts F (Storing e c) = ⊥
+Starts judge Idle = ⊥
+Starts judge Reading = Unit {0}
+Starts judge (ReadingForWrite entry) = judge .isLicence entry ≡ true
+Starts judge (Storing entry count) = ⊥
 
-module _ (S : Settings) (F : Formats) (w : World) where
+module _ (settings : Settings) (judge : Formats) (world : World) where
   abbrev pub Enabled : Event → Type 0
-  Enabled (refuses r) = Unit {0}
-  Enabled (begins d ph) = record {
-    client : isClient S d ≡ true;
-    works : w .stopped d ≡ false;
-    idle : isIdle (w .clients d .phase) ≡ true;
-    below : w .clients d .reads .0 < lastRead;
-    phase : Starts F ph;
-    room : roomUp S F w d (slotsFor ph) ≡ true;
+  Enabled (refuses refusal) = Unit {0}
+  Enabled (begins d new) = record {
+    client : isClient settings d ≡ true;
+    works : world .stopped d ≡ false;
+    idle : isIdle (world .clients d .phase) ≡ true;
+    below : world .clients d .reads .0 < lastRead;
+    phase : Starts judge new;
+    room : roomUp settings judge world d (slotsFor new) ≡ true;
   }
-  Enabled (serves k d m ms) = record {
-    client : isClient S d ≡ true;
-    honest : isHonest S k ≡ true;
-    channel : w .up d k ≡ m ∷ ms;
-    room : roomDown S F w k d m ≡ true;
+  Enabled (serves k d message rest) = record {
+    client : isClient settings d ≡ true;
+    honest : isHonest settings k ≡ true;
+    channel : world .up d k ≡ message ∷ rest;
+    room : roomDown settings judge world k d message ≡ true;
   }
-  Enabled (takes d k m ms) = record {
-    client : isClient S d ≡ true;
-    server : isServer S k ≡ true;
-    works : w .stopped d ≡ false;
-    channel : w .down d k ≡ m ∷ ms;
-    room : roomUp S F w d (length (responseOf S w d k m .sends)) ≡ true;
+  Enabled (takes d k message rest) = record {
+    client : isClient settings d ≡ true;
+    server : isServer settings k ≡ true;
+    works : world .stopped d ≡ false;
+    channel : world .down d k ≡ message ∷ rest;
+    room : roomUp settings judge world d (length (responseOf settings world d k message .sends)) ≡ true;
   }
-  Enabled (stops d) = record { client : isClient S d ≡ true; works : w .stopped d ≡ false }
-  Enabled (lies k d m) = record {
-    client : isClient S d ≡ true;
-    server : isServer S k ≡ true;
-    faulty : S .faulty k ≡ true;
-    reply : isReply (Good m) ≡ true;
+  Enabled (stops d) = record { client : isClient settings d ≡ true; works : world .stopped d ≡ false }
+  Enabled (lies k d message) = record {
+    client : isClient settings d ≡ true;
+    server : isServer settings k ≡ true;
+    faulty : settings .faulty k ≡ true;
+    reply : goesDown (Good message) ≡ true;
     bytes : List ℕ;
-    message : F .unpack bytes ≡ Good m;
-    room : w .stopped d || hasRoom (w .down d k) 1 ≡ true;
+    message : judge .unpack bytes ≡ Good message;
+    room : world .stopped d || hasRoom (world .down d k) 1 ≡ true;
   }
 
-  serves-enabled : (k d : ℕ) (l : List Message) → w .up d k ≡ l → isClient S d ≡ true → isHonest S k ≡ true
-      → roomDown S F w k d (oldest l) ≡ true → Enabled (servesOldest S F k d l)
+  serves-enabled : (k d : ℕ) (channel : List Message) → world .up d k ≡ channel → isClient settings d ≡ true
+      → isHonest settings k ≡ true → roomDown settings judge world k d (oldest channel) ≡ true
+      → Enabled (servesOldest settings judge k d channel)
   unfolding oldest
-  serves-enabled k d [] e c h r = tt
-  serves-enabled k d (m ∷ ms) e c h r = record { client = c; honest = h; channel = e; room = r }
+  serves-enabled k d [] is client honest room = tt
+  serves-enabled k d (message ∷ rest) is client honest room =
+      record { client = client; honest = honest; channel = is; room = room }
 
-  takes-enabled : (d k : ℕ) (l : List Message) → w .down d k ≡ l → isClient S d ≡ true → isServer S k ≡ true
-      → w .stopped d ≡ false → roomUp S F w d (length (responseOf S w d k (oldest l) .sends)) ≡ true
-      → Enabled (takesOldest S F d k l)
+  takes-enabled : (d k : ℕ) (channel : List Message) → world .down d k ≡ channel → isClient settings d ≡ true
+      → isServer settings k ≡ true → world .stopped d ≡ false
+      → roomUp settings judge world d (length (responseOf settings world d k (oldest channel) .sends)) ≡ true
+      → Enabled (takesOldest settings judge d k channel)
   unfolding oldest
-  takes-enabled d k [] e c s h r = tt
-  takes-enabled d k (m ∷ ms) e c s h r = record { client = c; server = s; works = h; channel = e; room = r }
+  takes-enabled d k [] is client there works room = tt
+  takes-enabled d k (message ∷ rest) is client there works room =
+      record { client = client; server = there; works = works; channel = is; room = room }
 
-  lies-enabled : (k d : ℕ) (bytes : List ℕ) (u : Unpacked) → F .unpack bytes ≡ u → isClient S d ≡ true
-      → isServer S k ≡ true
-      → S .faulty k ≡ true → isReply u ≡ true → w .stopped d || hasRoom (w .down d k) 1 ≡ true
-      → Enabled (liesWith S F k d u)
-  lies-enabled k d bytes (Refused x) e c s h r room = tt
-  lies-enabled k d bytes (Good m) e c s h r room =
-      record { client = c; server = s; faulty = h; reply = r; bytes = bytes; message = e; room = room }
+  lies-enabled : (k d : ℕ) (bytes : List ℕ) (unpacked : Unpacked) → judge .unpack bytes ≡ unpacked
+      → isClient settings d ≡ true → isServer settings k ≡ true
+      → settings .faulty k ≡ true → goesDown unpacked ≡ true
+      → world .stopped d || hasRoom (world .down d k) 1 ≡ true
+      → Enabled (liesWith settings judge k d unpacked)
+  lies-enabled k d bytes (Refused refusal) is client there faulty reply room = tt
+  lies-enabled k d bytes (Good message) is client there faulty reply room =
+      record {
+        client = client;
+        server = there;
+        faulty = faulty;
+        reply = reply;
+        bytes = bytes;
+        message = is;
+        room
+            = room;
+      }
 
-  accepted-enabled : (s : Step) → refusalOf S F w s ≡ none → Enabled (accepted S F w s)
+  accepted-enabled : (step : Step) → refusalOf settings judge world step ≡ none
+      → Enabled (accepted settings judge world step)
   unfolding refusalOf ladder accepted
   accepted-enabled (R d) h =
-      let no = none-applies (ladder S F w (R d)) h in
+      let no = none-applies (ladder settings judge world (R d)) h in
       record {
         client = not-false _ (no .0);
         works = no .1 .0;
@@ -110,7 +124,7 @@ module _ (S : Settings) (F : Formats) (w : World) where
         room = not-false _ (no .1 .1 .1 .1 .0);
       }
   accepted-enabled (W d entry) h =
-      let no = none-applies (ladder S F w (W d entry)) h in
+      let no = none-applies (ladder settings judge world (W d entry)) h in
       record {
         client = not-false _ (no .0);
         works = no .1 .0;
@@ -120,25 +134,25 @@ module _ (S : Settings) (F : Formats) (w : World) where
         room = not-false _ (no .1 .1 .1 .1 .1 .0);
       }
   accepted-enabled (K k d) h =
-      let no = none-applies (ladder S F w (K k d)) h in
-      let there = both (isClient S d) (isServer S k) (not-false _ (no .0)) in
-      serves-enabled k d (w .up d k) refl (there .0) (honest-of S k (there .1) (no .1 .0))
+      let no = none-applies (ladder settings judge world (K k d)) h in
+      let there = both (isClient settings d) (isServer settings k) (not-false _ (no .0)) in
+      serves-enabled k d (world .up d k) refl (there .0) (honest-of settings k (there .1) (no .1 .0))
       (not-false _ (no .1 .1 .1 .0))
   accepted-enabled (D d k) h =
-      let no = none-applies (ladder S F w (D d k)) h in
-      let there = both (isClient S d) (isServer S k) (not-false _ (no .0)) in
-      takes-enabled d k (w .down d k) refl (there .0) (there .1) (no .1 .0) (not-false _ (no .1 .1 .1 .0))
+      let no = none-applies (ladder settings judge world (D d k)) h in
+      let there = both (isClient settings d) (isServer settings k) (not-false _ (no .0)) in
+      takes-enabled d k (world .down d k) refl (there .0) (there .1) (no .1 .0) (not-false _ (no .1 .1 .1 .0))
   accepted-enabled (C d) h =
-      let no = none-applies (ladder S F w (C d)) h in
+      let no = none-applies (ladder settings judge world (C d)) h in
       record { client = not-false _ (no .0); works = no .1 .0 }
   accepted-enabled (L k d bytes) h =
-      let no = none-applies (ladder S F w (L k d bytes)) h in
-      let there = both (isClient S d) (isServer S k) (not-false _ (no .0)) in
-      lies-enabled k d bytes (F .unpack bytes) refl (there .0) (there .1) (not-false _ (no .1 .0))
+      let no = none-applies (ladder settings judge world (L k d bytes)) h in
+      let there = both (isClient settings d) (isServer settings k) (not-false _ (no .0)) in
+      lies-enabled k d bytes (judge .unpack bytes) refl (there .0) (there .1) (not-false _ (no .1 .0))
       (not-false _ (no .1 .1 .0))
       (not-false _ (no .1 .1 .1 .0))
 
-  pub enabled : (s : Step) → Enabled (eventOf S F w s)
+  pub enabled : (step : Step) → Enabled (eventOf settings judge world step)
   unfolding eventOf
-  enabled s =
-      by-option (refusalOf S F w s) (λ e. rw e (accepted-enabled s e)) (λ r e. rw e tt)
+  enabled step =
+      by-option (refusalOf settings judge world step) (λ e. rw e (accepted-enabled step e)) (λ r e. rw e tt)

@@ -6,66 +6,70 @@
 use Rattle.basics.proofs.Prelude.{_≡_, refl, _⊎_, inl, inr, length, ℕ, _<_, arith, ltb, ltb-true, ltb-false}
 use Rattle.basics.proofs.Cases.{by-test, by-either, clash}
 use Rattle.basics.proofs.Ranges.{Happened}
+use Rattle.register.proofs.Vocabulary.{Event, refuses, begins, serves, takes, stops, lies, ReadBegins}
 use Rattle.register.proofs.Vocabulary.{Pair, Idle, Reading, ReadingForWrite, Storing}
-use Rattle.register.specs.World.{Event, refuses, begins, serves, takes, stops, lies}
-use Rattle.register.specs.History.{ReadBegins}
-use Rattle.register.proofs.Run.{Run, event}
+use Rattle.register.proofs.Run.{Run, eventIn}
 use Rattle.register.proofs.ReadStatus.{EndsRead, read-status}
 use Rattle.register.proofs.Translation.{ReadEndsIn, read-begins, read-began, reads-in, reads-out}
 
-module _ (r : Run) where
-  -- the read b has ended
-  pub record Finished (b : ℕ) : Type 0 where
+module _ (run : Run) where
+  -- the read has ended
+  pub record Finished (begin : ℕ) : Type 0 where
     pub client : ℕ
     pub at : ℕ
     pub pair : Pair
-    pub ends : ReadEndsIn r b client at pair
+    pub ends : ReadEndsIn run begin client at pair
 
-  -- the read b has not ended, or there is none
+  -- the read has not ended, or there is none
   abbrev pub Unfinished : ℕ → Type 0
-  Unfinished b = (d j : ℕ) (p : Pair) → ReadEndsIn r b d j p → ⊥
+  Unfinished begin = (d j : ℕ) (pair : Pair) → ReadEndsIn run begin d j pair → ⊥
 
-  -- the read of client d that began at b ends where its status says
-  pub read-ends : (b d : ℕ) → ReadBegins (r .S) (r .F) (r .steps) b d
-      → (o : Happened (EndsRead r b d) b (length (r .steps))) → ReadEndsIn r b d (o .at) (o .how .pair)
-  read-ends b d x o =
+  -- the read of client d that began at `begin` ends where its status says
+  pub read-ends : (begin d : ℕ) → ReadBegins (run .settings) (run .judge) (run .steps) begin d
+      → (happened : Happened (EndsRead run begin d) begin (length (run .steps)))
+      → ReadEndsIn run begin d (happened .at) (happened .how .pair)
+  read-ends begin d begun happened =
       record {
-        begins = x;
-        later = o .after;
-        ends = reads-out r (o .before) (o .how .reads);
-        next = λ i lo hi p y. o .how .first i lo hi p (reads-in r y);
+        begins = begun;
+        later = happened .after;
+        ends = reads-out run (happened .before) (happened .how .reads);
+        next = λ i lo hi pair reads. happened .how .first i lo hi pair (reads-in run reads);
       }
 
-  -- no read began at b
-  no-read : (b : ℕ) → ((d : ℕ) → event r b ≡ begins d Reading → ⊥) → Finished b ⊎ Unfinished b
-  no-read b h = inr (λ d j p x. h d (read-begins r (x .begins)))
+  -- no read began at `begin`
+  no-read : (begin : ℕ) → ((d : ℕ) → eventIn run begin ≡ begins d Reading → ⊥)
+      → Finished begin ⊎ Unfinished begin
+  no-read begin h = inr (λ d j pair ends. h d (read-begins run (ends .begins)))
 
-  began : (b c : ℕ) → b < length (r .steps) → event r b ≡ begins c Reading → Finished b ⊎ Unfinished b
-  began b c lt e =
-      by-either (read-status r b c e (length (r .steps)) lt)
-      (λ o. inr (λ d j p x. let e′ = read-begins r (x .begins) in
-      let same : d ≡ c = cc in
-      o .silent j (x .later) (x .ends .inList) p (reads-in r (rw same at (x .ends)))))
-      (λ o. inl (record {
-        client = c;
-        at = o .at;
-        pair = o .how .pair;
-        ends = read-ends b c (read-began r b c lt e) o;
+  began : (begin d′ : ℕ) → begin < length (run .steps) → eventIn run begin ≡ begins d′ Reading
+      → Finished begin ⊎ Unfinished begin
+  began begin d′ lt e =
+      by-either (read-status run begin d′ e (length (run .steps)) lt)
+      (λ status. inr (λ d j pair ends. let e′ = read-begins run (ends .begins) in
+      let same : d ≡ d′ = cc in
+      status .silent j (ends .later) (ends .ends .inList) pair (reads-in run (rw same at (ends .ends)))))
+      (λ status. inl (record {
+        client = d′;
+        at = status .at;
+        pair = status .how .pair;
+        ends = read-ends begin d′ (read-began run begin d′ lt e) status;
       }))
 
-  by-event : (b : ℕ) → b < length (r .steps) → (e : Event) → event r b ≡ e → Finished b ⊎ Unfinished b
-  by-event b lt (refuses x) q = no-read b (λ d h. clash (cc))
-  by-event b lt (begins c Idle) q = no-read b (λ d h. clash (cc))
-  by-event b lt (begins c Reading) q = began b c lt q
-  by-event b lt (begins c (ReadingForWrite y)) q = no-read b (λ d h. clash (cc))
-  by-event b lt (begins c (Storing y w)) q = no-read b (λ d h. clash (cc))
-  by-event b lt (serves k c m ms) q = no-read b (λ d h. clash (cc))
-  by-event b lt (takes c k m ms) q = no-read b (λ d h. clash (cc))
-  by-event b lt (stops c) q = no-read b (λ d h. clash (cc))
-  by-event b lt (lies k c m) q = no-read b (λ d h. clash (cc))
+  by-event : (begin : ℕ) → begin < length (run .steps) → (event : Event) → eventIn run begin ≡ event
+      → Finished begin ⊎ Unfinished begin
+  by-event begin lt (refuses refusal) q = no-read begin (λ d h. clash (cc))
+  by-event begin lt (begins d′ Idle) q = no-read begin (λ d h. clash (cc))
+  by-event begin lt (begins d′ Reading) q = began begin d′ lt q
+  by-event begin lt (begins d′ (ReadingForWrite entry)) q = no-read begin (λ d h. clash (cc))
+  by-event begin lt (begins d′ (Storing entry other)) q = no-read begin (λ d h. clash (cc))
+  by-event begin lt (serves k d′ message rest) q = no-read begin (λ d h. clash (cc))
+  by-event begin lt (takes d′ k message rest) q = no-read begin (λ d h. clash (cc))
+  by-event begin lt (stops d′) q = no-read begin (λ d h. clash (cc))
+  by-event begin lt (lies k d′ message) q = no-read begin (λ d h. clash (cc))
 
-  pub finished : (b : ℕ) → Finished b ⊎ Unfinished b
-  finished b =
-      by-test (ltb b (length (r .steps))) (λ t. by-event b (ltb-true b _ t) (event r b) refl)
-      (λ t. let out = ltb-false b (length (r .steps)) t in
-      inr (λ d j p x. let inside = x .begins .inList in omega arith))
+  pub finished : (begin : ℕ) → Finished begin ⊎ Unfinished begin
+  finished begin =
+      by-test (ltb begin (length (run .steps)))
+      (λ t. by-event begin (ltb-true begin _ t) (eventIn run begin) refl)
+      (λ t. let out = ltb-false begin (length (run .steps)) t in
+      inr (λ d j pair ends. let inside = ends .begins .inList in omega arith))

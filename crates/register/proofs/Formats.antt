@@ -5,27 +5,26 @@
 use Rattle.basics.proofs.Prelude.{_≡_, true, _^_, ltb, ltb-true}
 use Rattle.basics.proofs.Cases.{both}
 use Rattle.licence.proofs.Entries.{is-licence-small}
-use Rattle.register.proofs.Vocabulary.{Message, GetInfo, Info, Done, WriteInfo, Fwd, WriteAck}
 use Rattle.message.specs.Layout.{wellFormed}
 use Rattle.message.proofs.RoundTrip.{pack-unpack}
 use Rattle.register.specs.Formats.{formats}
+use Rattle.register.proofs.Vocabulary.{Message, GetInfo, Info, Done, WriteInfo, Fwd, WriteAck}
 use Rattle.register.proofs.Lawful.{FieldsFit, Lawful}
 
-fields-fit : (m : Message) → wellFormed m ≡ true → FieldsFit m
+fields-fit : (message : Message) → wellFormed message ≡ true → FieldsFit message
 unfolding wellFormed
-fields-fit (GetInfo t) h = ltb-true (t .0) (2 ^ 20) h
-fields-fit (Info t p) h =
-    let b = both (ltb (t .0) (2 ^ 20)) (ltb (p .0) (2 ^ 64)) h in
-    (ltb-true (t .0) (2 ^ 20) (b .0), ltb-true (p .0) (2 ^ 64) (b .1))
+fields-fit (GetInfo tag) h = ltb-true (tag .0) (2 ^ 20) h
+fields-fit (Info tag pair) h =
+    let b = both (ltb (tag .0) (2 ^ 20)) (ltb (pair .0) (2 ^ 64)) h in
+    (ltb-true (tag .0) (2 ^ 20) (b .0), ltb-true (pair .0) (2 ^ 64) (b .1))
 fields-fit Done h = tt
-fields-fit (WriteInfo p) h = ltb-true (p .0) (2 ^ 64) h
-fields-fit (Fwd p) h = ltb-true (p .0) (2 ^ 64) h
-fields-fit (WriteAck c) h = ltb-true (c .0) (2 ^ 20) h
+fields-fit (WriteInfo pair) h = ltb-true (pair .0) (2 ^ 64) h
+fields-fit (Fwd pair) h = ltb-true (pair .0) (2 ^ 64) h
+fields-fit (WriteAck count) h = ltb-true (count .0) (2 ^ 20) h
 
 pub lawful : Lawful formats
 lawful =
     record {
-      small = λ e h. is-licence-small (e .0) h;
-      fits = λ bytes m e. fields-fit m (pack-unpack bytes m
-          e .within);
+      small = λ entry h. is-licence-small (entry .0) h;
+      fits = λ bytes message e. fields-fit message (pack-unpack bytes message e .within);
     }

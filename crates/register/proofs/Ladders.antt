@@ -5,18 +5,18 @@
 -- Assumes nothing.
 use Rattle.basics.proofs.Prelude.{_≡_, refl, true}
 use Rattle.refusal.specs.Ladder.{rising}
-use Rattle.register.specs.Settings.{Settings, setupLadder}
-use Rattle.register.specs.World.{World}
-use Rattle.register.specs.Steps.{Step, R, W, K, D, C, L, Formats, ladder}
+use Rattle.register.proofs.Vocabulary.{Settings, World, Step, R, W, K, D, C, L, Formats, ladder}
+use Rattle.register.specs.Settings.{setupLadder}
 
-pub setup-rises : (S : Settings) → rising 0 (setupLadder S) ≡ true
-setup-rises S = refl
+pub setup-rises : (settings : Settings) → rising 0 (setupLadder settings) ≡ true
+setup-rises settings = refl
 
-pub ladder-rises : (S : Settings) (F : Formats) (w : World) (s : Step) → rising 0 (ladder S F w s) ≡ true
+pub ladder-rises : (settings : Settings) (judge : Formats) (world : World) (step : Step)
+    → rising 0 (ladder settings judge world step) ≡ true
 unfolding ladder
-ladder-rises S F w (R d) = refl
-ladder-rises S F w (W d e) = refl
-ladder-rises S F w (K k d) = refl
-ladder-rises S F w (D d k) = refl
-ladder-rises S F w (C d) = refl
-ladder-rises S F w (L k d bytes) = refl
+ladder-rises settings judge world (R d) = refl
+ladder-rises settings judge world (W d entry) = refl
+ladder-rises settings judge world (K k d) = refl
+ladder-rises settings judge world (D d k) = refl
+ladder-rises settings judge world (C d) = refl
+ladder-rises settings judge world (L k d bytes) = refl

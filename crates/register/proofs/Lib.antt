@@ -18,6 +18,7 @@ pub mod Dropping
 pub mod Sends
 pub mod Outcomes
 pub mod Frames
+pub mod Channels
 pub mod Carried
 pub mod ClientFacts
 pub mod Turns

@@ -5,40 +5,41 @@
 -- Assumes nothing.
 use Rattle.basics.proofs.Prelude.{_≡_, sym, subst, List, ℕ}
 use Rattle.basics.proofs.Ranges.{neither-below}
+use Rattle.register.proofs.Vocabulary.{Settings, Step, Formats, answerAt, ReadBegins, WriteBegins}
+use Rattle.register.proofs.Vocabulary.{ReadEnds, WriteEnds}
 use Rattle.register.proofs.Vocabulary.{Pair, Read}
-use Rattle.register.specs.Settings.{Settings}
-use Rattle.register.specs.Steps.{Step, Formats}
-use Rattle.register.specs.History.{answerAt, ReadBegins, WriteBegins, ReadEnds, WriteEnds}
 
-module _ (S : Settings) (F : Formats) (steps : List Step) where
+module _ (settings : Settings) (judge : Formats) (steps : List Step) where
   -- the client of a read, and of a write
-  read-client : (b d d′ : ℕ) → ReadBegins S F steps b d → ReadBegins S F steps b d′ → d ≡ d′
-  read-client b d d′ x y = let s = x .step in let s′ = y .step in cc
+  read-client : (begin d d′ : ℕ) → ReadBegins settings judge steps begin d
+      → ReadBegins settings judge steps begin d′ → d ≡ d′
+  read-client begin d d′ begun begun′ = let s = begun .step in let s′ = begun′ .step in cc
 
-  write-client : (b d d′ : ℕ) → WriteBegins S F steps b d → WriteBegins S F steps b d′ → d ≡ d′
-  write-client b d d′ x y = let s = x .step in let s′ = y .step in cc
+  write-client : (begin d d′ : ℕ) → WriteBegins settings judge steps begin d
+      → WriteBegins settings judge steps begin d′ → d ≡ d′
+  write-client begin d d′ begun begun′ = let s = begun .step in let s′ = begun′ .step in cc
 
-  pub read-ends-once : (b d j : ℕ) (p : Pair) (d′ j′ : ℕ) (p′ : Pair) → ReadEnds S F steps b d j p
-      → ReadEnds S F steps b d′ j′ p′
-      → (d ≡ d′) × (j ≡ j′) × (p ≡ p′)
-  read-ends-once b d j p d′ j′ p′ x x′ =
-      let client = read-client b d d′ (x .begins) (x′ .begins) in
-      let y : ReadEnds S F steps b d j′ p′ =
-      subst (λ (z : ℕ). ReadEnds S F steps b z j′ p′) (sym client) x′ in
-      let step =
-      neither-below j j′ (λ less. y .next j (x .later) less p (x .ends))
-      (λ less. x .next j′ (y .later) less p′ (y .ends)) in
-      let a : answerAt S F steps j′ ≡ Read p =
-      subst (λ (z : ℕ). answerAt S F steps z ≡ Read p) step (x .ends .answer) in
-      let a′ = x′ .ends .answer in
+  pub read-ends-once : (begin d j : ℕ) (pair : Pair) (d′ j′ : ℕ) (pair′ : Pair)
+      → ReadEnds settings judge steps begin d j pair → ReadEnds settings judge steps begin d′ j′ pair′
+      → (d ≡ d′) × (j ≡ j′) × (pair ≡ pair′)
+  read-ends-once begin d j pair d′ j′ pair′ ends ends′ =
+      let client = read-client begin d d′ (ends .begins) (ends′ .begins) in
+      let mine : ReadEnds settings judge steps begin d j′ pair′ =
+      subst (λ (z : ℕ). ReadEnds settings judge steps begin z j′ pair′) (sym client) ends′ in
+      let step = neither-below j j′ (λ less. mine .next j (ends .later) less pair (ends .ends))
+      (λ less. ends .next j′ (mine .later) less pair′ (mine .ends)) in
+      let a : answerAt settings judge steps j′ ≡ Read pair =
+      subst (λ (z : ℕ). answerAt settings judge steps z ≡ Read pair) step (ends .ends .answer) in
+      let a′ = ends′ .ends .answer in
       (client, step, cc)
 
-  pub write-ends-once : (b d j d′ j′ : ℕ) → WriteEnds S F steps b d j → WriteEnds S F steps b d′ j′
-      → (d ≡ d′) × (j ≡ j′)
-  write-ends-once b d j d′ j′ x x′ =
-      let client = write-client b d d′ (x .begins) (x′ .begins) in
-      let y : WriteEnds S F steps b d j′ = subst (λ (z : ℕ). WriteEnds S F steps b z j′) (sym client) x′ in (
+  pub write-ends-once : (begin d j d′ j′ : ℕ) → WriteEnds settings judge steps begin d j
+      → WriteEnds settings judge steps begin d′ j′ → (d ≡ d′) × (j ≡ j′)
+  write-ends-once begin d j d′ j′ ends ends′ =
+      let client = write-client begin d d′ (ends .begins) (ends′ .begins) in
+      let mine : WriteEnds settings judge steps begin d j′ =
+      subst (λ (z : ℕ). WriteEnds settings judge steps begin z j′) (sym client) ends′ in (
         client,
-        neither-below j j′ (λ less. y .next j (x .later) less (x .ends))
-            (λ less. x .next j′ (y .later) less (y .ends)),
+        neither-below j j′ (λ less. mine .next j (ends .later) less (ends .ends))
+            (λ less. ends .next j′ (mine .later) less (mine .ends)),
       )

@@ -6,35 +6,44 @@
 -- Assumes nothing.
 use Rattle.basics.proofs.Prelude.{_≡_, sym, ap, _∙_, subst, inl, inr, ℕ, _≤_, arith}
 use Rattle.basics.proofs.Ranges.{at-last}
-use Rattle.register.proofs.Vocabulary.{Pair, stamp}
 use Rattle.message.proofs.Pairs.{initial-stamp, stamp-lt}
+use Rattle.register.proofs.Vocabulary.{Pair, stamp}
 use Rattle.register.proofs.Run.{Run}
 use Rattle.register.proofs.Entries.{sent-stamp}
 use Rattle.register.proofs.Genuine.{Written, Known}
 use Rattle.register.proofs.Ordered.{Sending}
 use Rattle.register.proofs.Unique.{unique, sends-once, sender}
 
-module _ (r : Run) where
-  written-high : (n : ℕ) (p : Pair) → Written r n p → 16 ≤ stamp p
-  written-high n p k = let is = sent-stamp r (k .at) (k .client) p (k .puts) .stamp in omega arith
+module _ (run : Run) where
+  written-high : (n : ℕ) (pair : Pair) → Written run n pair → 16 ≤ stamp pair
+  written-high n pair written =
+      let is = sent-stamp run (written .at) (written .client) pair (written .puts) .stamp in omega arith
 
-  written-same : (n : ℕ) (p q : Pair) → Written r n p → Written r n q → stamp p ≡ stamp q → p ≡ q
-  written-same n p q a b e =
-      let s = sender r (a .at) (a .client) p (a .puts) in
-      let t = sender r (b .at) (b .client) q (b .puts) in
-      sends-once (subst (λ (x : ℕ). Sending r x (a .client) (a .at) p)
-      (unique (s .sending) (t .sending) e) (s .sending)) (t .sending) .pair
+  written-same : (n : ℕ) (pair other : Pair) → Written run n pair → Written run n other
+      → stamp pair ≡ stamp other → pair ≡ other
+  written-same n pair other written written′ e =
+      let sent = sender run (written .at) (written .client) pair (written .puts) in
+      let sent′ = sender run (written′ .at) (written′ .client) other (written′ .puts) in
+      sends-once (subst (λ (x : ℕ). Sending run x (written .client) (written .at) pair)
+      (unique (sent .sending) (sent′ .sending) e) (sent .sending)) (sent′ .sending) .pair
 
-  pub known-same : (n : ℕ) (p q : Pair) → Known r n p → Known r n q → stamp p ≡ stamp q → p ≡ q
-  known-same n p q (inl a) (inl b) e = a ∙ sym b
-  known-same n p q (inl a) (inr b) e =
-      absurd (let x = written-high n q b in let y : stamp p ≡ 0 = ap stamp a ∙ initial-stamp in omega arith)
-  known-same n p q (inr a) (inl b) e =
-      absurd (let x = written-high n p a in let y : stamp q ≡ 0 = ap stamp b ∙ initial-stamp in omega arith)
-  known-same n p q (inr a) (inr b) e = written-same n p q a b e
+  pub known-same : (n : ℕ) (pair other : Pair) → Known run n pair → Known run n other
+      → stamp pair ≡ stamp other → pair ≡ other
+  known-same n pair other (inl known) (inl known′) e = known ∙ sym known′
+  known-same n pair other (inl known) (inr known′) e =
+      absurd (let high = written-high n other known′ in let low : stamp pair ≡ 0 = ap stamp known
+      ∙ initial-stamp in
+      omega arith)
+  known-same n pair other (inr known) (inl known′) e =
+      absurd (let high = written-high n pair known in let low : stamp other ≡ 0 = ap stamp known′
+      ∙ initial-stamp in
+      omega arith)
+  known-same n pair other (inr known) (inr known′) e = written-same n pair other known known′ e
 
-  pub not-above : (n : ℕ) (p q : Pair) → Known r n p → Known r n q → stamp p ≤ stamp q → p .0 ≤ q .0
-  not-above n p q a b h =
-      at-last (stamp p) (stamp q) (omega arith)
-      (λ e. let number : p .0 ≡ q .0 = ap (λ (z : Pair). z .0) (known-same n p q a b e) in omega arith)
-      (λ less. let lt = stamp-lt p q less in omega arith)
+  pub not-above : (n : ℕ) (pair other : Pair) → Known run n pair → Known run n other
+      → stamp pair ≤ stamp other → pair .0 ≤ other .0
+  not-above n pair other known known′ le =
+      at-last (stamp pair) (stamp other) (omega arith)
+      (λ e. let number : pair .0 ≡ other .0 = ap (λ (z : Pair). z .0)
+      (known-same n pair other known known′ e) in
+      omega arith) (λ less. let lt = stamp-lt pair other less in omega arith)

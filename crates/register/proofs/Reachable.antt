@@ -6,7 +6,6 @@
 -- Assumes nothing.
 use Rattle.basics.proofs.Prelude.{_≡_, refl, _∙_, subst, false, List, ℕ, zero, suc, arith}
 use Rattle.basics.proofs.Cases.{by-either, true-or-false}
-use Rattle.register.proofs.Vocabulary.{Phase, Idle, Reading, ReadingForWrite, Storing}
 use Rattle.register.specs.Settings.{Settings, Accepted, isClient, isHonest}
 use Rattle.register.specs.Server.{Server, newServer}
 use Rattle.register.specs.Client.{Client, newClient}
@@ -15,6 +14,7 @@ use Rattle.register.specs.Steps.{Step, Formats, eventOf}
 use Rattle.register.specs.History.{stepAt, worldAt}
 use Rattle.register.specs.WellFormed.{FromClient, FromServer, WellPhase, WellServer, WellClient}
 use Rattle.register.specs.WellFormed.{WellFormed}
+use Rattle.register.proofs.Vocabulary.{Phase, Idle, Reading, ReadingForWrite, Storing}
 use Rattle.register.proofs.Enabled.{Enabled, Starts, enabled}
 use Rattle.register.proofs.Lawful.{Lawful}
 use Rattle.register.proofs.Frames.{ServerNext, kept, served, server-next, ClientNext, same, starts}
@@ -25,14 +25,14 @@ use Rattle.register.proofs.WellChannels.{oldest-kind, well-empty, well-
 
 -- ---- the setup
 
-well-new-server : (S : Settings) → WellServer S newServer
-well-new-server S = record { pair = omega arith; readers = λ d h. refl }
+well-new-server : (settings : Settings) → WellServer settings newServer
+well-new-server settings = record { pair = omega arith; readers = λ d h. refl }
 
-pub well-new : (S : Settings) (F : Formats) → WellFormed S F newWorld
-well-new S F =
+pub well-new : (settings : Settings) (judge : Formats) → WellFormed settings judge newWorld
+well-new settings judge =
     record {
-      server = λ k. well-new-server S;
-      client = λ d. well-cleared S F Idle (record { 0 = 0 }) tt (omega arith);
+      server = λ k. well-new-server settings;
+      client = λ d. well-cleared settings judge Idle (record { 0 = 0 }) tt (omega arith);
       up = λ d k. well-empty FromClient;
       down = λ d k. well-empty FromServer;
       serverUnused = λ k h. refl;
@@ -43,72 +43,79 @@ well-new S F =
       downDrops = λ d k h. refl;
     }
 
-starts-well : (F : Formats) (ph : Phase) → Starts F ph → WellPhase F ph
-starts-well F Idle s = tt
-starts-well F Reading s = tt
-starts-well F (ReadingForWrite e) s = s
-starts-well F (Storing e c) s = absurd s
+starts-well : (judge : Formats) (phase : Phase) → Starts judge phase → WellPhase judge phase
+starts-well judge Idle start = tt
+starts-well judge Reading start = tt
+starts-well judge (ReadingForWrite entry) start = start
+starts-well judge (Storing entry count) start = absurd start
 
-module _ (S : Settings) (F : Formats) (accepted : Accepted S) (lawful : Lawful F) (w : World)
-    (well : WellFormed S F w) where
+module _ (settings : Settings) (judge : Formats) (accepted : Accepted settings) (lawful : Lawful judge)
+    (world : World) (well : WellFormed settings judge world) where
   -- ---- servers, clients, the stopped: each is well formed, and as at setup if it is not used
 
-  server-well : (e : Event) (k : ℕ) {s : Server} → ServerNext S F w e k s
-      → WellServer S s × (isHonest S k ≡ false → s ≡ newServer)
-  server-well e k kept = (well .server k, well .serverUnused k)
-  server-well e k (served d m ms _ on) = (
-    well-after S (w .servers k) d (on .client) (well .server k) m
-        (oldest-kind FromClient (w .up d k) m ms (on .channel) (well .up d k)),
-    λ h. absurd (true-or-false _ (on .honest) h),
+  server-well : (event : Event) (k : ℕ) {server : Server} → ServerNext settings judge world event k server
+      → WellServer settings server × (isHonest settings k ≡ false → server ≡ newServer)
+  server-well event k kept = (well .server k, well .serverUnused k)
+  server-well event k (served d message rest _ checked) = (
+    well-after settings (world .servers k) d (checked .client) (well .server k) message
+        (oldest-kind FromClient (world .up d k) message rest (checked .channel) (well .up d k)),
+    λ h. absurd (true-or-false _ (checked .honest) h),
   )
 
-  client-well : (e : Event) (d : ℕ) {x : Client} → ClientNext S F w e d x
-      → WellClient S F x × (isClient S d ≡ false → x ≡ newClient)
-  client-well e d (same _ _) = (well .client d, well .clientUnused d)
-  client-well e d (starts ph _ on) = (
-    well-started S F (w .clients d) ph (starts-well F ph (on .phase)) (on .below),
-    λ h. absurd (true-or-false _ (on .client) h),
+  client-well : (event : Event) (d : ℕ) {self : Client} → ClientNext settings judge world event d self
+      → WellClient settings judge self × (isClient settings d ≡ false → self ≡ newClient)
+  client-well event d (same _ _) = (well .client d, well .clientUnused d)
+  client-well event d (starts phase _ checked) = (
+    well-started settings judge (world .clients d) phase (starts-well judge phase (checked .phase))
+        (checked .below),
+    λ h. absurd (true-or-false _ (checked .client) h),
   )
-  client-well e d (responds t o is _) = (
-    rw is (well-response S F accepted lawful w well d (t .server) (t .message) (t .rest) (t .enabled)
+  client-well event d (responds taken response is _) = (
+    rw is (well-response settings judge accepted lawful world well d (taken .server) (taken .message)
+        (taken .rest) (taken .enabled)
         .client),
-    λ h. absurd (true-or-false _ (t .enabled .client) h),
+    λ h. absurd (true-or-false _ (taken .enabled .client) h),
   )
 
-  stopped-unused : (e : Event) → Enabled S F w e → (d : ℕ) → isClient S d ≡ false
-      → apply S w e .stopped d ≡ false
-  stopped-unused e en d h =
-      by-either (stopped-next S F w e d) (λ q. q ∙ well .stoppedUnused d h)
-      (λ q. let on : Enabled S F w (stops d) = subst (Enabled S F w) (q .0) en in
+  stopped-unused : (event : Event) → Enabled settings judge world event → (d : ℕ)
+      → isClient settings d ≡ false → apply settings world event .stopped d ≡ false
+  stopped-unused event checked d h =
+      by-either (stopped-next settings judge world event d) (λ q. q ∙ well .stoppedUnused d h)
+      (λ q. let on : Enabled settings judge world (stops d) = subst (Enabled settings judge world)
+      (q .0) checked in
       absurd (true-or-false _ (on .client) h))
 
   -- ---- every event
 
-  pub well-next : (e : Event) → Enabled S F w e → WellFormed S F (apply S w e)
+  pub well-next : (event : Event) → Enabled settings judge world event
+      → WellFormed settings judge (apply settings world event)
   unfolding apply
-  well-next e en =
+  well-next event checked =
       record {
-        server = λ k. server-well e k (server-next S F w e en k) .0;
-        client = λ d. client-well e d (client-next S F w e en d) .0;
-        up = λ d k. up-next S F accepted lawful w well e en d k .channel;
-        down = λ d k. down-next S F accepted lawful w well e en d k .channel;
-        serverUnused = λ k. server-well e k (server-next S F w e en k) .1;
-        clientUnused = λ d. client-well e d (client-next S F w e en d) .1;
-        stoppedUnused = stopped-unused e en;
-        upUnused = λ d k. up-next S F accepted lawful w well e en d k .unused;
-        downUnused = λ d k. down-next S F accepted lawful w well e en d k .unused;
-        downDrops = λ d k. down-next S F accepted lawful w well e en d k .drops;
+        server = λ k. server-well event k (server-next settings judge world event checked k) .0;
+        client = λ d. client-well event d (client-next settings judge world event checked d) .0;
+        up = λ d k. up-next settings judge accepted lawful world well event checked d k .channel;
+        down = λ d k. down-next settings judge accepted lawful world well event checked d k .channel;
+        serverUnused = λ k. server-well event k (server-next settings judge world event checked k) .1;
+        clientUnused = λ d. client-well event d (client-next settings judge world event checked d) .1;
+        stoppedUnused = stopped-unused event checked;
+        upUnused = λ d k. up-next settings judge accepted lawful world well event checked d k .unused;
+        downUnused = λ d k. down-next settings judge accepted lawful world well event checked d k .unused;
+        downDrops = λ d k. down-next settings judge accepted lawful world well event checked d k .drops;
       }
 
   -- every step, from any well-formed world
-  pub well-step : (s : Step) → WellFormed S F (apply S w (eventOf S F w s))
-  well-step s = well-next (eventOf S F w s) (enabled S F w s)
+  pub well-step : (step : Step)
+      → WellFormed settings judge (apply settings world (eventOf settings judge world step))
+  well-step step = well-next (eventOf settings judge world step) (enabled settings judge world step)
 
 -- ---- every list of steps
 
-module _ (S : Settings) (F : Formats) (accepted : Accepted S) (lawful : Lawful F) (steps : List Step) where
-  pub well-formed : (i : ℕ) → WellFormed S F (worldAt S F steps i)
+module _ (settings : Settings) (judge : Formats) (accepted : Accepted settings) (lawful : Lawful judge)
+    (steps : List Step) where
+  pub well-formed : (i : ℕ) → WellFormed settings judge (worldAt settings judge steps i)
   unfolding worldAt
-  well-formed zero = well-new S F
+  well-formed zero = well-new settings judge
   well-formed (suc i) =
-      well-step S F accepted lawful (worldAt S F steps i) (well-formed i) (stepAt S F steps i)
+      well-step settings judge accepted lawful (worldAt settings judge steps i) (well-formed i)
+      (stepAt settings judge steps i)

@@ -9,10 +9,10 @@ use Rattle.basics.proofs.Prelude.{_≡_, refl, subst, _⊎_, inl, inr, List, []
 use Rattle.basics.proofs.Cases.{by-either, clash}
 use Rattle.basics.proofs.Ranges.{at-last}
 use Rattle.basics.proofs.Sorting.{once}
-use Rattle.register.proofs.Vocabulary.{Pair, stamp, Read}
 use Rattle.register.specs.History.{Ends, HasSent, PairOf}
 use Rattle.register.specs.DemandThree.{Earlier, Legal, first, behind, Row, Agree}
-use Rattle.register.proofs.Run.{Run, answer}
+use Rattle.register.proofs.Vocabulary.{Pair, stamp, Read}
+use Rattle.register.proofs.Run.{Run, answerIn}
 use Rattle.register.proofs.Since.{since}
 use Rattle.register.proofs.ReadStatus.{DecidesAt, read-status}
 use Rattle.register.proofs.Genuine.{Written, Known}
@@ -29,185 +29,198 @@ use Rattle.register.proofs.Translation.{sends-in, sends-out, ends-in}
 use Rattle.register.proofs.OneEnd.{read-ends-once}
 use Rattle.register.proofs.Finished.{Finished, Unfinished, finished}
 
-module _ (r : Run) where
+module _ (run : Run) where
   -- the number of steps
-  abbrev N : ℕ
-  N = length (r .steps)
+  abbrev total : ℕ
+  total = length (run .steps)
 
-  sent-in : (b : ℕ) → HasSent (r .S) (r .F) (r .steps) b → SentBefore r N b
-  sent-in b s =
+  sent-in : (begin : ℕ) → HasSent (run .settings) (run .judge) (run .steps) begin → SentBefore run total begin
+  sent-in begin sent =
       record {
-        client = s .client;
-        at = s .at;
-        before = s .sends .inList;
-        pair = s .pair;
-        sending = sends-in r (s .sends);
+        client = sent .client;
+        at = sent .at;
+        before = sent .sends .inList;
+        pair = sent .pair;
+        sending = sends-in run (sent .sends);
       }
 
-  sent-out : (b : ℕ) → SentBefore r N b → HasSent (r .S) (r .F) (r .steps) b
-  sent-out b s =
+  sent-out : (begin : ℕ) → SentBefore run total begin
+      → HasSent (run .settings) (run .judge) (run .steps) begin
+  sent-out begin sent =
       record {
-        client = s .client;
-        at = s .at;
-        pair = s .pair;
-        sends = sends-out r (s .before) (s .sending);
+        client = sent .client;
+        at = sent .at;
+        pair = sent .pair;
+        sends = sends-out run (sent .before) (sent .sending);
       }
 
   -- a finished read decides, at its end, for what it shows
-  pub showing : (b d j : ℕ) (p : Pair) → ReadEndsIn r b d j p → Showing r N b d j p
-  showing b d j p x =
-      let begins = read-begins r (x .begins) in
-      let inList = x .ends .inList in
-      let later = x .later in
-      by-either (read-status r b d begins (suc j) (omega arith))
-      (λ o. absurd (o .silent j (x .later) (omega arith) p (reads-in r (x .ends))))
-      (λ o. at-last (o .at) j (o .before)
-      (λ e. let a : answer r j ≡ Read (o .how .pair) =
-      subst (λ (k : ℕ). answer r k ≡ Read (o .how .pair)) e (o .how .reads .answer) in
-      let a′ = x .ends .answer in
-      let same : o .how .pair ≡ p = cc in
+  pub showing : (begin d j : ℕ) (pair : Pair) → ReadEndsIn run begin d j pair
+      → Showing run total begin d j pair
+  showing begin d j pair ends =
+      let begins = read-begins run (ends .begins) in
+      let inList = ends .ends .inList in
+      let later = ends .later in
+      by-either (read-status run begin d begins (suc j) (omega arith))
+      (λ status. absurd (status .silent j (ends .later) (omega arith) pair (reads-in run (ends .ends))))
+      (λ status. at-last (status .at) j (status .before)
+      (λ e. let a : answerIn run j ≡ Read (status .how .pair) =
+      subst (λ (k : ℕ). answerIn run k ≡ Read (status .how .pair)) e (status .how .reads .answer) in
+      let a′ = ends .ends .answer in
+      let same : status .how .pair ≡ pair = cc in
       record {
         begins = begins;
-        after = x .later;
-        inList = x .ends .inList;
-        begun = subst (λ (k : ℕ). since r k d ≡ b) e (o .how .begun);
-        decides = subst (λ (q : Pair). DecidesAt r j d q) same
-            (subst (λ (k : ℕ). DecidesAt r k d (o .how .pair)) e (o .how .decides));
+        after = ends .later;
+        inList = ends .ends .inList;
+        begun = subst (λ (k : ℕ). since run k d ≡ begin) e (status .how .begun);
+        decides = subst (λ (q : Pair). DecidesAt run j d q) same
+            (subst (λ (k : ℕ). DecidesAt run k d (status .how .pair)) e (status .how .decides));
       })
       (λ less. absurd
-      (x .next (o .at) (o .after) less (o .how .pair) (reads-out r (omega arith) (o .how .reads)))))
+      (ends .next (status .at) (status .after) less (status .how .pair)
+      (reads-out run (omega arith) (status .how .reads)))))
 
   -- a pair that was sent before step j is that of exactly one write, which began before j
-  pub pair-of : (j : ℕ) (p : Pair) → j < N → Written r j p
-      → (w : ℕ) × PairOf (r .S) (r .F) (r .steps) p w × (w < j)
-  pair-of j p inside k =
-      let w = sender r (k .at) (k .client) p (k .puts) in
-      let before = k .before in
-      let after = w .sending .after in (
-        w .begin,
+  pub pair-of : (j : ℕ) (pair : Pair) → j < total → Written run j pair
+      → (write : ℕ) × PairOf (run .settings) (run .judge) (run .steps) pair write × (write < j)
+  pair-of j pair inside written =
+      let found = sender run (written .at) (written .client) pair (written .puts) in
+      let before = written .before in
+      let after = found .sending .after in (
+        found .begin,
         record {
-          client = k .client;
-          at = k .at;
-          sends = sends-out r (omega arith) (w .sending);
-          only = λ b′ d′ j′ z. unique (sends-in r z) (w .sending) refl;
+          client = written .client;
+          at = written .at;
+          sends = sends-out run (omega arith) (found .sending);
+          only = λ begin′ d′ j′ sends. unique (sends-in run sends) (found .sending) refl;
         },
         omega arith,
       )
 
-  -- the row of the read b; of what is no finished read, an empty one
-  rowBy : (b : ℕ) → Finished r b ⊎ Unfinished r b → List ℕ
-  rowBy b (inl e) = rowOf r N b (e .at) (stamp (e .pair))
-  rowBy b (inr h) = []
+  -- the row of the read that began at `begin`; of what is no finished read, an empty one
+  rowBy : (begin : ℕ) → Finished run begin ⊎ Unfinished run begin → List ℕ
+  rowBy begin (inl finish) = rowOf run total begin (finish .at) (stamp (finish .pair))
+  rowBy begin (inr h) = []
 
   pub row : ℕ → List ℕ
-  row b = rowBy b (finished r b)
+  row begin = rowBy begin (finished run begin)
 
-  -- the sorted row of a read that ends at step j and shows p
+  -- the sorted row of a read that ends at step j and shows the pair
   abbrev sorted : ℕ → ℕ → Pair → List ℕ
-  sorted b j p = rowOf r N b j (stamp p)
+  sorted begin j pair = rowOf run total begin j (stamp pair)
 
-  by-end : (b d j : ℕ) (p : Pair) → ReadEndsIn r b d j p
-      → (u : Finished r b ⊎ Unfinished r b)
-      → sorted b j p ≡ rowBy b u
+  by-end : (begin d j : ℕ) (pair : Pair) → ReadEndsIn run begin d j pair
+      → (status : Finished run begin ⊎ Unfinished run begin) → sorted begin j pair ≡ rowBy begin status
   unfolding rowBy
-  by-end b d j p x (inl e) =
+  by-end begin d j pair ends (inl finish) =
       let once =
-      read-ends-once (r .S) (r .F) (r .steps) b d j p (e .client) (e .at) (e .pair) x (e .ends) in
+      read-ends-once (run .settings) (run .judge) (run .steps) begin d j pair (finish .client) (finish .at)
+      (finish .pair) ends (finish .ends) in
       rw (once .1, once .2) refl
-  by-end b d j p x (inr h) = absurd (h d j p x)
+  by-end begin d j pair ends (inr h) = absurd (h d j pair ends)
 
-  row-is : (b d j : ℕ) (p : Pair) → ReadEndsIn r b d j p → sorted b j p ≡ row b
+  row-is : (begin d j : ℕ) (pair : Pair) → ReadEndsIn run begin d j pair → sorted begin j pair ≡ row begin
   unfolding row
-  row-is b d j p x = by-end b d j p x (finished r b)
+  row-is begin d j pair ends = by-end begin d j pair ends (finished run begin)
 
-  module _ (b d j : ℕ) (p : Pair) (x : ReadEndsIn r b d j p) where
-    s : Showing r N b d j p
-    s = showing b d j p x
+  module _ (begin d j : ℕ) (pair : Pair) (ends : ReadEndsIn run begin d j pair) where
+    shown : Showing run total begin d j pair
+    shown = showing begin d j pair ends
 
     -- ---- the end of a member
 
-    write-ended : (a i : ℕ) (w : SentBefore r N a) → Ends (r .S) (r .F) (r .steps) a i
-        → Ending r a (w .client) i
-    write-ended a i w (inl e) =
-        let q = read-begins r (e .2 .begins) in let q′ = w .sending .begins in clash (cc)
-    write-ended a i w (inr e) = ends-in r (w .sending) (e .1)
+    write-ended : (write i : ℕ) (sent : SentBefore run total write)
+        → Ends (run .settings) (run .judge) (run .steps) write i → Ending run write (sent .client) i
+    write-ended write i sent (inl e) =
+        let q = read-begins run (e .2 .begins) in let q′ = sent .sending .begins in clash (cc)
+    write-ended write i sent (inr e) = ends-in run (sent .sending) (e .1)
 
-    read-ended : (i : ℕ) → Ends (r .S) (r .F) (r .steps) b i → i ≡ j
+    read-ended : (i : ℕ) → Ends (run .settings) (run .judge) (run .steps) begin i → i ≡ j
     read-ended i (inl e) =
-        read-ends-once (r .S) (r .F) (r .steps) b (e .0) i (e .1) d j p (e .2) x .1
-    read-ended i (inr e) = let q = write-begins r (e .1 .begins) in let q′ = s .begins in clash (cc)
+        read-ends-once (run .settings) (run .judge) (run .steps) begin (e .0) i (e .1) d j pair (e .2) ends .1
+    read-ended i (inr e) = let q = write-begins run (e .1 .begins) in let q′ = shown .begins in clash (cc)
 
     -- ---- the order of the row
 
-    key-order : (a c i : ℕ) → (a ≡ b) ⊎ SentBefore r N a → (c ≡ b) ⊎ SentBefore r N c
-        → Ends (r .S) (r .F) (r .steps) a i → i < c
-        → key r N b j (stamp p) a < key r N b j (stamp p) c
-    key-order a c i (inl ea) (inl ec) en lt =
-        absurd (let q = read-ended i (rw ea at en) in let l = x .later in omega arith)
-    key-order a c i (inl ea) (inr wc) en lt =
-        let q = read-ended i (rw ea at en) in rw ea (read-write s c wc (omega arith))
-    key-order a c i (inr wa) (inl ec) en lt =
-        rw ec (write-read s a i wa (write-ended a i wa en) (rw ec at lt))
-    key-order a c i (inr wa) (inr wc) en lt =
-        write-write s a c i wa wc (write-ended a i wa en) lt
+    key-order : (early late i : ℕ) → (early ≡ begin) ⊎ SentBefore run total early
+        → (late ≡ begin) ⊎ SentBefore run total late → Ends (run .settings) (run .judge) (run .steps) early i
+        → i < late → key run total begin j (stamp pair) early < key run total begin j (stamp pair) late
+    key-order early late i (inl ea) (inl ec) ended lt =
+        absurd (let q = read-ended i (rw ea at ended) in let l = ends .later in omega arith)
+    key-order early late i (inl ea) (inr sent′) ended lt =
+        let q = read-ended i (rw ea at ended) in rw ea (read-write shown late sent′ (omega arith))
+    key-order early late i (inr sent) (inl ec) ended lt =
+        rw ec (write-read shown early i sent (write-ended early i sent ended) (rw ec at lt))
+    key-order early late i (inr sent) (inr sent′) ended lt =
+        write-write shown early late i sent sent′ (write-ended early i sent ended) lt
 
     -- ---- what the read shows
 
-    legal : Known r j p → Legal (r .S) (r .F) (r .steps) b j p (rowOf r N b j (stamp p))
+    legal : Known run j pair
+        → Legal (run .settings) (run .judge) (run .steps) begin j pair (rowOf run total begin j (stamp pair))
     unfolding sent-in
-    legal (inl e) = first (record { shown = e; stands = stands-first s e })
-    legal (inr k) =
-        let w = pair-of j p (s .inList) k in
-        let q = w .1 in
-        let sent = sent-in (w .0) (record { client = q .client; at = q .at; pair = p; sends = q .sends }) in
-        let f = right-after s (w .0) sent (w .2) refl in
+    legal (inl e) = first (record { shown = e; stands = stands-first shown e })
+    legal (inr written) =
+        let one = pair-of j pair (shown .inList) written in
+        let only = one .1 in
+        let sent = sent-in (one .0)
+        (record { client = only .client; at = only .at; pair = pair; sends = only .sends }) in
+        let follows = right-after shown (one .0) sent (one .2) refl in
         behind (record {
           shown = not-initial (sent .sending);
-          write = w .0;
-          only = q;
-          sooner = w .2;
-          place = f .place;
-          stands = f .here;
-          next = f .next;
+          write = one .0;
+          only = only;
+          sooner = one .2;
+          place = follows .place;
+          stands = follows .here;
+          next = follows .next;
         })
 
-    sorted-row : Row (r .S) (r .F) (r .steps) b j p (sorted b j p)
+    sorted-row : Row (run .settings) (run .judge) (run .steps) begin j pair (sorted begin j pair)
     sorted-row =
         record {
-          members = λ a. (
-            (λ m. by-either (from-row s a m) (λ e. inl e) (λ w. inr (sent-out a w))),
-            (λ h. in-row s a (by-either h (λ e. inl e) (λ w. inr (sent-in a w)))),
+          members = λ operation. (
+            (λ m. by-either (from-row shown operation m) (λ e. inl e) (λ w. inr (sent-out operation w))),
+            (λ h. in-row shown operation (by-either h (λ e. inl e) (λ w. inr (sent-in operation w)))),
           );
-          once = λ a i i′ u v. once (key r N b j (stamp p)) _ (row-rises s) u v;
-          order = λ a c i ma mc en lt. lower-earlier s a c ma mc
-              (key-order a c i (from-row s a ma) (from-row s c mc) en lt);
-          legal = legal (chosen-known r j d p (s .decides));
+          once = λ operation i i′ u v. once (key run total begin j (stamp pair)) _ (row-rises shown) u v;
+          order = λ early late i member member′ ended lt. lower-earlier shown early late member member′
+              (key-order early late i (from-row shown early member) (from-row shown late member′) ended lt);
+          legal = legal (chosen-known run j d pair (shown .decides));
         }
 
-    pub is-row : Row (r .S) (r .F) (r .steps) b j p (row b)
-    is-row = subst (λ (l : List ℕ). Row (r .S) (r .F) (r .steps) b j p l) (row-is b d j p x) sorted-row
+    pub is-row : Row (run .settings) (run .judge) (run .steps) begin j pair (row begin)
+    is-row =
+        subst (λ (l : List ℕ). Row (run .settings) (run .judge) (run .steps) begin j pair l)
+        (row-is begin d j pair ends) sorted-row
 
   -- ---- agreement
 
-  one-way : (b₁ d₁ j₁ : ℕ) (p₁ : Pair) (b₂ d₂ j₂ : ℕ) (p₂ : Pair)
-      → ReadEndsIn r b₁ d₁ j₁ p₁ → ReadEndsIn r b₂ d₂ j₂ p₂ → (a c : ℕ) → HasSent (r .S) (r .F) (r .steps) a
-      → HasSent (r .S) (r .F) (r .steps) c → a < j₁ → a < j₂ → c < j₁ → c < j₂ → Earlier (sorted b₁ j₁ p₁) a c
-      → Earlier (sorted b₂ j₂ p₂) a c
-  one-way b₁ d₁ j₁ p₁ b₂ d₂ j₂ p₂ x₁ x₂ a c sa sc a₁ a₂ c₁ c₂ e =
-      let s₁ = showing b₁ d₁ j₁ p₁ x₁ in
-      let s₂ = showing b₂ d₂ j₂ p₂ x₂ in
-      let wa = sent-in a sa in
-      let wc = sent-in c sc in
-      let less = stamp-of-key s₁ a c wa wc a₁ c₁ (earlier-lower s₁ a c e) in
-      lower-earlier s₂ a c (in-row s₂ a (inr wa)) (in-row s₂ c (inr wc))
-      (key-of-stamp s₂ a c wa wc a₂ c₂ less)
+  one-way : (begin₁ d₁ j₁ : ℕ) (pair₁ : Pair) (begin₂ d₂ j₂ : ℕ) (pair₂ : Pair)
+      → ReadEndsIn run begin₁ d₁ j₁ pair₁ → ReadEndsIn run begin₂ d₂ j₂ pair₂ → (early late : ℕ)
+      → HasSent (run .settings) (run .judge) (run .steps) early
+      → HasSent (run .settings) (run .judge) (run .steps) late → early < j₁ → early < j₂ → late < j₁
+      → late < j₂ → Earlier (sorted begin₁ j₁ pair₁) early late
+      → Earlier (sorted begin₂ j₂ pair₂) early late
+  one-way begin₁ d₁ j₁ pair₁ begin₂ d₂ j₂ pair₂ ends₁ ends₂ early late sent sent′ early₁ early₂ late₁ late₂
+      earlier =
+      let showing₁ = showing begin₁ d₁ j₁ pair₁ ends₁ in
+      let showing₂ = showing begin₂ d₂ j₂ pair₂ ends₂ in
+      let before = sent-in early sent in
+      let before′ = sent-in late sent′ in
+      let less = stamp-of-key showing₁ early late before before′ early₁ late₁
+      (earlier-lower showing₁ early late earlier) in
+      lower-earlier showing₂ early late (in-row showing₂ early (inr before))
+      (in-row showing₂ late (inr before′)) (key-of-stamp showing₂ early late before before′ early₂ late₂ less)
 
-  pub agree : (b₁ d₁ j₁ : ℕ) (p₁ : Pair) (b₂ d₂ j₂ : ℕ) (p₂ : Pair)
-      → ReadEndsIn r b₁ d₁ j₁ p₁ → ReadEndsIn r b₂ d₂ j₂ p₂
-      → Agree (r .S) (r .F) (r .steps) j₁ j₂ (row b₁) (row b₂)
-  agree b₁ d₁ j₁ p₁ b₂ d₂ j₂ p₂ x₁ x₂ =
-      rw (← (row-is b₁ d₁ j₁ p₁ x₁), ← (row-is b₂ d₂ j₂ p₂ x₂))
-      (λ a c sa sc a₁ a₂ c₁ c₂. (
-        one-way b₁ d₁ j₁ p₁ b₂ d₂ j₂ p₂ x₁ x₂ a c sa sc a₁ a₂ c₁ c₂,
-        one-way b₂ d₂ j₂ p₂ b₁ d₁ j₁ p₁ x₂ x₁ a c sa sc a₂ a₁ c₂ c₁,
+  pub agree : (begin₁ d₁ j₁ : ℕ) (pair₁ : Pair) (begin₂ d₂ j₂ : ℕ) (pair₂ : Pair)
+      → ReadEndsIn run begin₁ d₁ j₁ pair₁ → ReadEndsIn run begin₂ d₂ j₂ pair₂
+      → Agree (run .settings) (run .judge) (run .steps) j₁ j₂ (row begin₁) (row begin₂)
+  agree begin₁ d₁ j₁ pair₁ begin₂ d₂ j₂ pair₂ ends₁ ends₂ =
+      rw (← (row-is begin₁ d₁ j₁ pair₁ ends₁), ← (row-is begin₂ d₂ j₂ pair₂ ends₂))
+      (λ early late sent sent′ early₁ early₂ late₁ late₂. (
+        one-way begin₁ d₁ j₁ pair₁ begin₂ d₂ j₂ pair₂ ends₁ ends₂ early late sent sent′ early₁ early₂ late₁
+            late₂,
+        one-way begin₂ d₂ j₂ pair₂ begin₁ d₁ j₁ pair₁ ends₂ ends₁ early late sent sent′ early₂ early₁ late₂
+            late₁,
       ))

@@ -6,19 +6,17 @@
 -- ended before another began has the lower key is `Ordered` for two writes, `NotOld` for a write and the
 -- read, and the raise for the read and a write.
 -- Assumes nothing.
+use Rattle.register.proofs.Vocabulary.{Member, At, begins, Earlier}
 use Rattle.basics.proofs.Prelude.{_≡_, refl, ap, subst, cond, _⊎_, inl, inr, _≢_, List, _∷_, ℕ, suc, _+_, _*_}
 use Rattle.basics.proofs.Prelude.{_≤_, _<_, arith, eqb, ltb, eq-eqb, ne-eqb, ltb-true, ltb-false, lt-ltb}
 use Rattle.basics.proofs.Prelude.{le-ltb}
-use Rattle.basics.specs.Members.{Member, At}
 use Rattle.basics.proofs.Cases.{by-test, by-either, clash}
 use Rattle.basics.proofs.Members.{every-of}
 use Rattle.basics.proofs.Sorting.{Rises, apart-of, sortBy, mem-sort, sort-mem, sort-rises, place, earlier}
 use Rattle.basics.proofs.Sorting.{next-to, first, rises-at}
-use Rattle.register.proofs.Vocabulary.{Entry, Pair, stamp, initial, Reading, ReadingForWrite}
 use Rattle.message.proofs.Pairs.{initial-stamp}
-use Rattle.register.specs.World.{begins}
-use Rattle.register.specs.DemandThree.{Earlier}
-use Rattle.register.proofs.Run.{Run, event}
+use Rattle.register.proofs.Vocabulary.{Entry, Pair, stamp, initial, Reading, ReadingForWrite}
+use Rattle.register.proofs.Run.{Run, eventIn}
 use Rattle.register.proofs.Since.{since}
 use Rattle.register.proofs.ReadStatus.{DecidesAt}
 use Rattle.register.proofs.Genuine.{Known}
@@ -29,203 +27,213 @@ use Rattle.register.proofs.Unique.{unique, sender}
 use Rattle.register.proofs.SentWrites.{sentWrites, stampOf, top, SentBefore, member-sent, sent-member}
 use Rattle.register.proofs.SentWrites.{stamp-at, top-above, below-top, apart}
 
-module _ (r : Run) where
-  -- the read of client d begun at b ends at step j, one of N steps, and shows p
-  pub record Showing (N b d j : ℕ) (p : Pair) : Type 0 where
-    pub begins : event r b ≡ begins d Reading
-    pub after : b < j
-    pub inList : j < N
-    pub begun : since r j d ≡ b
-    pub decides : DecidesAt r j d p
+module _ (run : Run) where
+  -- the read of client d begun at `begin` ends at step j, one of a total of steps, and shows the pair
+  pub record Showing (total begin d j : ℕ) (pair : Pair) : Type 0 where
+    pub begins : eventIn run begin ≡ begins d Reading
+    pub after : begin < j
+    pub inList : j < total
+    pub begun : since run j d ≡ begin
+    pub decides : DecidesAt run j d pair
 
-  -- N is the number of steps, b the read, j its end, t the timestamp that it shows
-  unfoldable pub key : (N b j t : ℕ) → ℕ → ℕ
-  key N b j t a = cond (eqb a b) (2 * t + 1) (cond (ltb a j) 0 (2 * top r N) + 2 * stampOf r N a)
+  -- of an operation: `total` is the number of steps, `begin` the read, j its end, `shown` the timestamp that
+  -- it shows
+  unfoldable pub key : (total begin j shown : ℕ) → ℕ → ℕ
+  key total begin j shown operation =
+      cond (eqb operation begin) (2 * shown + 1)
+      (cond (ltb operation j) 0 (2 * top run total) + 2 * stampOf run total operation)
 
-  unfoldable pub rowOf : (N b j t : ℕ) → List ℕ
-  rowOf N b j t = sortBy (key N b j t) (b ∷ sentWrites r N)
+  unfoldable pub rowOf : (total begin j shown : ℕ) → List ℕ
+  rowOf total begin j shown = sortBy (key total begin j shown) (begin ∷ sentWrites run total)
 
-  not-read : (b d a : ℕ) (entry : Entry) (c : ℕ) → event r b ≡ begins d Reading
-      → event r a ≡ begins c (ReadingForWrite entry)
-      → a ≡ b → ⊥
-  not-read b d a entry c x y e =
-      let y′ : event r b ≡ begins c (ReadingForWrite entry) =
-      subst (λ (z : ℕ). event r z ≡ begins c (ReadingForWrite entry)) e y in
+  not-read : (begin d write : ℕ) (entry : Entry) (d′ : ℕ) → eventIn run begin ≡ begins d Reading
+      → eventIn run write ≡ begins d′ (ReadingForWrite entry) → write ≡ begin → ⊥
+  not-read begin d write entry d′ isRead isWrite e =
+      let isWrite′ : eventIn run begin ≡ begins d′ (ReadingForWrite entry) =
+      subst (λ (z : ℕ). eventIn run z ≡ begins d′ (ReadingForWrite entry)) e isWrite in
       clash (cc)
 
-module _ {r : Run} {N b d j : ℕ} {p : Pair} (s : Showing r N b d j p) where
+module _ {run : Run} {total begin d j : ℕ} {pair : Pair} (showing : Showing run total begin d j pair) where
   -- the key and the row of this read, and its writes
   abbrev keyOf : ℕ → ℕ
-  keyOf a = key r N b j (stamp p) a
+  keyOf operation = key run total begin j (stamp pair) operation
 
   abbrev row : List ℕ
-  row = rowOf r N b j (stamp p)
+  row = rowOf run total begin j (stamp pair)
 
   abbrev Write : ℕ → Type 0
-  Write a = SentBefore r N a
+  Write operation = SentBefore run total operation
 
   -- ---- the keys
 
-  key-read : keyOf b ≡ 2 * stamp p + 1
+  key-read : keyOf begin ≡ 2 * stamp pair + 1
   unfolding key
-  key-read = rw (eq-eqb b b refl) refl
+  key-read = rw (eq-eqb begin begin refl) refl
 
-  key-early : (a : ℕ) (w : Write a) → a < j → keyOf a ≡ 2 * stamp (w .pair)
+  key-early : (write : ℕ) (sent : Write write) → write < j → keyOf write ≡ 2 * stamp (sent .pair)
   unfolding key
-  key-early a w lt =
+  key-early write sent lt =
       rw (
-        ne-eqb a b (not-read r b d a _ (w .client) (s .begins) (w .sending .begins)),
-        lt-ltb a j lt,
-        stamp-at r N (w .sending) (w .before),
+        ne-eqb write begin
+            (not-read run begin d write _ (sent .client) (showing .begins) (sent .sending .begins)),
+        lt-ltb write j lt,
+        stamp-at run total (sent .sending) (sent .before),
       ) (omega arith)
 
-  key-late : (a : ℕ) (w : Write a) → j ≤ a → keyOf a ≡ 2 * top r N + 2 * stamp (w .pair)
+  key-late : (write : ℕ) (sent : Write write) → j ≤ write
+      → keyOf write ≡ 2 * top run total + 2 * stamp (sent .pair)
   unfolding key
-  key-late a w le =
+  key-late write sent le =
       rw (
-        ne-eqb a b (not-read r b d a _ (w .client) (s .begins) (w .sending .begins)),
-        le-ltb a j le,
-        stamp-at r N (w .sending) (w .before),
+        ne-eqb write begin
+            (not-read run begin d write _ (sent .client) (showing .begins) (sent .sending .begins)),
+        le-ltb write j le,
+        stamp-at run total (sent .sending) (sent .before),
       ) refl
 
-  stamp-top : (a : ℕ) (w : Write a) → stamp (w .pair) < top r N
-  stamp-top a w = below-top r N (w .sending) (w .before)
+  stamp-top : (write : ℕ) (sent : Write write) → stamp (sent .pair) < top run total
+  stamp-top write sent = below-top run total (sent .sending) (sent .before)
 
   -- a write began before the read ended, or did not
-  by-time {ℓ} : {C : Type ℓ} (a : ℕ) (w : Write a)
-      → (a < j → keyOf a ≡ 2 * stamp (w .pair) → C)
-      → (j ≤ a → keyOf a ≡ 2 * top r N + 2 * stamp (w .pair) → C) → C
-  by-time a w early late =
-      by-test (ltb a j) (λ e. early (ltb-true a j e) (key-early a w (ltb-true a j e)))
-      (λ e. late (ltb-false a j e) (key-late a w (ltb-false a j e)))
+  by-time {ℓ} : {C : Type ℓ} (write : ℕ) (sent : Write write)
+      → (write < j → keyOf write ≡ 2 * stamp (sent .pair) → C)
+      → (j ≤ write → keyOf write ≡ 2 * top run total + 2 * stamp (sent .pair) → C) → C
+  by-time write sent early late =
+      by-test (ltb write j) (λ e. early (ltb-true write j e) (key-early write sent (ltb-true write j e)))
+      (λ e. late (ltb-false write j e) (key-late write sent (ltb-false write j e)))
 
-  same-key : (a c : ℕ) → Write a → Write c → keyOf a ≡ keyOf c → a ≡ c
-  same-key a c wa wc e =
-      let la = stamp-top a wa in
-      let lc = stamp-top c wc in
-      let one : stamp (wa .pair) ≡ stamp (wc .pair) → a ≡ c = unique (wa .sending) (wc .sending) in
-      by-time a wa
-      (λ x ka. by-time c wc (λ y kc. one (omega arith)) (λ y kc. absurd (omega arith)))
-      (λ x ka. by-time c wc (λ y kc. absurd (omega arith)) (λ y kc. one (omega arith)))
+  same-key : (write write′ : ℕ) → Write write → Write write′ → keyOf write ≡ keyOf write′ → write ≡ write′
+  same-key write write′ sent sent′ e =
+      let la = stamp-top write sent in
+      let lc = stamp-top write′ sent′ in
+      let one : stamp (sent .pair) ≡ stamp (sent′ .pair) → write ≡ write′ =
+      unique (sent .sending) (sent′ .sending) in
+      by-time write sent
+      (λ x ka. by-time write′ sent′ (λ y kc. one (omega arith)) (λ y kc. absurd (omega arith)))
+      (λ x ka. by-time write′ sent′ (λ y kc. absurd (omega arith)) (λ y kc. one (omega arith)))
 
   -- the read's key is odd, a write's is even
-  odd : (a : ℕ) → Write a → keyOf b ≡ keyOf a → ⊥
-  odd a w e = let kr = key-read in by-time a w (λ y ka. omega arith) (λ y ka. omega arith)
+  odd : (write : ℕ) → Write write → keyOf begin ≡ keyOf write → ⊥
+  odd write sent e = let kr = key-read in by-time write sent (λ y ka. omega arith) (λ y ka. omega arith)
 
   -- ---- the row
 
   pub row-rises : Rises keyOf row
   unfolding rowOf
   row-rises =
-      sort-rises keyOf (b ∷ sentWrites r N) (
-        every-of (λ y. keyOf b ≢ keyOf y) (sentWrites r N) (λ y m e. odd y (member-sent r N y m) e),
-        apart-of keyOf (sentWrites r N)
-            (λ a c ma mc e. same-key a c (member-sent r N a ma) (member-sent r N c mc) e) (apart r N),
+      sort-rises keyOf (begin ∷ sentWrites run total) (
+        every-of (λ y. keyOf begin ≢ keyOf y) (sentWrites run total)
+            (λ y m e. odd y (member-sent run total y m) e),
+        apart-of keyOf (sentWrites run total)
+            (λ a c ma mc e. same-key a c (member-sent run total a ma) (member-sent run total c mc) e)
+            (apart run total),
       )
 
-  pub from-row : (a : ℕ) → Member a row → (a ≡ b) ⊎ Write a
+  pub from-row : (operation : ℕ) → Member operation row → (operation ≡ begin) ⊎ Write operation
   unfolding rowOf
-  from-row a m =
-      by-either (mem-sort keyOf a (b ∷ sentWrites r N) m) (λ e. inl e) (λ q. inr (member-sent r N a q))
+  from-row operation member =
+      by-either (mem-sort keyOf operation (begin ∷ sentWrites run total) member) (λ e. inl e)
+      (λ q. inr (member-sent run total operation q))
 
-  pub in-row : (a : ℕ) → (a ≡ b) ⊎ Write a → Member a row
+  pub in-row : (operation : ℕ) → (operation ≡ begin) ⊎ Write operation → Member operation row
   unfolding rowOf
-  in-row a h =
-      sort-mem keyOf a (b ∷ sentWrites r N)
-      (by-either h (λ e. inl e) (λ w. inr (sent-member r N (w .sending) (w .before))))
+  in-row operation h =
+      sort-mem keyOf operation (begin ∷ sentWrites run total)
+      (by-either h (λ e. inl e) (λ w. inr (sent-member run total (w .sending) (w .before))))
 
-  pub lower-earlier : (a c : ℕ) → Member a row → Member c row
-      → keyOf a < keyOf c → Earlier row a c
-  lower-earlier a c ma mc lt =
-      let x = place row a ma in
-      let y = place row c mc in
+  pub lower-earlier : (early late : ℕ) → Member early row → Member late row
+      → keyOf early < keyOf late → Earlier row early late
+  lower-earlier early late member member′ lt =
+      let here = place row early member in
+      let there = place row late member′ in
       record {
-        one = x .0;
-        two = y .0;
-        first = x .1;
-        second = y .1;
-        before = earlier keyOf row row-rises (x .1) (y .1) lt;
+        one = here .0;
+        two = there .0;
+        first = here .1;
+        second = there .1;
+        before = earlier keyOf row row-rises (here .1) (there .1) lt;
       }
 
-  pub earlier-lower : (a c : ℕ) → Earlier row a c → keyOf a < keyOf c
-  earlier-lower a c e =
+  pub earlier-lower : (early late : ℕ) → Earlier row early late → keyOf early < keyOf late
+  earlier-lower early late e =
       rw (e .first .is, e .second .is)
       at (rises-at keyOf row row-rises (e .one) (e .two) (e .before) (e .second .inside))
 
   -- ---- a member that ended before another began has the lower key
 
-  pub write-write : (a c i : ℕ) (wa : Write a) (wc : Write c) → Ending r a (wa .client) i → i < c
-      → keyOf a < keyOf c
-  write-write a c i wa wc e ic =
-      let less = ordered (wa .sending) e (wc .sending) ic in
-      let la = stamp-top a wa in
-      let ai = e .after in
-      by-time c wc (λ y kc. let ka = key-early a wa (omega arith) in omega arith)
-      (λ y kc. by-time a wa (λ x ka. omega arith) (λ x ka. omega arith))
+  pub write-write : (early late i : ℕ) (sent : Write early) (sent′ : Write late)
+      → Ending run early (sent .client) i → i < late → keyOf early < keyOf late
+  write-write early late i sent sent′ ending ic =
+      let less = ordered (sent .sending) ending (sent′ .sending) ic in
+      let la = stamp-top early sent in
+      let ai = ending .after in
+      by-time late sent′ (λ y kc. let ka = key-early early sent (omega arith) in omega arith)
+      (λ y kc. by-time early sent (λ x ka. omega arith) (λ x ka. omega arith))
 
-  pub write-read : (a i : ℕ) (wa : Write a) → Ending r a (wa .client) i → i < b → keyOf a < keyOf b
-  write-read a i wa e ib =
-      let st = stored-when-ended (wa .sending) e in
-      let low : stamp (wa .pair) ≤ stamp p =
-      not-old r j d p (stamp (wa .pair)) (s .decides)
-      (rw (s .begun) (stored-stays r i b (stamp (wa .pair)) (omega arith) st)) in
-      let bj = s .after in
-      let ai = e .after in
-      let ka = key-early a wa (omega arith) in
+  pub write-read : (write i : ℕ) (sent : Write write) → Ending run write (sent .client) i → i < begin
+      → keyOf write < keyOf begin
+  write-read write i sent ending ib =
+      let stored = stored-when-ended (sent .sending) ending in
+      let low : stamp (sent .pair) ≤ stamp pair = not-old run j d pair (stamp (sent .pair)) (showing .decides)
+      (rw (showing .begun) (stored-stays run i begin (stamp (sent .pair)) (omega arith) stored)) in
+      let bj = showing .after in
+      let ai = ending .after in
+      let ka = key-early write sent (omega arith) in
       let kr = key-read in
       omega arith
 
-  shown-top : Known r j p → stamp p < top r N
-  shown-top (inl e) = let one = top-above r N in let z : stamp p ≡ 0 = rw e initial-stamp in omega arith
-  shown-top (inr k) =
-      let w = sender r (k .at) (k .client) p (k .puts) in
-      let x = k .before in
-      below-top r N (w .sending) (omega arith)
+  shown-top : Known run j pair → stamp pair < top run total
+  shown-top (inl e) =
+      let one = top-above run total in let z : stamp pair ≡ 0 = rw e initial-stamp in omega arith
+  shown-top (inr written) =
+      let found = sender run (written .at) (written .client) pair (written .puts) in
+      let x = written .before in
+      below-top run total (found .sending) (omega arith)
 
-  pub read-write : (c : ℕ) (wc : Write c) → j < c → keyOf b < keyOf c
-  read-write c wc lt =
-      let kc = key-late c wc (omega arith) in
+  pub read-write : (write : ℕ) (sent : Write write) → j < write → keyOf begin < keyOf write
+  read-write write sent lt =
+      let kc = key-late write sent (omega arith) in
       let kr = key-read in
-      let l = shown-top (chosen-known r j d p (s .decides)) in
+      let l = shown-top (chosen-known run j d pair (showing .decides)) in
       omega arith
 
   -- ---- where the read stands
 
-  high : (a : ℕ) (w : Write a) → 16 ≤ stamp (w .pair)
-  high a w = let f = sent-facts (w .sending) .stamp in omega arith
+  high : (write : ℕ) (sent : Write write) → 16 ≤ stamp (sent .pair)
+  high write sent = let f = sent-facts (sent .sending) .stamp in omega arith
 
-  pub stands-first : p ≡ initial → At row b 0
+  pub stands-first : pair ≡ initial → At row begin 0
   stands-first e =
-      let x = place row b (in-row b (inl refl)) in
-      let z : stamp p ≡ 0 = rw e initial-stamp in
+      let here = place row begin (in-row begin (inl refl)) in
+      let z : stamp pair ≡ 0 = rw e initial-stamp in
       let kr = key-read in
-      let at =
-      first keyOf row row-rises (x .1)
+      let at = first keyOf row row-rises (here .1)
       (λ c m. by-either (from-row c m) (λ q. rw q (omega arith))
       (λ w. let h = high c w in by-time c w (λ y kc. omega arith) (λ y kc. omega arith))) in
-      rw at at (x .1)
+      rw at at (here .1)
 
   pub record Follows (a : ℕ) : Type 0 where
     pub place : ℕ
     pub here : At row a place
-    pub next : At row b (suc place)
+    pub next : At row begin (suc place)
 
-  pub right-after : (a : ℕ) (w : Write a) → a < j → w .pair ≡ p → Follows a
-  right-after a w lt e =
-      let x = place row a (in-row a (inr w)) in
-      let y = place row b (in-row b (inl refl)) in
+  pub right-after : (write : ℕ) (sent : Write write) → write < j → sent .pair ≡ pair → Follows write
+  right-after write sent lt e =
+      let here = place row write (in-row write (inr sent)) in
+      let next = place row begin (in-row begin (inl refl)) in
       let kr = key-read in
-      let ka = key-early a w lt in
-      let t : stamp (w .pair) ≡ stamp p = ap stamp e in
-      let q =
-      next-to keyOf row row-rises (x .1) (y .1) (omega arith) (λ c m less. omega arith) in
-      record { place = x .0; here = x .1; next = rw q at (y .1) }
+      let ka = key-early write sent lt in
+      let t : stamp (sent .pair) ≡ stamp pair = ap stamp e in
+      let q = next-to keyOf row row-rises (here .1) (next .1) (omega arith) (λ c m less. omega arith) in
+      record { place = here .0; here = here .1; next = rw q at (next .1) }
 
   -- writes that began before the read ended stand by timestamp
-  pub stamp-of-key : (a c : ℕ) (wa : Write a) (wc : Write c) → a < j → c < j
-      → keyOf a < keyOf c → stamp (wa .pair) < stamp (wc .pair)
-  stamp-of-key a c wa wc la lc lt = let ka = key-early a wa la in let kc = key-early c wc lc in omega arith
+  pub stamp-of-key : (write write′ : ℕ) (sent : Write write) (sent′ : Write write′) → write < j → write′ < j
+      → keyOf write < keyOf write′ → stamp (sent .pair) < stamp (sent′ .pair)
+  stamp-of-key write write′ sent sent′ la lc lt =
+      let ka = key-early write sent la in let kc = key-early write′ sent′ lc in omega arith
 
-  pub key-of-stamp : (a c : ℕ) (wa : Write a) (wc : Write c) → a < j → c < j
-      → stamp (wa .pair) < stamp (wc .pair) → keyOf a < keyOf c
-  key-of-stamp a c wa wc la lc lt = let ka = key-early a wa la in let kc = key-early c wc lc in omega arith
+  pub key-of-stamp : (write write′ : ℕ) (sent : Write write) (sent′ : Write write′) → write < j → write′ < j
+      → stamp (sent .pair) < stamp (sent′ .pair) → keyOf write < keyOf write′
+  key-of-stamp write write′ sent sent′ la lc lt =
+      let ka = key-early write sent la in let kc = key-early write′ sent′ lc in omega arith

@@ -4,37 +4,35 @@
 -- list every step is refused, so nothing changes there.
 -- Assumes nothing.
 use Rattle.basics.proofs.Prelude.{List, ℕ}
-use Rattle.register.specs.declared.Answer.{Answer}
-use Rattle.register.specs.Settings.{Settings, Accepted}
-use Rattle.register.specs.World.{World, Event}
-use Rattle.register.specs.Steps.{Step, Formats}
-use Rattle.register.specs.History.{stepAt, worldAt, eventAt, answerAt}
+use Rattle.register.proofs.Vocabulary.{Answer, Settings, Accepted, World, Event, Step, Formats, stepAt}
+use Rattle.register.proofs.Vocabulary.{worldAt, answerAt}
+use Rattle.register.specs.History.{eventAt}
 use Rattle.register.proofs.Bounds.{Bounds, bounds}
 use Rattle.register.proofs.Enabled.{Enabled, enabled}
 pub use Rattle.register.proofs.Lawful.{Lawful}
 
 pub record Run : Type 0 where
-  pub S : Settings
-  pub F : Formats
+  pub settings : Settings
+  pub judge : Formats
   pub steps : List Step
-  pub accepted : Accepted S
-  pub lawful : Lawful F
+  pub accepted : Accepted settings
+  pub lawful : Lawful judge
 
-module _ (r : Run) where
-  abbrev pub step : ℕ → Step
-  step i = stepAt (r .S) (r .F) (r .steps) i
+module _ (run : Run) where
+  abbrev pub stepIn : ℕ → Step
+  stepIn i = stepAt (run .settings) (run .judge) (run .steps) i
 
-  abbrev pub world : ℕ → World
-  world i = worldAt (r .S) (r .F) (r .steps) i
+  abbrev pub worldIn : ℕ → World
+  worldIn i = worldAt (run .settings) (run .judge) (run .steps) i
 
-  abbrev pub event : ℕ → Event
-  event i = eventAt (r .S) (r .F) (r .steps) i
+  abbrev pub eventIn : ℕ → Event
+  eventIn i = eventAt (run .settings) (run .judge) (run .steps) i
 
-  abbrev pub answer : ℕ → Answer
-  answer i = answerAt (r .S) (r .F) (r .steps) i
+  abbrev pub answerIn : ℕ → Answer
+  answerIn i = answerAt (run .settings) (run .judge) (run .steps) i
 
-  pub enabled-at : (i : ℕ) → Enabled (r .S) (r .F) (world i) (event i)
-  enabled-at i = enabled (r .S) (r .F) (world i) (step i)
+  pub enabled-at : (i : ℕ) → Enabled (run .settings) (run .judge) (worldIn i) (eventIn i)
+  enabled-at i = enabled (run .settings) (run .judge) (worldIn i) (stepIn i)
 
-  pub bounded : Bounds (r .S)
-  bounded = bounds (r .S) (r .accepted)
+  pub bounded : Bounds (run .settings)
+  bounded = bounds (run .settings) (run .accepted)

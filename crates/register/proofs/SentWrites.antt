@@ -4,19 +4,17 @@
 -- gives the list of the writes that sent, each once since a write sends once (`apart`); the timestamp of each
 -- (`stamp-at`); and a number above all these timestamps (`below-top`), which the keys of a row use.
 -- Assumes nothing.
+use Rattle.register.proofs.Vocabulary.{Member, Settings, World, Event, refuses, begins, serves, takes}
+use Rattle.register.proofs.Vocabulary.{stops, lies, responseOf, Formats}
 use Rattle.basics.proofs.Prelude.{_≡_, refl, sym, ap, subst, cond, _⊎_, inl, inr, List, [], _∷_, ℕ, zero, suc}
 use Rattle.basics.proofs.Prelude.{_+_, _≤_, _<_, le-refl, not-suc-le-zero, arith, eqb, eqb-true, eqb-false}
-use Rattle.basics.specs.Members.{Member}
 use Rattle.basics.proofs.Cases.{by-test, by-either, clash}
 use Rattle.basics.proofs.Ranges.{at-last}
 use Rattle.basics.proofs.Sorting.{Distinct}
 use Rattle.register.proofs.Vocabulary.{Message, GetInfo, Info, Done, WriteInfo, Fwd, WriteAck, Pair}
 use Rattle.register.proofs.Vocabulary.{stamp}
-use Rattle.register.specs.Settings.{Settings}
-use Rattle.register.specs.World.{World, Event, refuses, begins, serves, takes, stops, lies, responseOf}
-use Rattle.register.specs.Steps.{Formats}
-use Rattle.register.proofs.Run.{Run, world, event}
-use Rattle.register.proofs.Frames.{Puts}
+use Rattle.register.proofs.Run.{Run, worldIn, eventIn}
+use Rattle.register.proofs.Channels.{Puts}
 use Rattle.register.proofs.PutCases.{PutsAt, sends-at}
 use Rattle.register.proofs.Since.{since}
 use Rattle.register.proofs.Ordered.{Sending, sent-facts}
@@ -25,166 +23,182 @@ use Rattle.register.proofs.Unique.{sends-once, sender}
 -- ---- whether an event puts a WRITE_INFO
 
 -- the WRITE_INFO of a list of messages, or that there is none
-find : (l : List Message) → ((p : Pair) × Member (WriteInfo p) l) ⊎ ((p : Pair) → Member (WriteInfo p) l → ⊥)
+find : (channel : List Message)
+    → ((pair : Pair) × Member (WriteInfo pair) channel) ⊎ ((pair : Pair) → Member (WriteInfo pair) channel
+    → ⊥)
 find [] = inr (λ p h. h)
-find (m ∷ ms) = by-either (find ms) (λ f. inl (f .0, inr (f .1))) (λ never. front m never)
+find (message ∷ rest) = by-either (find rest) (λ f. inl (f .0, inr (f .1))) (λ never. front message never)
   where
-    front : (m : Message) → ((p : Pair) → Member (WriteInfo p) ms → ⊥)
-        → ((p : Pair) × Member (WriteInfo p) (m ∷ ms)) ⊎ ((p : Pair) → Member (WriteInfo p) (m ∷ ms) → ⊥)
-    front (WriteInfo q) never = inl (q, inl refl)
-    front (GetInfo t) never = inr (λ p h. by-either h (λ q. clash (cc)) (never p))
-    front (Info t q) never = inr (λ p h. by-either h (λ q. clash (cc)) (never p))
+    front : (message : Message) → ((pair : Pair) → Member (WriteInfo pair) rest → ⊥)
+        → ((pair : Pair) × Member (WriteInfo pair) (message ∷ rest))
+        ⊎ ((pair : Pair) → Member (WriteInfo pair) (message ∷ rest) → ⊥)
+    front (WriteInfo other) never = inl (other, inl refl)
+    front (GetInfo tag) never = inr (λ p h. by-either h (λ q. clash (cc)) (never p))
+    front (Info tag other) never = inr (λ p h. by-either h (λ q. clash (cc)) (never p))
     front Done never = inr (λ p h. by-either h (λ q. clash (cc)) (never p))
-    front (Fwd q) never = inr (λ p h. by-either h (λ q. clash (cc)) (never p))
-    front (WriteAck c) never = inr (λ p h. by-either h (λ q. clash (cc)) (never p))
+    front (Fwd other) never = inr (λ p h. by-either h (λ q. clash (cc)) (never p))
+    front (WriteAck count) never = inr (λ p h. by-either h (λ q. clash (cc)) (never p))
 
-pub data Put (S : Settings) (F : Formats) (w : World) (e : Event) : Type 0 where
-  nothing : ((d : ℕ) (p : Pair) → Puts S F w e d (WriteInfo p) → ⊥) → Put S F w e
-  puts : (d : ℕ) (p : Pair) → Puts S F w e d (WriteInfo p) → Put S F w e
+pub data Put (settings : Settings) (judge : Formats) (world : World) (event : Event) : Type 0 where
+  nothing : ((d : ℕ) (pair : Pair) → Puts settings judge world event d (WriteInfo pair) → ⊥)
+      → Put settings judge world event
+  puts : (d : ℕ) (pair : Pair) → Puts settings judge world event d (WriteInfo pair)
+      → Put settings judge world event
 
-pub put : (S : Settings) (F : Formats) (w : World) (e : Event) → Put S F w e
-put S F w (refuses r) = nothing (λ d p h. h)
-put S F w (begins c ph) = nothing (λ d p h. clash (cc))
-put S F w (serves k c m ms) = nothing (λ d p h. h)
-put S F w (takes c k m ms) =
-    by-either (find (responseOf S w c k m .sends)) (λ f. puts c (f .0) (refl, f .1))
+pub put : (settings : Settings) (judge : Formats) (world : World) (event : Event)
+    → Put settings judge world event
+put settings judge world (refuses refusal) = nothing (λ d p h. h)
+put settings judge world (begins d′ phase) = nothing (λ d p h. clash (cc))
+put settings judge world (serves k d′ message rest) = nothing (λ d p h. h)
+put settings judge world (takes d′ k message rest) =
+    by-either (find (responseOf settings world d′ k message .sends)) (λ f. puts d′ (f .0) (refl, f .1))
     (λ never. nothing (λ d p h. never p (h .1)))
-put S F w (stops c) = nothing (λ d p h. h)
-put S F w (lies k c m) = nothing (λ d p h. h)
+put settings judge world (stops d′) = nothing (λ d p h. h)
+put settings judge world (lies k d′ message) = nothing (λ d p h. h)
 
 -- ---- the writes that sent
 
-module _ (r : Run) where
+module _ (run : Run) where
   abbrev PutAt : ℕ → Type 0
-  PutAt n = Put (r .S) (r .F) (world r n) (event r n)
+  PutAt n = Put (run .settings) (run .judge) (worldIn run n) (eventIn run n)
 
   put-at : (n : ℕ) → PutAt n
-  put-at n = put (r .S) (r .F) (world r n) (event r n)
+  put-at n = put (run .settings) (run .judge) (worldIn run n) (eventIn run n)
 
   pushed : (n : ℕ) → PutAt n → List ℕ → List ℕ
-  pushed n (nothing _) l = l
-  pushed n (puts d p h) l = since r n d ∷ l
+  pushed n (nothing _) writes = writes
+  pushed n (puts d pair here) writes = since run n d ∷ writes
 
   stamped : (n : ℕ) → PutAt n → ℕ → ℕ → ℕ
-  stamped n (nothing _) b t = t
-  stamped n (puts d p h) b t = cond (eqb (since r n d) b) (stamp p) t
+  stamped n (nothing _) begin before = before
+  stamped n (puts d pair here) begin before = cond (eqb (since run n d) begin) (stamp pair) before
 
   raised : (n : ℕ) → PutAt n → ℕ → ℕ
-  raised n (nothing _) t = t
-  raised n (puts d p h) t = t + stamp p
+  raised n (nothing _) before = before
+  raised n (puts d pair here) before = before + stamp pair
 
-  -- the writes that sent before step n, the timestamp of the write b, and a number above all of them
+  -- the writes that sent before step n, the timestamp of the write begun at `begin`, and a number above all
+  -- of them
   pub sentWrites : ℕ → List ℕ
   sentWrites zero = []
   sentWrites (suc n) = pushed n (put-at n) (sentWrites n)
 
   pub stampOf : ℕ → ℕ → ℕ
-  stampOf zero b = 0
-  stampOf (suc n) b = stamped n (put-at n) b (stampOf n b)
+  stampOf zero begin = 0
+  stampOf (suc n) begin = stamped n (put-at n) begin (stampOf n begin)
 
   pub top : ℕ → ℕ
   top zero = 1
   top (suc n) = raised n (put-at n) (top n)
 
-  -- the write b sent before step n
-  pub record SentBefore (n b : ℕ) : Type 0 where
+  -- the write begun at `begin` sent before step n
+  pub record SentBefore (n begin : ℕ) : Type 0 where
     pub client : ℕ
     pub at : ℕ
     pub before : at < n
     pub pair : Pair
-    pub sending : Sending r b client at pair
+    pub sending : Sending run begin client at pair
 
-  later : (n b : ℕ) → SentBefore n b → SentBefore (suc n) b
-  later n b s =
+  later : (n begin : ℕ) → SentBefore n begin → SentBefore (suc n) begin
+  later n begin sent =
       record {
-        client = s .client;
-        at = s .at;
-        before = let x = s .before in omega arith;
-        pair = s .pair;
-        sending = s .sending;
+        client = sent .client;
+        at = sent .at;
+        before = let x = sent .before in omega arith;
+        pair = sent .pair;
+        sending = sent .sending;
       }
 
   -- a WRITE_INFO belongs to the write that its client last began
-  sends-now : (n d : ℕ) (p : Pair) → PutsAt r n d p → Sending r (since r n d) d n p
-  sends-now n d p h =
-      let s = sender r n d p h .sending in subst (λ (b : ℕ). Sending r b d n p) (sym (sent-facts s .begun)) s
+  sends-now : (n d : ℕ) (pair : Pair) → PutsAt run n d pair → Sending run (since run n d) d n pair
+  sends-now n d pair here =
+      let sending = sender run n d pair here .sending in subst (λ (begin : ℕ). Sending run begin d n pair)
+      (sym (sent-facts sending .begun)) sending
 
   -- and to no other
-  one-sender : {n b d : ℕ} {p : Pair} → Sending r b d n p → (d′ : ℕ) (p′ : Pair) → PutsAt r n d′ p′
-      → since r n d′ ≡ b
-  one-sender {n} {b} {d} {p} s d′ p′ h =
-      let q = sends-at r n d p (s .puts) .by .event in
-      let q′ = sends-at r n d′ p′ h .by .event in
+  one-sender : {n begin d : ℕ} {pair : Pair} → Sending run begin d n pair → (d′ : ℕ) (pair′ : Pair)
+      → PutsAt run n d′ pair′ → since run n d′ ≡ begin
+  one-sender {n} {begin} {d} {pair} sending d′ pair′ here =
+      let q = sends-at run n d pair (sending .puts) .by .event in
+      let q′ = sends-at run n d′ pair′ here .by .event in
       let e : d ≡ d′ = cc in
-      rw (← e) (sent-facts s .begun)
+      rw (← e) (sent-facts sending .begun)
 
-  send-now : {n b d j : ℕ} {p : Pair} → Sending r b d j p → j ≡ n → Sending r b d n p
-  send-now {b = b} {d = d} {p = p} s e = subst (λ (z : ℕ). Sending r b d z p) e s
+  send-now : {n begin d j : ℕ} {pair : Pair} → Sending run begin d j pair → j ≡ n → Sending run begin d n pair
+  send-now {begin = begin} {d = d} {pair = pair} sending e =
+      subst (λ (z : ℕ). Sending run begin d z pair) e sending
 
-  pub member-sent : (n b : ℕ) → Member b (sentWrites n) → SentBefore n b
+  pub member-sent : (n begin : ℕ) → Member begin (sentWrites n) → SentBefore n begin
   unfolding sentWrites pushed
-  member-sent zero b h = absurd h
-  member-sent (suc n) b h = go (λ q. later n b (member-sent n b q)) (put-at n) h
+  member-sent zero begin member = absurd member
+  member-sent (suc n) begin member = go (λ q. later n begin (member-sent n begin q)) (put-at n) member
     where
-      go : (Member b (sentWrites n) → SentBefore (suc n) b) → (t : PutAt n)
-          → Member b (pushed n t (sentWrites n)) → SentBefore (suc n) b
-      go ih (nothing _) h = ih h
-      go ih (puts d p q) h =
-          by-either h
+      go : (Member begin (sentWrites n) → SentBefore (suc n) begin) → (what : PutAt n)
+          → Member begin (pushed n what (sentWrites n)) → SentBefore (suc n) begin
+      go ih (nothing _) member = ih member
+      go ih (puts d pair here) member =
+          by-either member
           (λ e. record {
             client = d;
             at = n;
             before = omega arith;
-            pair = p;
-            sending = subst (λ (x : ℕ). Sending r x d n p) (sym e) (sends-now n d p q);
+            pair = pair;
+            sending = subst (λ (x : ℕ). Sending run x d n pair) (sym e) (sends-now n d pair here);
           })
           ih
 
-  pub sent-member : (n : ℕ) {b d j : ℕ} {p : Pair} → Sending r b d j p → j < n → Member b (sentWrites n)
+  pub sent-member : (n : ℕ) {begin d j : ℕ} {pair : Pair} → Sending run begin d j pair → j < n
+      → Member begin (sentWrites n)
   unfolding sentWrites pushed
-  sent-member zero s lt = absurd (not-suc-le-zero lt)
-  sent-member (suc n) {b} {d} {j} {p} s lt = go (λ q. sent-member n s q) (put-at n)
+  sent-member zero sending lt = absurd (not-suc-le-zero lt)
+  sent-member (suc n) {begin} {d} {j} {pair} sending lt = go (λ q. sent-member n sending q) (put-at n)
     where
-      go : (j < n → Member b (sentWrites n)) → (t : PutAt n) → Member b (pushed n t (sentWrites n))
-      go ih (nothing never) = at-last j n lt (λ e. absurd (never d p (send-now s e .puts))) ih
-      go ih (puts d′ p′ h) =
-          at-last j n lt (λ e. inl (sym (one-sender (send-now s e) d′ p′ h))) (λ less. inr (ih less))
+      go : (j < n → Member begin (sentWrites n)) → (what : PutAt n)
+          → Member begin (pushed n what (sentWrites n))
+      go ih (nothing never) = at-last j n lt (λ e. absurd (never d pair (send-now sending e .puts))) ih
+      go ih (puts d′ pair′ here) =
+          at-last j n lt (λ e. inl (sym (one-sender (send-now sending e) d′ pair′ here)))
+          (λ less. inr (ih less))
 
-  pub stamp-at : (n : ℕ) {b d j : ℕ} {p : Pair} → Sending r b d j p → j < n → stampOf n b ≡ stamp p
+  pub stamp-at : (n : ℕ) {begin d j : ℕ} {pair : Pair} → Sending run begin d j pair → j < n
+      → stampOf n begin ≡ stamp pair
   unfolding stampOf stamped
-  stamp-at zero s lt = absurd (not-suc-le-zero lt)
-  stamp-at (suc n) {b} {d} {j} {p} s lt = go (λ q. stamp-at n s q) (put-at n)
+  stamp-at zero sending lt = absurd (not-suc-le-zero lt)
+  stamp-at (suc n) {begin} {d} {j} {pair} sending lt = go (λ q. stamp-at n sending q) (put-at n)
     where
-      go : (j < n → stampOf n b ≡ stamp p) → (t : PutAt n) → stamped n t b (stampOf n b) ≡ stamp p
-      go ih (nothing never) = at-last j n lt (λ e. absurd (never d p (send-now s e .puts))) ih
-      go ih (puts d′ p′ h) =
-          by-test (eqb (since r n d′) b)
+      go : (j < n → stampOf n begin ≡ stamp pair) → (what : PutAt n)
+          → stamped n what begin (stampOf n begin) ≡ stamp pair
+      go ih (nothing never) = at-last j n lt (λ e. absurd (never d pair (send-now sending e .puts))) ih
+      go ih (puts d′ pair′ here) =
+          by-test (eqb (since run n d′) begin)
           (λ q. rw q (ap stamp (sends-once
-          (subst (λ (z : ℕ). Sending r z d′ n p′) (eqb-true _ _ q) (sends-now n d′ p′ h)) s .pair)))
-          (λ q. rw q
-          (at-last j n lt (λ e. absurd (eqb-false _ _ q (one-sender (send-now s e) d′ p′ h))) ih))
+          (subst (λ (z : ℕ). Sending run z d′ n pair′) (eqb-true _ _ q)
+          (sends-now n d′ pair′ here)) sending .pair))) (λ q. rw q
+          (at-last j n lt (λ e. absurd (eqb-false _ _ q (one-sender (send-now sending e) d′ pair′ here))) ih))
 
   pub top-above : (n : ℕ) → 1 ≤ top n
   unfolding top raised
   top-above zero = le-refl _
   top-above (suc n) = go (top-above n) (put-at n)
     where
-      go : 1 ≤ top n → (t : PutAt n) → 1 ≤ raised n t (top n)
+      go : 1 ≤ top n → (what : PutAt n) → 1 ≤ raised n what (top n)
       go ih (nothing _) = ih
-      go ih (puts d p h) = omega arith
+      go ih (puts d pair here) = omega arith
 
-  pub below-top : (n : ℕ) {b d j : ℕ} {p : Pair} → Sending r b d j p → j < n → stamp p < top n
+  pub below-top : (n : ℕ) {begin d j : ℕ} {pair : Pair} → Sending run begin d j pair → j < n
+      → stamp pair < top n
   unfolding top raised
-  below-top zero s lt = absurd (not-suc-le-zero lt)
-  below-top (suc n) {b} {d} {j} {p} s lt = go (λ q. below-top n s q) (put-at n)
+  below-top zero sending lt = absurd (not-suc-le-zero lt)
+  below-top (suc n) {begin} {d} {j} {pair} sending lt = go (λ q. below-top n sending q) (put-at n)
     where
-      go : (j < n → stamp p < top n) → (t : PutAt n) → stamp p < raised n t (top n)
-      go ih (nothing never) = at-last j n lt (λ e. absurd (never d p (send-now s e .puts))) ih
-      go ih (puts d′ p′ h) =
+      go : (j < n → stamp pair < top n) → (what : PutAt n) → stamp pair < raised n what (top n)
+      go ih (nothing never) = at-last j n lt (λ e. absurd (never d pair (send-now sending e .puts))) ih
+      go ih (puts d′ pair′ here) =
           at-last j n lt
-          (λ e. let now = send-now s e in
+          (λ e. let now = send-now sending e in
           let same = sends-once now
-          (subst (λ (z : ℕ). Sending r z d′ n p′) (one-sender now d′ p′ h) (sends-now n d′ p′ h)) .pair in
+          (subst (λ (z : ℕ). Sending run z d′ n pair′) (one-sender now d′ pair′ here)
+          (sends-now n d′ pair′ here)) .pair in
           let one = top-above n in
           rw same (omega arith))
           (λ less. let x = ih less in omega arith)
@@ -194,12 +208,12 @@ module _ (r : Run) where
   apart zero = tt
   apart (suc n) = go (apart n) (put-at n)
     where
-      go : Distinct (sentWrites n) → (t : PutAt n) → Distinct (pushed n t (sentWrites n))
+      go : Distinct (sentWrites n) → (what : PutAt n) → Distinct (pushed n what (sentWrites n))
       go ih (nothing _) = ih
-      go ih (puts d p h) = (
+      go ih (puts d pair here) = (
         (λ m. let s = member-sent n _ m in
             let x = s .before in
-            let q = sends-once (sends-now n d p h) (s .sending) .step in
+            let q = sends-once (sends-now n d pair here) (s .sending) .step in
             omega arith),
         ih,
       )

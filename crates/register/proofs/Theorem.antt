@@ -18,31 +18,41 @@ use Rattle.register.proofs.Finished.{read-ends}
 use Rattle.register.proofs.Regular.{row, is-row, agree}
 use Rattle.register.proofs.Quiet.{idle}
 
-module _ (r : Run) where
-  pub nothing-open : (d : ℕ) → Quiet (r .S) (r .F) (r .steps) d → NothingOpen (r .S) (r .F) (r .steps) d
-  nothing-open d q =
-      let now = idle r (length (r .steps)) d (q .client) (q .works) (q .noWrite) (q .up) (q .down) in
+module _ (run : Run) where
+  pub nothing-open : (d : ℕ) → Quiet (run .settings) (run .judge) (run .steps) d
+      → NothingOpen (run .settings) (run .judge) (run .steps) d
+  nothing-open d quiet =
+      let now = idle run (length (run .steps)) d (quiet .client) (quiet .works) (quiet .noWrite) (quiet .up)
+      (quiet .down) in
       record {
-        reads = λ b x. by-either (read-status r b d (read-begins r x) (length (r .steps)) (x .inList))
-            (λ o. let h = o .phase in clash (cc))
-            (λ o. (o .at, o .how .pair, read-ends r b d x o));
-        writes = λ b x. by-either
-            (write-status r b d (x .entry) (write-begins r x) (length (r .steps)) (x .inList))
-            (λ o. in-phase r b d (x .entry) (length (r .steps)) o (λ h. clash (cc)) (λ c h. clash (cc)))
-            (λ o. (
-              o .at,
+        reads = λ begin begun. by-either
+            (read-status run begin d (read-begins run begun) (length (run .steps)) (begun .inList))
+            (λ status. let h = status .phase in clash (cc))
+            (λ ended. (ended .at, ended .how .pair, read-ends run begin d begun ended));
+        writes = λ begin begun. by-either
+            (write-status run begin d (begun .entry) (write-begins run begun) (length (run .steps))
+            (begun .inList))
+            (λ status. in-phase run begin d (begun .entry) (length (run .steps)) status (λ h. clash (cc))
+            (λ count h. clash (cc))) (λ ended. (
+              ended .at,
               record {
-                begins = x;
-                later = o .after;
-                ends = writes-out r (o .before) (o .how .ends .writes);
-                next = λ i lo hi y. o .how .ends .first i lo hi (writes-in r y);
+                begins = begun;
+                later = ended .after;
+                ends = writes-out run (ended .before) (ended .how .ends .writes);
+                next = λ i lo hi writes. ended .how .ends .first i lo hi (writes-in run writes);
               },
             ));
       }
 
-  pub holds : Holds (r .S) (r .F) (r .steps)
-  holds = record { row = row r; rows = is-row r; agree = agree r; quiet = nothing-open }
+  pub holds : Holds (run .settings) (run .judge) (run .steps)
+  holds = record { row = row run; rows = is-row run; agree = agree run; quiet = nothing-open }
 
 pub demand-three : DemandThree
-demand-three S accepted steps =
-    holds (record { S = S; F = formats; steps = steps; accepted = accepted; lawful = lawful })
+demand-three settings accepted steps =
+    holds (record {
+      settings = settings;
+      judge = formats;
+      steps = steps;
+      accepted = accepted;
+      lawful = lawful;
+    })

@@ -8,21 +8,19 @@
 use Rattle.basics.proofs.Prelude.{_≡_, refl, sym, ap, _∙_, subst, length, ℕ, _<_, le-refl, arith}
 use Rattle.basics.proofs.Cases.{by-either, by-list, by-option, clash}
 use Rattle.refusal.specs.declared.Refusal.{Refusal}
+use Rattle.message.specs.declared.Unpacked.{Unpacked}
+use Rattle.register.proofs.Vocabulary.{Good, Refused, Settings, World, Event, refuses, begins, serves}
+use Rattle.register.proofs.Vocabulary.{takes, stops, lies, answerOf, Step, R, W, K, D, C, L, Formats}
+use Rattle.register.proofs.Vocabulary.{refusalOf, accepted, eventOf, ReadBegins, WriteBegins}
+use Rattle.register.proofs.Vocabulary.{AnswersRead, AnswersWrite, ReadEnds, WriteEnds, Sends}
+use Rattle.message.specs.declared.Unpacked.the-variants.{Refused}
+use Rattle.register.specs.Steps.{liesWith}
 use Rattle.register.proofs.Vocabulary.{Entry, WriteInfo, Pair, Went, Phase, Idle, Reading}
 use Rattle.register.proofs.Vocabulary.{ReadingForWrite, Storing}
-use Rattle.message.specs.declared.Unpacked.{Unpacked}
-use Rattle.message.specs.declared.Unpacked.the-variants.{Good, Refused}
-use Rattle.register.specs.declared.Answer.the-variants.{Refused}
-use Rattle.register.specs.Settings.{Settings}
-use Rattle.register.specs.World.{World, Event, refuses, begins, serves, takes, stops, lies, answerOf}
-use Rattle.register.specs.Steps.{Step, R, W, K, D, C, L, Formats, refusalOf, accepted, eventOf}
-use Rattle.register.specs.Steps.{liesWith}
-use Rattle.register.specs.History.{ReadBegins, WriteBegins, AnswersRead, AnswersWrite, ReadEnds}
-use Rattle.register.specs.History.{WriteEnds, Sends}
 use Rattle.register.proofs.Bounds.{server-of}
 use Rattle.register.proofs.Enabled.{Enabled}
-use Rattle.register.proofs.Run.{Run, step, world, event, answer, enabled-at}
-use Rattle.register.proofs.Frames.{puts-of, of-puts}
+use Rattle.register.proofs.Run.{Run, stepIn, worldIn, eventIn, answerIn, enabled-at}
+use Rattle.register.proofs.Channels.{puts-of, of-puts}
 use Rattle.register.proofs.ReadStatus.{TakesAt, ReadsAt, WritesAt}
 use Rattle.register.proofs.PutCases.{sends-at}
 use Rattle.register.proofs.WriteStatus.{Ending}
@@ -32,174 +30,205 @@ use Rattle.register.proofs.Ordered.{Sending}
 
 -- the step that an event came from, where it is R, W or D
 abbrev pub From : Event → Step → Type 0
-From (refuses x) s = Unit {0}
-From (begins d Idle) s = Unit {0}
-From (begins d Reading) s = s ≡ R d
-From (begins d (ReadingForWrite e)) s = s ≡ W d e
-From (begins d (Storing e c)) s = Unit {0}
-From (serves k d m ms) s = Unit {0}
-From (takes d k m ms) s = s ≡ D d k
-From (stops d) s = Unit {0}
-From (lies k d m) s = Unit {0}
+From (refuses refusal) step = Unit {0}
+From (begins d Idle) step = Unit {0}
+From (begins d Reading) step = step ≡ R d
+From (begins d (ReadingForWrite entry)) step = step ≡ W d entry
+From (begins d (Storing entry count)) step = Unit {0}
+From (serves k d message rest) step = Unit {0}
+From (takes d k message rest) step = step ≡ D d k
+From (stops d) step = Unit {0}
+From (lies k d message) step = Unit {0}
 
-module _ (S : Settings) (F : Formats) (w : World) where
-  lie-from : (k d : ℕ) (s : Step) (u : Unpacked) → From (liesWith S F k d u) s
-  lie-from k d s (Good m) = tt
-  lie-from k d s (Refused x) = tt
+module _ (settings : Settings) (judge : Formats) (world : World) where
+  lie-from : (k d : ℕ) (step : Step) (unpacked : Unpacked) → From (liesWith settings judge k d unpacked) step
+  lie-from k d step (Good message) = tt
+  lie-from k d step (Refused refusal) = tt
 
-  accepted-from : (s : Step) → From (accepted S F w s) s
+  accepted-from : (step : Step) → From (accepted settings judge world step) step
   unfolding accepted
   accepted-from (R d) = refl
-  accepted-from (W d e) = refl
-  accepted-from (K k d) = by-list (w .up d k) (λ e. rw e tt) (λ m ms e. rw e tt)
-  accepted-from (D d k) = by-list (w .down d k) (λ e. rw e tt) (λ m ms e. rw e refl)
+  accepted-from (W d entry) = refl
+  accepted-from (K k d) = by-list (world .up d k) (λ e. rw e tt) (λ message rest e. rw e tt)
+  accepted-from (D d k) = by-list (world .down d k) (λ e. rw e tt) (λ message rest e. rw e refl)
   accepted-from (C d) = tt
-  accepted-from (L k d bytes) = lie-from k d _ (F .unpack bytes)
+  accepted-from (L k d bytes) = lie-from k d _ (judge .unpack bytes)
 
-  came-from : (s : Step) → From (eventOf S F w s) s
+  came-from : (step : Step) → From (eventOf settings judge world step) step
   unfolding eventOf
-  came-from s = by-option (refusalOf S F w s) (λ e. rw e (accepted-from s)) (λ x e. rw e tt)
+  came-from step =
+      by-option (refusalOf settings judge world step) (λ e. rw e (accepted-from step)) (λ x e. rw e tt)
 
-  not-refused : (s : Step) → ((x : Refusal) → answerOf S w (eventOf S F w s) ≡ Refused x → ⊥)
-      → eventOf S F w s ≡ accepted S F w s
+  not-refused : (step : Step)
+      → ((refusal : Refusal) → answerOf settings world (eventOf settings judge world step) ≡ Refused refusal
+      → ⊥) → eventOf settings judge world step ≡ accepted settings judge world step
   unfolding eventOf answerOf
-  not-refused s never = by-option (refusalOf S F w s) (λ e. rw e refl) (λ x e. absurd (never x (rw e refl)))
+  not-refused step never =
+      by-option (refusalOf settings judge world step) (λ e. rw e refl) (λ x e. absurd (never x (rw e refl)))
 
 -- ---- a run
 
-module _ (r : Run) where
+module _ (run : Run) where
   -- the words of the history, of the run
   abbrev pub ReadEndsIn : ℕ → ℕ → ℕ → Pair → Type 0
-  ReadEndsIn b d j p = ReadEnds (r .S) (r .F) (r .steps) b d j p
+  ReadEndsIn begin d j pair = ReadEnds (run .settings) (run .judge) (run .steps) begin d j pair
 
   abbrev pub WriteEndsIn : ℕ → ℕ → ℕ → Type 0
-  WriteEndsIn b d j = WriteEnds (r .S) (r .F) (r .steps) b d j
+  WriteEndsIn begin d j = WriteEnds (run .settings) (run .judge) (run .steps) begin d j
 
   abbrev pub SendsIn : ℕ → ℕ → ℕ → Pair → Type 0
-  SendsIn b d j p = Sends (r .S) (r .F) (r .steps) b d j p
+  SendsIn begin d j pair = Sends (run .settings) (run .judge) (run .steps) begin d j pair
 
-  source : (i : ℕ) → From (event r i) (step r i)
-  source i = came-from (r .S) (r .F) (world r i) (step r i)
+  source : (i : ℕ) → From (eventIn run i) (stepIn run i)
+  source i = came-from (run .settings) (run .judge) (worldIn run i) (stepIn run i)
 
-  accepted-at : (i : ℕ) (s : Step) → step r i ≡ s → ((x : Refusal) → answer r i ≡ Refused x → ⊥)
-      → event r i ≡ accepted (r .S) (r .F) (world r i) s
-  accepted-at i s q never =
-      not-refused (r .S) (r .F) (world r i) (step r i) never ∙ ap (accepted (r .S) (r .F) (world r i)) q
+  accepted-at : (i : ℕ) (step : Step) → stepIn run i ≡ step
+      → ((refusal : Refusal) → answerIn run i ≡ Refused refusal → ⊥)
+      → eventIn run i ≡ accepted (run .settings) (run .judge) (worldIn run i) step
+  accepted-at i step q never =
+      not-refused (run .settings) (run .judge) (worldIn run i) (stepIn run i) never
+      ∙ ap (accepted (run .settings) (run .judge) (worldIn run i)) q
 
   -- ---- beginnings
 
-  pub read-begins : {b d : ℕ} → ReadBegins (r .S) (r .F) (r .steps) b d → event r b ≡ begins d Reading
+  pub read-begins : {begin d : ℕ} → ReadBegins (run .settings) (run .judge) (run .steps) begin d
+      → eventIn run begin ≡ begins d Reading
   unfolding accepted
-  read-begins {b} {d} h = let a = h .answer in accepted-at b (R d) (h .step) (λ x e. clash (cc))
+  read-begins {begin} {d} begun =
+      let a = begun .answer in accepted-at begin (R d) (begun .step) (λ x e. clash (cc))
 
-  pub write-begins : {b d : ℕ} (h : WriteBegins (r .S) (r .F) (r .steps) b d)
-      → event r b ≡ begins d (ReadingForWrite (h .entry))
+  pub write-begins : {begin d : ℕ} (begun : WriteBegins (run .settings) (run .judge) (run .steps) begin d)
+      → eventIn run begin ≡ begins d (ReadingForWrite (begun .entry))
   unfolding accepted
-  write-begins {b} {d} h = let a = h .answer in accepted-at b (W d (h .entry)) (h .step) (λ x e. clash (cc))
+  write-begins {begin} {d} begun =
+      let a = begun .answer in accepted-at begin (W d (begun .entry)) (begun .step) (λ x e. clash (cc))
 
   -- a beginning is answered WENT
-  begins-went : (b d : ℕ) (ph : Phase) → event r b ≡ begins d ph → answer r b ≡ Went
+  begins-went : (begin d : ℕ) (phase : Phase) → eventIn run begin ≡ begins d phase → answerIn run begin ≡ Went
   unfolding answerOf
-  begins-went b d ph q = ap (answerOf (r .S) (world r b)) q
+  begins-went begin d phase is = ap (answerOf (run .settings) (worldIn run begin)) is
 
-  pub read-began : (b d : ℕ) → b < length (r .steps) → event r b ≡ begins d Reading
-      → ReadBegins (r .S) (r .F) (r .steps) b d
-  read-began b d lt h =
+  pub read-began : (begin d : ℕ) → begin < length (run .steps) → eventIn run begin ≡ begins d Reading
+      → ReadBegins (run .settings) (run .judge) (run .steps) begin d
+  read-began begin d lt is =
       record {
         inList = lt;
-        step = subst (λ (e : Event). From e (step r b)) h (source b);
-        answer = begins-went b d Reading h;
+        step = subst (λ (e : Event). From e (stepIn run begin)) is (source begin);
+        answer = begins-went begin d Reading is;
       }
 
-  pub write-began : (b d : ℕ) (entry : Entry) → b < length (r .steps)
-      → event r b ≡ begins d (ReadingForWrite entry) → WriteBegins (r .S) (r .F) (r .steps) b d
-  write-began b d entry lt h =
+  pub write-began : (begin d : ℕ) (entry : Entry) → begin < length (run .steps)
+      → eventIn run begin ≡ begins d (ReadingForWrite entry)
+      → WriteBegins (run .settings) (run .judge) (run .steps) begin d
+  write-began begin d entry lt is =
       record {
         inList = lt;
         entry = entry;
-        step = subst (λ (e : Event). From e (step r b)) h (source b);
-        answer = begins-went b d (ReadingForWrite entry) h;
+        step = subst (λ (e : Event). From e (stepIn run begin)) is (source begin);
+        answer = begins-went begin d (ReadingForWrite entry) is;
       }
 
   -- ---- answers
 
-  takes-at : (j d k : ℕ) → step r j ≡ D d k → ((x : Refusal) → answer r j ≡ Refused x → ⊥) → TakesAt r j d
+  takes-at : (j d k : ℕ) → stepIn run j ≡ D d k → ((refusal : Refusal) → answerIn run j ≡ Refused refusal → ⊥)
+      → TakesAt run j d
   unfolding accepted answerOf
   takes-at j d k q never =
       let is = accepted-at j (D d k) q never in
-      by-list (world r j .down d k) (λ e. absurd (never _ (ap (answerOf (r .S) (world r j)) (rw e at is))))
-      (λ m ms e. let q′ : event r j ≡ takes d k m ms = rw e at is in
+      by-list (worldIn run j .down d k)
+      (λ e. absurd (never _ (ap (answerOf (run .settings) (worldIn run j)) (rw e at is))))
+      (λ message rest e. let q′ : eventIn run j ≡ takes d k message rest = rw e at is in
       record {
         server = k;
-        message = m;
-        rest = ms;
+        message = message;
+        rest = rest;
         event = q′;
-        enabled = subst (Enabled (r .S) (r .F) (world r j)) q′ (enabled-at r j);
+        enabled = subst (Enabled (run .settings) (run .judge) (worldIn run j)) q′ (enabled-at run j);
       })
 
-  step-of : (j d : ℕ) (t : TakesAt r j d) → step r j ≡ D d (t .server)
-  step-of j d t = subst (λ (e : Event). From e (step r j)) (t .event) (source j)
+  step-of : (j d : ℕ) (taken : TakesAt run j d) → stepIn run j ≡ D d (taken .server)
+  step-of j d taken = subst (λ (e : Event). From e (stepIn run j)) (taken .event) (source j)
 
-  pub reads-in : {j d : ℕ} {p : Pair} → AnswersRead (r .S) (r .F) (r .steps) j d p → ReadsAt r j d p
-  reads-in {j} {d} h =
-      let a = h .answer in
-      record { takes = takes-at j d (h .server) (h .step) (λ x e. clash (cc)); answer = h .answer }
-
-  pub reads-out : {j d : ℕ} {p : Pair} → j < length (r .steps) → ReadsAt r j d p
-      → AnswersRead (r .S) (r .F) (r .steps) j d p
-  reads-out {j} {d} lt h =
-      record { inList = lt; server = h .takes .server; step = step-of j d (h .takes); answer = h .answer }
-
-  pub writes-in : {j d : ℕ} → AnswersWrite (r .S) (r .F) (r .steps) j d → WritesAt r j d
-  writes-in {j} {d} h =
+  pub reads-in : {j d : ℕ} {pair : Pair} → AnswersRead (run .settings) (run .judge) (run .steps) j d pair
+      → ReadsAt run j d pair
+  reads-in {j} {d} answers =
+      let a = answers .answer in
       record {
-        takes = takes-at j d (h .server) (h .step)
-            (λ x e. by-either (h .answer) (λ a. let a′ = a .1 in clash (cc)) (λ a. clash (cc)));
-        answer = h .answer;
+        takes = takes-at j d (answers .server) (answers .step) (λ x e. clash (cc));
+        answer = answers .answer;
       }
 
-  pub writes-out : {j d : ℕ} → j < length (r .steps) → WritesAt r j d
-      → AnswersWrite (r .S) (r .F) (r .steps) j d
-  writes-out {j} {d} lt h =
-      record { inList = lt; server = h .takes .server; step = step-of j d (h .takes); answer = h .answer }
+  pub reads-out : {j d : ℕ} {pair : Pair} → j < length (run .steps) → ReadsAt run j d pair
+      → AnswersRead (run .settings) (run .judge) (run .steps) j d pair
+  reads-out {j} {d} lt reads =
+      record {
+        inList = lt;
+        server = reads .takes .server;
+        step = step-of j d (reads .takes);
+        answer = reads .answer;
+      }
+
+  pub writes-in : {j d : ℕ} → AnswersWrite (run .settings) (run .judge) (run .steps) j d → WritesAt run j d
+  writes-in {j} {d} answers =
+      record {
+        takes = takes-at j d (answers .server) (answers .step)
+            (λ x e. by-either (answers .answer) (λ a. let a′ = a .1 in clash (cc)) (λ a. clash (cc)));
+        answer = answers .answer;
+      }
+
+  pub writes-out : {j d : ℕ} → j < length (run .steps) → WritesAt run j d
+      → AnswersWrite (run .settings) (run .judge) (run .steps) j d
+  writes-out {j} {d} lt writes =
+      record {
+        inList = lt;
+        server = writes .takes .server;
+        step = step-of j d (writes .takes);
+        answer = writes .answer;
+      }
 
   -- ---- sends, and ends of writes that sent
 
-  pub sends-in : {b d j : ℕ} {p : Pair} → SendsIn b d j p → Sending r b d j p
-  sends-in {b} {d} {j} {p} h =
+  pub sends-in : {begin d j : ℕ} {pair : Pair} → SendsIn begin d j pair → Sending run begin d j pair
+  sends-in {begin} {d} {j} {pair} sends =
       record {
-        entry = h .begins .entry;
-        begins = write-begins (h .begins);
-        after = h .later;
-        puts = puts-of (r .S) (r .F) (world r j) (event r j) d (h .to) (WriteInfo p) (h .puts);
-        unended = λ i a c wr. let x = h .inList in h .unended i a c (writes-out (omega arith) wr);
+        entry = sends .begins .entry;
+        begins = write-begins (sends .begins);
+        after = sends .later;
+        puts =
+            puts-of (run .settings) (run .judge) (worldIn run j) (eventIn run j) d (sends .to)
+            (WriteInfo pair) (sends .puts);
+        unended = λ i a c writes. let inList = sends .inList in
+            sends .unended i a c (writes-out (omega arith) writes);
       }
 
-  pub sends-out : {b d j : ℕ} {p : Pair} → j < length (r .steps) → Sending r b d j p → SendsIn b d j p
-  sends-out {b} {d} {j} {p} lt h =
-      let q = sends-at r j d p (h .puts) .by in
+  pub sends-out : {begin d j : ℕ} {pair : Pair} → j < length (run .steps) → Sending run begin d j pair
+      → SendsIn begin d j pair
+  sends-out {begin} {d} {j} {pair} lt sending =
+      let taken = sends-at run j d pair (sending .puts) .by in
       record {
-        begins = write-began b d (h .entry) (let x = h .after in omega arith) (h .begins);
-        later = h .after;
+        begins = write-began begin d (sending .entry) (let x = sending .after in omega arith)
+            (sending .begins);
+        later = sending .after;
         inList = lt;
-        server = q .server;
-        step = step-of j d q;
+        server = taken .server;
+        step = step-of j d taken;
         to = 1;
-        puts = of-puts (r .S) (r .F) (world r j) (event r j) d 1 (WriteInfo p)
-            (server-of (r .S) 1 (le-refl _) (omega arith)) (h .puts);
-        unended = λ i a c wr. h .unended i a c (writes-in wr);
+        puts = of-puts (run .settings) (run .judge) (worldIn run j) (eventIn run j) d 1 (WriteInfo pair)
+            (server-of (run .settings) 1 (le-refl _) (omega arith)) (sending .puts);
+        unended = λ i a c writes. sending .unended i a c (writes-in writes);
       }
 
   -- a write that sent ends at its client's next WROTE or SPENT
-  pub ends-in : {b d j : ℕ} {p : Pair} → Sending r b d j p → {c i : ℕ} → WriteEndsIn b c i → Ending r b d i
-  ends-in {b} {d} s {c} {i} e =
-      let x = s .begins in
-      let y = write-begins (e .begins) in
-      let client : c ≡ d = cc in
-      let inside = e .ends .inList in
+  pub ends-in : {begin d j : ℕ} {pair : Pair} → Sending run begin d j pair → {d′ i : ℕ}
+      → WriteEndsIn begin d′ i → Ending run begin d i
+  ends-in {begin} {d} sending {d′} {i} ends =
+      let begun = sending .begins in
+      let begun′ = write-begins (ends .begins) in
+      let client : d′ ≡ d = cc in
+      let inside = ends .ends .inList in
       record {
-        after = e .later;
-        writes = subst (λ (z : ℕ). WritesAt r i z) client (writes-in (e .ends));
-        first = λ j lo hi wr. e .next j lo hi
-            (writes-out (omega arith) (subst (λ (z : ℕ). WritesAt r j z) (sym client) wr));
+        after = ends .later;
+        writes = subst (λ (z : ℕ). WritesAt run i z) client (writes-in (ends .ends));
+        first = λ j lo hi writes. ends .next j lo hi
+            (writes-out (omega arith) (subst (λ (z : ℕ). WritesAt run j z) (sym client) writes));
       }

@@ -9,9 +9,8 @@
 use Rattle.basics.proofs.Prelude.{_≡_, inl, inr, ℕ, _<_, arith}
 use Rattle.basics.proofs.Cases.{by-either, clash}
 use Rattle.basics.proofs.Ranges.{neither-below}
+use Rattle.register.proofs.Vocabulary.{begins, AnswersRead, AnswersWrite}
 use Rattle.register.proofs.Vocabulary.{Pair, Reading}
-use Rattle.register.specs.World.{begins}
-use Rattle.register.specs.History.{AnswersRead, AnswersWrite}
 use Rattle.register.proofs.Run.{Run}
 use Rattle.register.proofs.ReadStatus.{begins-idle, read-status}
 use Rattle.register.proofs.WriteStatus.{in-phase, write-status}
@@ -19,56 +18,64 @@ use Rattle.register.proofs.Open.{shows-open, open-read, ends-open}
 use Rattle.register.proofs.Translation.{ReadEndsIn, WriteEndsIn, read-began, write-began, read-begins}
 use Rattle.register.proofs.Translation.{write-begins, reads-in, reads-out, writes-in, writes-out}
 
-module _ (r : Run) where
+module _ (run : Run) where
   -- of two reads that a READ ends neither began before the other
-  one-read : {j d : ℕ} {p : Pair} {a b : ℕ} → ReadEndsIn r a d j p → ReadEndsIn r b d j p → a < b → ⊥
-  one-read {d = d} {a = a} {b = b} x y lt =
-      let idle = begins-idle r b d Reading (read-begins r (y .begins)) in
-      let later = y .later in
-      let inside = y .ends .inList in
-      by-either (read-status r a d (read-begins r (x .begins)) b lt) (λ o. let h = o .phase in clash (cc))
-      (λ o. let before = o .before in
-      x .next (o .at) (o .after) (omega arith) (o .how .pair) (reads-out r (omega arith) (o .how .reads)))
+  one-read : {j d : ℕ} {pair : Pair} {early late : ℕ} → ReadEndsIn run early d j pair
+      → ReadEndsIn run late d j pair → early < late → ⊥
+  one-read {d = d} {early = early} {late = late} ends ends′ lt =
+      let idle = begins-idle run late d Reading (read-begins run (ends′ .begins)) in
+      let later = ends′ .later in
+      let inside = ends′ .ends .inList in
+      by-either (read-status run early d (read-begins run (ends .begins)) late lt)
+      (λ status. let h = status .phase in clash (cc)) (λ status. let before = status .before in
+      ends .next (status .at) (status .after) (omega arith) (status .how .pair)
+      (reads-out run (omega arith) (status .how .reads)))
 
-  one-write : {j d a b : ℕ} → WriteEndsIn r a d j → WriteEndsIn r b d j → a < b → ⊥
-  one-write {d = d} {a = a} {b = b} x y lt =
-      let idle = begins-idle r b d _ (write-begins r (y .begins)) in
-      let later = y .later in
-      let inside = y .ends .inList in
-      by-either (write-status r a d (x .begins .entry) (write-begins r (x .begins)) b lt)
-      (λ o. in-phase r a d (x .begins .entry) b o (λ h. clash (cc)) (λ c h. clash (cc)))
-      (λ o. let before = o .before in
-      x .next (o .at) (o .after) (omega arith) (writes-out r (omega arith) (o .how .ends .writes)))
+  one-write : {j d early late : ℕ} → WriteEndsIn run early d j → WriteEndsIn run late d j → early < late → ⊥
+  one-write {d = d} {early = early} {late = late} ends ends′ lt =
+      let idle = begins-idle run late d _ (write-begins run (ends′ .begins)) in
+      let later = ends′ .later in
+      let inside = ends′ .ends .inList in
+      by-either (write-status run early d (ends .begins .entry) (write-begins run (ends .begins)) late lt)
+      (λ status. in-phase run early d (ends .begins .entry) late status (λ h. clash (cc)) (λ c h. clash (cc)))
+      (λ status. let before = status .before in
+      ends .next (status .at) (status .after) (omega arith)
+      (writes-out run (omega arith) (status .how .ends .writes)))
 
   -- the one read that a READ ends
-  pub read-answered : (j d : ℕ) (p : Pair) → AnswersRead (r .S) (r .F) (r .steps) j d p
-      → (b : ℕ) × ReadEndsIn r b d j p × ((b′ : ℕ) → ReadEndsIn r b′ d j p → b′ ≡ b)
-  read-answered j d p h =
-      let o = open-read r j d (shows-open r j d p (reads-in r h)) in
-      let inside = h .inList in
-      let before = o .before in
-      let ends : ReadEndsIn r (o .at) d j p =
-      record {
-        begins = read-began r (o .at) d (omega arith) (o .begins);
-        later = o .before;
-        ends = h;
-        next = λ i lo hi q a. o .silent i lo hi (inl (q, reads-in r a));
-      } in
-      (o .at, ends, λ b x. neither-below b (o .at) (one-read x ends) (one-read ends x))
+  pub read-answered : (j d : ℕ) (pair : Pair) → AnswersRead (run .settings) (run .judge) (run .steps) j d pair
+      → (begin : ℕ) × ReadEndsIn run begin d j pair × ((begin′ : ℕ) → ReadEndsIn run begin′ d j pair
+      → begin′ ≡ begin)
+  read-answered j d pair answers =
+      let status = open-read run j d (shows-open run j d pair (reads-in run answers)) in
+      let inside = answers .inList in
+      let before = status .before in
+      let ends : ReadEndsIn run (status .at) d j pair = record {
+        begins = read-began run (status .at) d (omega arith) (status .begins);
+        later = status .before;
+        ends = answers;
+        next = λ i lo hi other answers′. status .silent i lo hi (inl (other, reads-in run answers′));
+      } in (
+        status .at,
+        ends,
+        λ begin ends′. neither-below begin (status .at) (one-read ends′ ends) (one-read ends ends′),
+      )
 
   -- the one write that a WROTE or SPENT ends
-  pub write-answered : (j d : ℕ) → AnswersWrite (r .S) (r .F) (r .steps) j d
-      → (b : ℕ) × WriteEndsIn r b d j × ((b′ : ℕ) → WriteEndsIn r b′ d j → b′ ≡ b)
-  write-answered j d h =
-      let e = ends-open r j d (writes-in r h) in
-      let o = e .1 in
-      let inside = h .inList in
-      let before = o .before in
-      let ends : WriteEndsIn r (o .at) d j =
-      record {
-        begins = write-began r (o .at) d (e .0) (omega arith) (o .begins);
-        later = o .before;
-        ends = h;
-        next = λ i lo hi a. o .silent i lo hi (inr (writes-in r a));
-      } in
-      (o .at, ends, λ b x. neither-below b (o .at) (one-write x ends) (one-write ends x))
+  pub write-answered : (j d : ℕ) → AnswersWrite (run .settings) (run .judge) (run .steps) j d
+      → (begin : ℕ) × WriteEndsIn run begin d j × ((begin′ : ℕ) → WriteEndsIn run begin′ d j → begin′ ≡ begin)
+  write-answered j d answers =
+      let found = ends-open run j d (writes-in run answers) in
+      let status = found .1 in
+      let inside = answers .inList in
+      let before = status .before in
+      let ends : WriteEndsIn run (status .at) d j = record {
+        begins = write-began run (status .at) d (found .0) (omega arith) (status .begins);
+        later = status .before;
+        ends = answers;
+        next = λ i lo hi answers′. status .silent i lo hi (inr (writes-in run answers′));
+      } in (
+        status .at,
+        ends,
+        λ begin ends′. neither-below begin (status .at) (one-write ends′ ends) (one-write ends ends′),
+      )

@@ -4,80 +4,90 @@
 -- messages on channels have their fields in their widths. What it sends is of the kinds that servers send,
 -- in the widths of what it served.
 -- Assumes nothing.
+use Rattle.register.proofs.Vocabulary.{update, Member, Settings, isClient, Server, stored, nextServer}
+use Rattle.register.proofs.Vocabulary.{serverSends, forwards, Sent, sent, sentTo, FromClient}
+use Rattle.register.proofs.Vocabulary.{FromServer}
 use Rattle.basics.proofs.Prelude.{_≡_, refl, Bool, true, false, inl, inr, List, [], _∷_, ℕ, _^_, _<_, eqb}
 use Rattle.basics.proofs.Prelude.{ltb, eqb-true}
-use Rattle.basics.specs.Update.{update}
-use Rattle.basics.specs.Members.{Member}
 use Rattle.basics.proofs.Cases.{by-test, by-either, true-or-false}
 use Rattle.basics.proofs.Members.{member-cases}
 use Rattle.basics.proofs.Update.{update-at}
+use Rattle.message.proofs.Pairs.{counter-fits}
+use Rattle.register.specs.Settings.{mostClients}
+use Rattle.register.specs.WellFormed.{WellServer}
 use Rattle.register.proofs.Vocabulary.{Message, GetInfo, Info, Done, WriteInfo, Fwd, WriteAck, Pair}
 use Rattle.register.proofs.Vocabulary.{stamp, counter}
-use Rattle.message.proofs.Pairs.{counter-fits}
-use Rattle.register.specs.Settings.{Settings, mostClients, isClient}
-use Rattle.register.specs.Server.{Server, stored, nextServer, serverSends, forwards, Sent, sent}
-use Rattle.register.specs.Server.{sentTo}
-use Rattle.register.specs.WellFormed.{FromClient, FromServer, WellServer}
 use Rattle.register.proofs.Sends.{forwards-member}
 
-stored-fits : (p q : Pair) → p .0 < 2 ^ 64 → q .0 < 2 ^ 64 → stored p q .0 < 2 ^ 64
+stored-fits : (pair other : Pair) → pair .0 < 2 ^ 64 → other .0 < 2 ^ 64 → stored pair other .0 < 2 ^ 64
 unfolding stored
-stored-fits p q a b = by-test (ltb (stamp p) (stamp q)) (λ e. rw e b) (λ e. rw e a)
+stored-fits pair other a b = by-test (ltb (stamp pair) (stamp other)) (λ e. rw e b) (λ e. rw e a)
 
-module _ (S : Settings) (s : Server) (d : ℕ) (client : isClient S d ≡ true) (well : WellServer S s) where
+module _ (settings : Settings) (server : Server) (d : ℕ) (client : isClient settings d ≡ true)
+    (well : WellServer settings server) where
   -- one reader changed: a client
-  reader-changed : (b : Bool) (e : ℕ) → isClient S e ≡ false → update (s .readers) d b e ≡ false
-  reader-changed b e h =
-      update-at (λ r. r ≡ false) (s .readers) d e b
-      (λ same. absurd (true-or-false (isClient S e) (rw same at client) h)) (λ other. well .readers e h)
+  reader-changed : (test : Bool) (d′ : ℕ) → isClient settings d′ ≡ false
+      → update (server .readers) d test d′ ≡ false
+  reader-changed test d′ h =
+      update-at (λ r. r ≡ false) (server .readers) d d′ test
+      (λ same. absurd (true-or-false (isClient settings d′) (rw same at client) h))
+      (λ other. well .readers d′ h)
 
-  pub well-after : (m : Message) → FromClient m → WellServer S (nextServer s d m)
+  pub well-after : (message : Message) → FromClient message
+      → WellServer settings (nextServer server d message)
   unfolding nextServer
-  well-after (GetInfo t) f = record { pair = well .pair; readers = reader-changed true }
-  well-after (Info t p) f = absurd f
-  well-after Done f = record { pair = well .pair; readers = reader-changed false }
-  well-after (WriteInfo p) f =
-      record { pair = stored-fits (s .pair) p (well .pair) f; readers = well .readers }
-  well-after (Fwd p) f = absurd f
-  well-after (WriteAck c) f = absurd f
+  well-after (GetInfo tag) kind = record { pair = well .pair; readers = reader-changed true }
+  well-after (Info tag pair) kind = absurd kind
+  well-after Done kind = record { pair = well .pair; readers = reader-changed false }
+  well-after (WriteInfo pair) kind =
+      record { pair = stored-fits (server .pair) pair (well .pair) kind; readers = well .readers }
+  well-after (Fwd pair) kind = absurd kind
+  well-after (WriteAck count) kind = absurd kind
 
 -- ---- what it sends
 
 -- a message goes to a client, and is of the kinds that servers send
-pub record WellSent (S : Settings) (x : Sent) : Type 0 where
-  pub client : isClient S (x .to) ≡ true
-  pub kind : FromServer (x .message)
+pub record WellSent (settings : Settings) (reply : Sent) : Type 0 where
+  pub client : isClient settings (reply .to) ≡ true
+  pub kind : FromServer (reply .message)
 
-module _ (S : Settings) (s : Server) (d : ℕ) (client : isClient S d ≡ true) (well : WellServer S s) where
-  well-reply : (m : Message) → FromServer m → (x : Sent) → Member x (sent d m ∷ []) → WellSent S x
-  well-reply m f x (inl e) = rw e (record { client = client; kind = f })
+module _ (settings : Settings) (server : Server) (d : ℕ) (client : isClient settings d ≡ true)
+    (well : WellServer settings server) where
+  well-reply : (message : Message) → FromServer message → (reply : Sent) → Member reply (sent d message ∷ [])
+      → WellSent settings reply
+  well-reply message kind reply (inl e) = rw e (record { client = client; kind = kind })
 
-  reader-client : (e : ℕ) → s .readers e ≡ true → isClient S e ≡ true
-  reader-client e r =
-      by-test (isClient S e) (λ h. h) (λ h. absurd (true-or-false (s .readers e) r (well .readers e h)))
+  reader-client : (d′ : ℕ) → server .readers d′ ≡ true → isClient settings d′ ≡ true
+  reader-client d′ reads =
+      by-test (isClient settings d′) (λ h. h)
+      (λ h. absurd (true-or-false (server .readers d′) reads (well .readers d′ h)))
 
-  well-forward : (p : Pair) → p .0 < 2 ^ 64 → (x : Sent) → Member x (forwards (s .readers) p mostClients)
-      → WellSent S x
-  well-forward p f x h =
-      let g = forwards-member (s .readers) p mostClients (x .to) (x .message) h in
-      record { client = reader-client (x .to) (g .1); kind = rw (g .0) f }
+  well-forward : (pair : Pair) → pair .0 < 2 ^ 64 → (reply : Sent)
+      → Member reply (forwards (server .readers) pair mostClients) → WellSent settings reply
+  well-forward pair fits reply member =
+      let g = forwards-member (server .readers) pair mostClients (reply .to) (reply .message) member in
+      record { client = reader-client (reply .to) (g .1); kind = rw (g .0) fits }
 
-  pub well-sends : (m : Message) → FromClient m → (x : Sent) → Member x (serverSends s d m) → WellSent S x
+  pub well-sends : (message : Message) → FromClient message → (reply : Sent)
+      → Member reply (serverSends server d message) → WellSent settings reply
   unfolding serverSends
-  well-sends (GetInfo t) f x h = well-reply (Info t (s .pair)) (f, well .pair) x h
-  well-sends (Info t p) f x h = absurd f
-  well-sends Done f x h = absurd h
-  well-sends (WriteInfo p) f x h =
-      by-either (member-cases x (forwards (s .readers) p mostClients) _ h) (λ g. well-forward p f x g)
-      (λ g. well-reply (WriteAck (counter p)) (counter-fits p f) x g)
-  well-sends (Fwd p) f x h = absurd f
-  well-sends (WriteAck c) f x h = absurd f
+  well-sends (GetInfo tag) kind reply member =
+      well-reply (Info tag (server .pair)) (kind, well .pair) reply member
+  well-sends (Info tag pair) kind reply member = absurd kind
+  well-sends Done kind reply member = absurd member
+  well-sends (WriteInfo pair) kind reply member =
+      by-either (member-cases reply (forwards (server .readers) pair mostClients) _ member)
+      (λ g. well-forward pair kind reply g)
+      (λ g. well-reply (WriteAck (counter pair)) (counter-fits pair kind) reply g)
+  well-sends (Fwd pair) kind reply member = absurd kind
+  well-sends (WriteAck count) kind reply member = absurd kind
 
 -- ---- what goes to one client
 
-pub none-there : (e : ℕ) (l : List Sent) → ((x : Sent) → Member x l → x .to ≡ e → ⊥) → sentTo e l ≡ []
+pub none-there : (d : ℕ) (replies : List Sent) → ((reply : Sent) → Member reply replies → reply .to ≡ d → ⊥)
+    → sentTo d replies ≡ []
 unfolding sentTo
-none-there e [] h = refl
-none-there e (x ∷ l) h =
-    by-test (eqb (x .to) e) (λ t. absurd (h x (inl refl) (eqb-true (x .to) e t)))
-    (λ t. rw t (none-there e l (λ y m. h y (inr m))))
+none-there d [] h = refl
+none-there d (reply ∷ replies) h =
+    by-test (eqb (reply .to) d) (λ t. absurd (h reply (inl refl) (eqb-true (reply .to) d t)))
+    (λ t. rw t (none-there d replies (λ other member. h other (inr member))))

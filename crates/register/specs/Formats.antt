@@ -6,4 +6,4 @@ use Rattle.register.specs.Steps.{Formats}
 
 -- a licence entry is `licence`'s, a message is eleven bytes that `message` unpacks
 abbrev pub formats : Formats
-formats = record { isLicence = λ e. isLicence (e .0); unpack = unpackOf }
+formats = record { isLicence = λ entry. isLicence (entry .0); unpack = unpackOf }

@@ -13,14 +13,14 @@ use Rattle.basics.specs.Tests.{allBelow}
 use Rattle.refusal.specs.declared.Refusal.{Refusal}
 use Rattle.refusal.specs.Numbers.{numbered}
 use Rattle.refusal.specs.Ladder.{Rung, lowest}
-use Rattle.message.specs.Layout.{lastRead}
+use Rattle.message.specs.Layout.{lastRead, goesDown}
 use Rattle.message.specs.declared.Entry.{Entry}
 use Rattle.message.specs.declared.Message.{Message}
-use Rattle.message.specs.declared.Message.the-variants.{GetInfo, Info, Done, WriteInfo, Fwd, WriteAck}
+use Rattle.message.specs.declared.Message.the-variants.{Done}
 use Rattle.message.specs.declared.Unpacked.{Unpacked}
 use Rattle.message.specs.declared.Unpacked.the-variants.{Good, Refused}
 use Rattle.register.specs.declared.Phase.the-variants.{Reading, ReadingForWrite}
-use Rattle.register.specs.Settings.{Settings, servers, isServer, isClient, isHonest}
+use Rattle.register.specs.Settings.{Settings, servers, isServer, isClient, isHonest, capacity}
 use Rattle.register.specs.Server.{serverSends, sentTo}
 use Rattle.register.specs.Client.{isIdle}
 use Rattle.register.specs.Ladders.{readLadder, writeLadder, serveLadder}
@@ -41,95 +41,84 @@ pub record Formats : Type 0 where
   pub isLicence : Entry → Bool
   pub unpack : List ℕ → Unpacked
 
--- the slots of a channel
-abbrev pub slots : ℕ
-slots = 8
-
 -- no message waits; the oldest that does
 unfoldable pub isEmpty : List Message → Bool
 isEmpty [] = true
-isEmpty (m ∷ ms) = false
+isEmpty (message ∷ rest) = false
 
 unfoldable pub oldest : List Message → Message
 oldest [] = Done
-oldest (m ∷ ms) = m
+oldest (message ∷ rest) = message
 
 -- a channel has a number of free slots
 unfoldable pub hasRoom : List Message → ℕ → Bool
-hasRoom c more = leb (length c + more) slots
+hasRoom channel more = leb (length channel + more) capacity
 
--- the bytes are a message that a server sends
-unfoldable pub isReply : Unpacked → Bool
-isReply (Good (Info t p)) = true
-isReply (Good (Fwd p)) = true
-isReply (Good (WriteAck c)) = true
-isReply (Good (GetInfo t)) = false
-isReply (Good Done) = false
-isReply (Good (WriteInfo p)) = false
-isReply (Refused r) = false
-
-module _ (S : Settings) (F : Formats) where
+module _ (settings : Settings) (judge : Formats) where
   -- every channel from client d that does not drop has room for more messages
   unfoldable pub roomUp : World → ℕ → ℕ → Bool
-  roomUp w d more = allBelow (λ i. not (isHonest S (suc i)) || hasRoom (w .up d (suc i)) more) (servers S)
+  roomUp world d more =
+      allBelow (λ i. not (isHonest settings (suc i)) || hasRoom (world .up d (suc i)) more) (servers settings)
 
-  -- each channel from server k that does not drop has room for what follows message m of client d
+  -- each channel from server k that does not drop has room for what follows a message of client d
   unfoldable pub roomDown : World → ℕ → ℕ → Message → Bool
-  roomDown w k d m =
+  roomDown world k d message =
       allBelow
-      (λ i. w .stopped (suc i)
-      || hasRoom (w .down (suc i) k) (length (sentTo (suc i) (serverSends (w .servers k) d m)))) (S .clients)
+      (λ i. world .stopped (suc i)
+      || hasRoom (world .down (suc i) k) (length (sentTo (suc i) (serverSends (world .servers k) d message))))
+      (settings .clients)
 
   -- the refusals of a step, lowest first: its tests on the world; a read's start counts 2 slots, a write's 3
   unfoldable pub ladder : World → Step → List Rung
-  ladder w (R d) =
-      readLadder (not (isClient S d)) (w .stopped d) (not (isIdle (w .clients d .phase)))
-      (leb lastRead (w .clients d .reads .0)) (not (roomUp w d 2))
-  ladder w (W d e) =
-      writeLadder (not (isClient S d)) (w .stopped d) (not (isIdle (w .clients d .phase)))
-      (not (F .isLicence e)) (leb lastRead (w .clients d .reads .0)) (not (roomUp w d 3))
-  ladder w (K k d) =
-      serveLadder (not (isClient S d && isServer S k)) (S .faulty k) (isEmpty (w .up d k))
-      (not (roomDown w k d (oldest (w .up d k))))
-  ladder w (D d k) =
-      takeLadder (not (isClient S d && isServer S k)) (w .stopped d) (isEmpty (w .down d k))
-      (not (roomUp w d (length (responseOf S w d k (oldest (w .down d k)) .sends))))
-  ladder w (C d) = stopLadder (not (isClient S d)) (w .stopped d)
-  ladder w (L k d bytes) =
-      lieLadder (not (isClient S d && isServer S k)) (not (S .faulty k)) (not (isReply (F .unpack bytes)))
-      (not (w .stopped d || hasRoom (w .down d k) 1))
+  ladder world (R d) =
+      readLadder (not (isClient settings d)) (world .stopped d) (not (isIdle (world .clients d .phase)))
+      (leb lastRead (world .clients d .reads .0)) (not (roomUp world d 2))
+  ladder world (W d entry) =
+      writeLadder (not (isClient settings d)) (world .stopped d) (not (isIdle (world .clients d .phase)))
+      (not (judge .isLicence entry)) (leb lastRead (world .clients d .reads .0)) (not (roomUp world d 3))
+  ladder world (K k d) =
+      serveLadder (not (isClient settings d && isServer settings k)) (settings .faulty k)
+      (isEmpty (world .up d k)) (not (roomDown world k d (oldest (world .up d k))))
+  ladder world (D d k) =
+      takeLadder (not (isClient settings d && isServer settings k)) (world .stopped d)
+      (isEmpty (world .down d k))
+      (not (roomUp world d (length (responseOf settings world d k (oldest (world .down d k)) .sends))))
+  ladder world (C d) = stopLadder (not (isClient settings d)) (world .stopped d)
+  ladder world (L k d bytes) =
+      lieLadder (not (isClient settings d && isServer settings k)) (not (settings .faulty k))
+      (not (goesDown (judge .unpack bytes))) (not (world .stopped d || hasRoom (world .down d k) 1))
 
   -- the refusal of a step, if there is one
   unfoldable pub refusalOf : World → Step → Option Refusal
   unfolding ladder
-  refusalOf w s = lowest (ladder w s)
+  refusalOf world step = lowest (ladder world step)
 
   -- the event of a step that is not refused
   abbrev pub servesOldest : ℕ → ℕ → List Message → Event
   servesOldest k d [] = refuses (numbered 10)
-  servesOldest k d (m ∷ ms) = serves k d m ms
+  servesOldest k d (message ∷ rest) = serves k d message rest
 
   abbrev pub takesOldest : ℕ → ℕ → List Message → Event
   takesOldest d k [] = refuses (numbered 10)
-  takesOldest d k (m ∷ ms) = takes d k m ms
+  takesOldest d k (message ∷ rest) = takes d k message rest
 
   abbrev pub liesWith : ℕ → ℕ → Unpacked → Event
-  liesWith k d (Good m) = lies k d m
-  liesWith k d (Refused r) = refuses r
+  liesWith k d (Good message) = lies k d message
+  liesWith k d (Refused refusal) = refuses refusal
 
   unfoldable pub accepted : World → Step → Event
-  accepted w (R d) = begins d Reading
-  accepted w (W d e) = begins d (ReadingForWrite e)
-  accepted w (K k d) = servesOldest k d (w .up d k)
-  accepted w (D d k) = takesOldest d k (w .down d k)
-  accepted w (C d) = stops d
-  accepted w (L k d bytes) = liesWith k d (F .unpack bytes)
+  accepted world (R d) = begins d Reading
+  accepted world (W d entry) = begins d (ReadingForWrite entry)
+  accepted world (K k d) = servesOldest k d (world .up d k)
+  accepted world (D d k) = takesOldest d k (world .down d k)
+  accepted world (C d) = stops d
+  accepted world (L k d bytes) = liesWith k d (judge .unpack bytes)
 
   abbrev pub decided : Option Refusal → Event → Event
-  decided none e = e
-  decided (some r) e = refuses r
+  decided none event = event
+  decided (some refusal) event = refuses refusal
 
   -- the event of a step
   unfoldable pub eventOf : World → Step → Event
   unfolding refusalOf accepted
-  eventOf w s = decided (refusalOf w s) (accepted w s)
+  eventOf world step = decided (refusalOf world step) (accepted world step)

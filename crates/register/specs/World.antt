@@ -39,9 +39,9 @@ newWorld =
       down = λ d k. [];
     }
 
--- what can happen: nothing, for a refusal; client d starts in a phase (R, W); server k serves message m of
--- client d (K), client d takes message m of server k (D), and leaves the rest; client d stops (C); faulty
--- server k puts m on its channel to d (L)
+-- what can happen: nothing, for a refusal; client d starts in a phase (R, W); server k serves a message of
+-- client d (K), client d takes a message of server k (D), and leaves the rest; client d stops (C); faulty
+-- server k puts a message on its channel to d (L)
 pub data Event : Type 0 where
   refuses : Refusal → Event
   begins : ℕ → Phase → Event
@@ -50,94 +50,100 @@ pub data Event : Type 0 where
   stops : ℕ → Event
   lies : (k d : ℕ) → Message → Event
 
-module _ (S : Settings) where
-  -- the response of client d to message m of server k
+module _ (settings : Settings) where
+  -- the response of client d to a message of server k
   abbrev pub responseOf : World → ℕ → ℕ → Message → Response
-  responseOf w d k m = clientTakes (servers S) (S .f) d (w .clients d) k m
+  responseOf world d k message = clientTakes (servers settings) (settings .f) d (world .clients d) k message
 
-  -- what an event puts on the channel from client d to server k
+  -- what an event, with its own client d′ and server k′, puts on the channel from client d to server k
   unfoldable pub putsUp : World → Event → ℕ → ℕ → List Message
-  putsUp w (refuses r) d k = []
-  putsUp w (begins c ph) d k = cond (eqb c d && isServer S k) (GetInfo (nextRead (w .clients c)) ∷ []) []
-  putsUp w (serves j c m ms) d k = []
-  putsUp w (takes c j m ms) d k = cond (eqb c d && isServer S k) (responseOf w c j m .sends) []
-  putsUp w (stops c) d k = []
-  putsUp w (lies j c m) d k = []
+  putsUp world (refuses refusal) d k = []
+  putsUp world (begins d′ phase) d k =
+      cond (eqb d′ d && isServer settings k) (GetInfo (nextRead (world .clients d′)) ∷ []) []
+  putsUp world (serves k′ d′ message rest) d k = []
+  putsUp world (takes d′ k′ message rest) d k =
+      cond (eqb d′ d && isServer settings k) (responseOf world d′ k′ message .sends) []
+  putsUp world (stops d′) d k = []
+  putsUp world (lies k′ d′ message) d k = []
 
   -- what an event puts on the channel from server k to client d
   unfoldable pub putsDown : World → Event → ℕ → ℕ → List Message
-  putsDown w (refuses r) d k = []
-  putsDown w (begins c ph) d k = []
-  putsDown w (serves j c m ms) d k = cond (eqb j k) (sentTo d (serverSends (w .servers j) c m)) []
-  putsDown w (takes c j m ms) d k = []
-  putsDown w (stops c) d k = []
-  putsDown w (lies j c m) d k = cond (eqb j k && eqb c d) (m ∷ []) []
+  putsDown world (refuses refusal) d k = []
+  putsDown world (begins d′ phase) d k = []
+  putsDown world (serves k′ d′ message rest) d k =
+      cond (eqb k′ k) (sentTo d (serverSends (world .servers k′) d′ message)) []
+  putsDown world (takes d′ k′ message rest) d k = []
+  putsDown world (stops d′) d k = []
+  putsDown world (lies k′ d′ message) d k = cond (eqb k′ k && eqb d′ d) (message ∷ []) []
 
   -- what an event leaves on a channel: K and D take the oldest message off, C empties those to its client
   unfoldable pub leavesUp : World → Event → ℕ → ℕ → List Message
-  leavesUp w (refuses r) d k = w .up d k
-  leavesUp w (begins c ph) d k = w .up d k
-  leavesUp w (serves j c m ms) d k = cond (eqb j k && eqb c d) ms (w .up d k)
-  leavesUp w (takes c j m ms) d k = w .up d k
-  leavesUp w (stops c) d k = w .up d k
-  leavesUp w (lies j c m) d k = w .up d k
+  leavesUp world (refuses refusal) d k = world .up d k
+  leavesUp world (begins d′ phase) d k = world .up d k
+  leavesUp world (serves k′ d′ message rest) d k = cond (eqb k′ k && eqb d′ d) rest (world .up d k)
+  leavesUp world (takes d′ k′ message rest) d k = world .up d k
+  leavesUp world (stops d′) d k = world .up d k
+  leavesUp world (lies k′ d′ message) d k = world .up d k
 
   unfoldable pub leavesDown : World → Event → ℕ → ℕ → List Message
-  leavesDown w (refuses r) d k = w .down d k
-  leavesDown w (begins c ph) d k = w .down d k
-  leavesDown w (serves j c m ms) d k = w .down d k
-  leavesDown w (takes c j m ms) d k = cond (eqb j k && eqb c d) ms (w .down d k)
-  leavesDown w (stops c) d k = cond (eqb c d) [] (w .down d k)
-  leavesDown w (lies j c m) d k = w .down d k
+  leavesDown world (refuses refusal) d k = world .down d k
+  leavesDown world (begins d′ phase) d k = world .down d k
+  leavesDown world (serves k′ d′ message rest) d k = world .down d k
+  leavesDown world (takes d′ k′ message rest) d k = cond (eqb k′ k && eqb d′ d) rest (world .down d k)
+  leavesDown world (stops d′) d k = cond (eqb d′ d) [] (world .down d k)
+  leavesDown world (lies k′ d′ message) d k = world .down d k
 
   -- a message put on a channel to a faulty server or to a stopped client is dropped
   unfoldable pub nextUp : World → Event → ℕ → ℕ → List Message
-  nextUp w e d k = leavesUp w e d k ++ cond (S .faulty k) [] (putsUp w e d k)
+  nextUp world event d k = leavesUp world event d k ++ cond (settings .faulty k) [] (putsUp world event d k)
 
   unfoldable pub nextDown : World → Event → ℕ → ℕ → List Message
-  nextDown w e d k = leavesDown w e d k ++ cond (w .stopped d) [] (putsDown w e d k)
+  nextDown world event d k =
+      leavesDown world event d k ++ cond (world .stopped d) [] (putsDown world event d k)
 
   -- the servers, the clients and the stopped after an event
   unfoldable pub nextServers : World → Event → ℕ → Server
-  nextServers w (refuses r) = w .servers
-  nextServers w (begins c ph) = w .servers
-  nextServers w (serves j c m ms) = update (w .servers) j (nextServer (w .servers j) c m)
-  nextServers w (takes c j m ms) = w .servers
-  nextServers w (stops c) = w .servers
-  nextServers w (lies j c m) = w .servers
+  nextServers world (refuses refusal) = world .servers
+  nextServers world (begins d′ phase) = world .servers
+  nextServers world (serves k′ d′ message rest) =
+      update (world .servers) k′ (nextServer (world .servers k′) d′ message)
+  nextServers world (takes d′ k′ message rest) = world .servers
+  nextServers world (stops d′) = world .servers
+  nextServers world (lies k′ d′ message) = world .servers
 
   unfoldable pub nextClients : World → Event → ℕ → Client
-  nextClients w (refuses r) = w .clients
-  nextClients w (begins c ph) = update (w .clients) c (started (w .clients c) ph)
-  nextClients w (serves j c m ms) = w .clients
-  nextClients w (takes c j m ms) = update (w .clients) c (responseOf w c j m .client)
-  nextClients w (stops c) = w .clients
-  nextClients w (lies j c m) = w .clients
+  nextClients world (refuses refusal) = world .clients
+  nextClients world (begins d′ phase) = update (world .clients) d′ (started (world .clients d′) phase)
+  nextClients world (serves k′ d′ message rest) = world .clients
+  nextClients world (takes d′ k′ message rest) =
+      update (world .clients) d′ (responseOf world d′ k′ message .client)
+  nextClients world (stops d′) = world .clients
+  nextClients world (lies k′ d′ message) = world .clients
 
   unfoldable pub nextStopped : World → Event → ℕ → Bool
-  nextStopped w (refuses r) = w .stopped
-  nextStopped w (begins c ph) = w .stopped
-  nextStopped w (serves j c m ms) = w .stopped
-  nextStopped w (takes c j m ms) = w .stopped
-  nextStopped w (stops c) = update (w .stopped) c true
-  nextStopped w (lies j c m) = w .stopped
+  nextStopped world (refuses refusal) = world .stopped
+  nextStopped world (begins d′ phase) = world .stopped
+  nextStopped world (serves k′ d′ message rest) = world .stopped
+  nextStopped world (takes d′ k′ message rest) = world .stopped
+  nextStopped world (stops d′) = update (world .stopped) d′ true
+  nextStopped world (lies k′ d′ message) = world .stopped
 
   -- the world after an event
   unfoldable pub apply : World → Event → World
-  apply w e =
+  apply world event =
       record {
-        servers = nextServers w e;
-        clients = nextClients w e;
-        stopped = nextStopped w e;
-        up = nextUp w e;
-        down = nextDown w e;
+        servers = nextServers world event;
+        clients = nextClients world event;
+        stopped = nextStopped world event;
+        up = nextUp world event;
+        down = nextDown world event;
       }
 
   -- the answer of a step: WENT, or a client's to a message (READ, WROTE, SPENT), or REFUSED 4 to 12
   unfoldable pub answerOf : World → Event → Answer
-  answerOf w (refuses r) = Refused r
-  answerOf w (begins c ph) = Went
-  answerOf w (serves j c m ms) = Went
-  answerOf w (takes c j m ms) = responseOf w c j m .answer
-  answerOf w (stops c) = Went
-  answerOf w (lies j c m) = Went
+  answerOf world (refuses refusal) = Refused refusal
+  answerOf world (begins d′ phase) = Went
+  answerOf world (serves k′ d′ message rest) = Went
+  answerOf world (takes d′ k′ message rest) = responseOf world d′ k′ message .answer
+  answerOf world (stops d′) = Went
+  answerOf world (lies k′ d′ message) = Went

@@ -10,6 +10,7 @@ use lib.Seq.{take-add, set-split}
 use Rattle.basics.proofs.Cases.{clash}
 use Rattle.script.specs.Writing.{Written}
 use Rattle.script.proofs.Writing.{reads, written-none}
+use Rattle.script.specs.Lines.{newline}
 use Rattle.rehearse.specs.Blocks.{joined}
 
 -- ---- what was kept and read
@@ -18,7 +19,7 @@ joined-some : (cut xs : List ℕ) → 0 < length xs → joined cut xs ≡ cut ++
 joined-some cut [] h = clash (omega arith)
 joined-some cut (x ∷ xs) h = refl
 
-joined-last : (cut xs : List ℕ) → length xs ≤ 0 → 0 < length cut → joined cut xs ≡ cut ++ 10 ∷ []
+joined-last : (cut xs : List ℕ) → length xs ≤ 0 → 0 < length cut → joined cut xs ≡ cut ++ newline ∷ []
 joined-last [] [] h g = clash (omega arith)
 joined-last (y ∷ cut) [] h g = refl
 joined-last cut (x ∷ xs) h g = clash (omega arith)
@@ -30,59 +31,62 @@ joined-none cut (x ∷ xs) h g = clash (omega arith)
 
 -- ---- the blocks
 
-module _ (s : List ℕ) (have n : ℕ) (inside : have < length s) (room : have + n ≤ length s) where
+module _ (block : List ℕ) (have more : ℕ) (inside : have < length block)
+    (room : have + more ≤ length block) where
   abbrev cut : List ℕ
-  cut = take have s
+  cut = take have block
 
   abbrev bytes : List ℕ
-  bytes = take n (drop have s)
+  bytes = take more (drop have block)
 
   many : length cut ≡ have
-  many = length-take-le have s (omega arith)
+  many = length-take-le have block (omega arith)
 
-  few : length bytes ≡ n
-  few = rw (length-take n (drop have s), length-drop have s) (omega arith)
+  few : length bytes ≡ more
+  few = rw (length-take more (drop have block), length-drop have block) (omega arith)
 
   -- something was read
-  pub read-some : 0 < n → Written (joined cut bytes) s 0 (have + n) s
+  pub read-some : 0 < more → Written (joined cut bytes) block 0 (have + more) block
   read-some some =
-      let m = many in
-      let k = few in
+      let kept-long = many in
+      let read-long = few in
       let both = joined-some cut bytes (omega arith) in
-      let long : length (joined cut bytes) ≡ have + n = cc (both, length-append cut bytes, m, k) in
-      let ends : have + n ≡ 0 + length (joined cut bytes) = omega arith in
+      let long : length (joined cut bytes) ≡ have + more =
+      cc (both, length-append cut bytes, kept-long, read-long) in
+      let ends : have + more ≡ 0 + length (joined cut bytes) = omega arith in
       record {
         fits = omega arith;
         ends = ends;
         holds =
-            sym (take-append-drop (have + n) s)
-            ∙ ap (λ (l : List ℕ). l ++ drop (have + n) s) (take-add have n s ∙ sym both)
-            ∙ ap (λ (j : ℕ). joined cut bytes ++ drop j s) ends;
+            sym (take-append-drop (have + more) block)
+            ∙ ap (λ (l : List ℕ). l ++ drop (have + more) block) (take-add have more block ∙ sym both)
+            ∙ ap (λ (j : ℕ). joined cut bytes ++ drop j block) ends;
       }
 
   -- nothing was read, and nothing kept
-  pub read-none : n ≤ 0 → have < 1 → Written (joined cut bytes) s 0 0 s
+  pub read-none : more ≤ 0 → have < 1 → Written (joined cut bytes) block 0 0 block
   read-none none empty =
-      let m = many in
-      let k = few in
-      reads (record { fits = omega arith; ends = refl; holds = written-none s 0 }) (joined cut bytes)
+      let kept-long = many in
+      let read-long = few in
+      reads (record { fits = omega arith; ends = refl; holds = written-none block 0 }) (joined cut bytes)
       (sym (joined-none cut bytes (omega arith) (omega arith)))
 
   -- nothing was read behind the start of a line, which then is the last one
-  pub read-last : n ≤ 0 → 0 < have → Written (joined cut bytes) s 0 (have + 1) (set s have 10)
+  pub read-last : more ≤ 0 → 0 < have → Written (joined cut bytes) block 0 (have + 1) (set block have newline)
   read-last none some =
-      let m = many in
-      let k = few in
+      let kept-long = many in
+      let read-long = few in
       let last = joined-last cut bytes (omega arith) (omega arith) in
-      let long : length (cut ++ 10 ∷ []) ≡ have + 1 = length-append cut (10 ∷ []) ∙ rw m refl in
-      let ends : suc have ≡ 0 + length (cut ++ 10 ∷ []) = omega arith in
+      let long : length (cut ++ newline ∷ []) ≡ have + 1 =
+      length-append cut (newline ∷ []) ∙ rw kept-long refl in
+      let ends : suc have ≡ 0 + length (cut ++ newline ∷ []) = omega arith in
       reads
       (record {
         fits = omega arith;
         ends = omega arith;
         holds =
-            set-split s have 10 inside
-            ∙ sym (append-assoc cut (10 ∷ []) (drop (suc have) s))
-            ∙ ap (λ (j : ℕ). (cut ++ 10 ∷ []) ++ drop j s) ends;
+            set-split block have newline inside
+            ∙ sym (append-assoc cut (newline ∷ []) (drop (suc have) block))
+            ∙ ap (λ (j : ℕ). (cut ++ newline ∷ []) ++ drop j block) ends;
       })
       (joined cut bytes) (sym last)

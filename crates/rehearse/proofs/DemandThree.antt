@@ -26,43 +26,48 @@ use Rattle.rehearse.proofs.Whole.{whole}
 
 -- ---- the outputs from an accepted S on
 
-module _ {p : Stage} {s : Line} {S : Settings} (b : Begun p s S) (between after′ : List Line)
+module _ {known : Stage} {setup : Line} {S : Settings} (session-of : Begun known setup S)
+    (between after′ : List Line)
     (plain : NoneAccepted between) where
   -- the program behind the S
   abbrev first : Stage
-  first = stageAt (b .settings) (stepsOf between) 0 (nextNumber (p .number))
+  first = stageAt (session-of .settings) (stepsOf between) 0 (nextNumber (known .number))
 
   -- the outputs of the lines behind the session
   abbrev later : List Output
   later = outputsOf (stageBehind first between) after′
 
-  session-outputs : outputsOf p (s ∷ between ++ after′)
-      ≡ sessionOutputs (settingsOf (b .settings)) between ++ later
+  session-outputs : outputsOf known (setup ∷ between ++ after′)
+      ≡ sessionOutputs (settingsOf (session-of .settings)) between ++ later
   unfolding outputsOf
   session-outputs =
-      (λ i. b .prints i ∷ outputsOf (b .leaves (stepsOf between) i) (between ++ after′))
+      (λ i. session-of .prints i ∷ outputsOf (session-of .leaves (stepsOf between) i) (between ++ after′))
       ∙ ap (λ (os : List Output). output.Set ∷ os)
       (outputs-then first between after′
       ∙ ap (λ (os : List Output). os ++ later)
-      (in-session (b .settings) (b .allowed) (stepsOf between) between plain 0 (nextNumber (p .number)) refl))
+      (in-session (session-of .settings) (session-of .allowed) (stepsOf between) between plain 0
+      (nextNumber (known .number)) refl))
 
 -- ---- the session in a script
 
-session : (p : Stage) (before between after′ : List Line) (s : Line) (S : Settings) → acceptedBy s ≡ some S
+session : (known : Stage) (before between after′ : List Line) (setup : Line) (S : Settings)
+    → acceptedBy setup ≡ some S
     → NoneAccepted between
-    → Session (outputsOf p (before ++ (s ∷ between ++ after′))) (length before) S between
-session p before between after′ s S e plain =
-    let b = begun (stageBehind p before) s S e in
-    let all : List Output = outputsOf p (before ++ (s ∷ between ++ after′)) in
-    subst (λ (T : Settings). Session all (length before) T between) (b .same)
+    → Session (outputsOf known (before ++ (setup ∷ between ++ after′))) (length before) S between
+session known before between after′ setup S e plain =
+    let session-of = begun (stageBehind known before) setup S e in
+    let all : List Output = outputsOf known (before ++ (setup ∷ between ++ after′)) in
+    subst (λ (T : Settings). Session all (length before) T between) (session-of .same)
     (record {
-      front = outputsOf p before;
-      behind = later b between after′ plain;
-      many = outputs-many p before;
+      front = outputsOf known before;
+      behind = later session-of between after′ plain;
+      many = outputs-many known before;
       answers =
-          outputs-then p before (s ∷ between ++ after′)
-          ∙ ap (λ (os : List Output). outputsOf p before ++ os) (session-outputs b between after′ plain);
-      demand = demand-three (settingsOf (b .settings)) (b .allowed .accepted) (stepsOf between);
+          outputs-then known before (setup ∷ between ++ after′)
+          ∙ ap (λ (os : List Output). outputsOf known before ++ os)
+          (session-outputs session-of between after′ plain);
+      demand =
+          demand-three (settingsOf (session-of .settings)) (session-of .allowed .accepted) (stepsOf between);
     })
 
 -- ---- the program
@@ -73,7 +78,7 @@ rehearsed parts =
       outputs = outputsOf beginning (linesIn parts);
       many = outputs-many beginning (linesIn parts);
       written = whole beginning parts ∙ text-is beginning 0 (linesOf (inputOf parts)) refl;
-      sessions = λ before between after′ s S split accepted plain.
+      sessions = λ before between after′ setup S split accepted plain.
           subst (λ (ls : List Line). Session (outputsOf beginning ls) (length before) S between) (sym split)
-          (session beginning before between after′ s S accepted plain);
+          (session beginning before between after′ setup S accepted plain);
     }

@@ -1,4 +1,3 @@
-pub mod Printing
 pub mod Scripts
 pub mod Staying
 pub mod Obeying

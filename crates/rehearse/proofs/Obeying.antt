@@ -5,66 +5,68 @@
 -- (`StepLaws`).
 -- Assumes nothing.
 use Rattle.basics.proofs.Prelude.{_≡_, refl, sym, ap, _∙_, Bool, true, false, List, ℕ}
-use Rattle.refusal.specs.declared.Refusal.{Refusal}
+use Rattle.register.proofs.Vocabulary.{Refusal, newWorld}
 use Rattle.register.specs.declared.Answer.the-variants.{Refused}
 use Rattle.register.specs.declared.Step.{Step}
-use Rattle.register.specs.World.{newWorld}
 use Rattle.script.specs.declared.parse.Line.the-variants as line
 use Rattle.script.specs.declared.print.Output.the-variants as output
 use Rattle.script.specs.Numerals.{nextNumber}
 use Rattle.state.specs.declared.Settings.{Settings}
 use Rattle.state.specs.Sound.{isSound}
 use Rattle.steps.specs.InMemory.{After, inMemory}
-use Rattle.system.specs.declared.setup.Setup.{Setup}
 use Rattle.system.specs.declared.setup.Setup.the-variants as setup
 use Rattle.system.specs.Setup.{setupOf}
 use Rattle.system.specs.Stored.{Stored}
 use Rattle.system.proofs.StepLaws.{step-law}
 use Rattle.rehearse.specs.Stage.{Stage, stage, moved, setupOutput, setUp, outputOf, after, Obeys}
 
-module _ (isSet : Bool) (t : Settings) (s c b : List ℕ) (n : ℕ) where
+module _ (isSet : Bool) (settings : Settings) (servers clients slots : List ℕ) (number : ℕ) where
   abbrev known : Stage
-  known = stage isSet t s c b n
+  known = stage isSet settings servers clients slots number
 
-  pub obeys-set : (f d m : ℕ) (u : Settings) (s′ c′ b′ : List ℕ) → setupOf f d m ≡ setup.Set u
-      → Stored newWorld s′ c′ b′
-      → Obeys known (line.Setup f d m) output.Set (stage true u s′ c′ b′)
+  pub obeys-set : (f count faulty : ℕ) (accepted : Settings) (servers′ clients′ slots′ : List ℕ)
+      → setupOf f count faulty ≡ setup.Set accepted → Stored newWorld servers′ clients′ slots′
+      → Obeys known (line.Setup f count faulty) output.Set (stage true accepted servers′ clients′ slots′)
   unfolding outputOf after
-  obeys-set f d m u s′ c′ b′ e st =
+  obeys-set f count faulty accepted servers′ clients′ slots′ is stored =
       record {
-        prints = ap setupOutput (sym e);
+        prints = ap setupOutput (sym is);
         leaves =
-            (λ i. stage true u (st .servers i) (st .clients i) (st .slots i) (nextNumber n))
-            ∙ ap (setUp known) (sym e);
+            (λ i. stage true accepted (stored .servers i) (stored .clients i) (stored .slots i)
+            (nextNumber number)) ∙ ap (setUp known) (sym is);
       }
 
-  pub obeys-refused : (f d m : ℕ) (r : Refusal) (s′ c′ b′ : List ℕ) → setupOf f d m ≡ setup.Refused r
-      → (s′ ≡ s) × (c′ ≡ c) × (b′ ≡ b)
-      → Obeys known (line.Setup f d m) (output.Answered (Refused r)) (stage isSet t s′ c′ b′)
+  pub obeys-refused : (f count faulty : ℕ) (why : Refusal) (servers′ clients′ slots′ : List ℕ)
+      → setupOf f count faulty ≡ setup.Refused why
+      → (servers′ ≡ servers) × (clients′ ≡ clients) × (slots′ ≡ slots)
+      → Obeys known (line.Setup f count faulty) (output.Answered (Refused why))
+      (stage isSet settings servers′ clients′ slots′)
   unfolding outputOf after
-  obeys-refused f d m r s′ c′ b′ e kept =
+  obeys-refused f count faulty why servers′ clients′ slots′ is kept =
       record {
-        prints = ap setupOutput (sym e);
+        prints = ap setupOutput (sym is);
         leaves =
-            (λ i. stage isSet t (kept .0 i) (kept .1 i) (kept .2 i) (nextNumber n))
-            ∙ ap (setUp known) (sym e);
+            (λ i. stage isSet settings (kept .0 i) (kept .1 i) (kept .2 i) (nextNumber number))
+            ∙ ap (setUp known) (sym is);
       }
 
-  pub obeys-step : (x : Step) (o : After) → isSet ≡ true → isSound t s c b ≡ true → o ≡ inMemory t s c b x
-      → Obeys known (line.Do x) (output.Answered (o .answer))
-      (stage isSet t (o .servers) (o .clients) (o .slots))
+  pub obeys-step : (step : Step) (done : After) → isSet ≡ true → isSound settings servers clients slots ≡ true
+      → done ≡ inMemory settings servers clients slots step
+      → Obeys known (line.Do step) (output.Answered (done .answer))
+      (stage isSet settings (done .servers) (done .clients) (done .slots))
   unfolding outputOf after
-  obeys-step x o set sound given =
-      let e = step-law t s c b sound x o given in
+  obeys-step step done set sound given =
+      let is = step-law settings servers clients slots sound step done given in
       record {
-        prints = rw set (ap (λ (y : After). output.Answered (y .answer)) e);
-        leaves = rw set (ap (moved (stage true t s c b n)) e);
+        prints = rw set (ap (λ (other : After). output.Answered (other .answer)) is);
+        leaves = rw set (ap (moved (stage true settings servers clients slots number)) is);
       }
 
-  pub obeys-early : (x : Step) → isSet ≡ false → Obeys known (line.Do x) output.Unread (stage isSet t s c b)
+  pub obeys-early : (step : Step) → isSet ≡ false
+      → Obeys known (line.Do step) output.Unread (stage isSet settings servers clients slots)
   unfolding outputOf after
-  obeys-early x set = record { prints = rw set; leaves = rw set }
+  obeys-early step set = record { prints = rw set; leaves = rw set }
 
-  pub obeys-unread : Obeys known line.Unread output.Unread (stage isSet t s c b)
+  pub obeys-unread : Obeys known line.Unread output.Unread (stage isSet settings servers clients slots)
   unfolding outputOf after
   obeys-unread = record { prints = refl; leaves = refl }

@@ -22,41 +22,42 @@ use Rattle.rehearse.specs.Sessions.{numberAt, textFrom}
 -- ---- the outputs of lines
 
 unfoldable pub outputsOf : Stage → List Line → List Output
-outputsOf p [] = []
-outputsOf p (l ∷ ls) = outputOf p l ∷ outputsOf (after p l) ls
+outputsOf known [] = []
+outputsOf known (l ∷ ls) = outputOf known l ∷ outputsOf (after known l) ls
 
 -- what is known behind them
 unfoldable pub stageBehind : Stage → List Line → Stage
-stageBehind p [] = p
-stageBehind p (l ∷ ls) = stageBehind (after p l) ls
+stageBehind known [] = known
+stageBehind known (l ∷ ls) = stageBehind (after known l) ls
 
-pub outputs-many : (p : Stage) (ls : List Line) → length (outputsOf p ls) ≡ length ls
+pub outputs-many : (known : Stage) (ls : List Line) → length (outputsOf known ls) ≡ length ls
 unfolding outputsOf
-outputs-many p [] = refl
-outputs-many p (l ∷ ls) = ap suc (outputs-many (after p l) ls)
+outputs-many known [] = refl
+outputs-many known (l ∷ ls) = ap suc (outputs-many (after known l) ls)
 
-pub outputs-then : (p : Stage) (ls ks : List Line)
-    → outputsOf p (ls ++ ks) ≡ outputsOf p ls ++ outputsOf (stageBehind p ls) ks
+pub outputs-then : (known : Stage) (ls more : List Line)
+    → outputsOf known (ls ++ more) ≡ outputsOf known ls ++ outputsOf (stageBehind known ls) more
 unfolding outputsOf stageBehind
-outputs-then p [] ks = refl
-outputs-then p (l ∷ ls) ks = ap (λ (os : List Output). outputOf p l ∷ os) (outputs-then (after p l) ls ks)
+outputs-then known [] more = refl
+outputs-then known (l ∷ ls) more =
+    ap (λ (os : List Output). outputOf known l ∷ os) (outputs-then (after known l) ls more)
 
 -- ---- the numbers
 
-setup-counted : (p : Stage) (s : Setup) → setUp p s .number ≡ nextNumber (p .number)
-setup-counted p (setup.Set t) = refl
-setup-counted p (setup.Refused n) = refl
+setup-counted : (known : Stage) (answer : Setup) → setUp known answer .number ≡ nextNumber (known .number)
+setup-counted known (setup.Set settings) = refl
+setup-counted known (setup.Refused why) = refl
 
-step-counted : (p : Stage) (o : After) (b : Bool)
-    → cond b (moved p o) (counted p) .number ≡ nextNumber (p .number)
-step-counted p o true = refl
-step-counted p o false = refl
+step-counted : (known : Stage) (done : After) (is-set : Bool)
+    → cond is-set (moved known done) (counted known) .number ≡ nextNumber (known .number)
+step-counted known done true = refl
+step-counted known done false = refl
 
-line-counted : (p : Stage) (l : Line) → after p l .number ≡ nextNumber (p .number)
+line-counted : (known : Stage) (l : Line) → after known l .number ≡ nextNumber (known .number)
 unfolding after
-line-counted p (line.Setup f c m) = setup-counted p (setupOf f c m)
-line-counted p (line.Do x) = step-counted p (stepOn p x) (p .isSet)
-line-counted p line.Unread = refl
+line-counted known (line.Setup f count faulty) = setup-counted known (setupOf f count faulty)
+line-counted known (line.Do step) = step-counted known (stepOn known step) (known .isSet)
+line-counted known line.Unread = refl
 
 -- the next place has the next number
 next-place : (n : ℕ) → nextNumber (numberAt n) ≡ numberAt (suc n)
@@ -67,10 +68,10 @@ next-place n =
 
 -- ---- the text
 
-pub text-is : (p : Stage) (n : ℕ) (ls : List (List ℕ)) → p .number ≡ numberAt n
-    → textOf p ls ≡ textFrom n (outputsOf p (map lineOf ls))
+pub text-is : (known : Stage) (n : ℕ) (ls : List (List ℕ)) → known .number ≡ numberAt n
+    → textOf known ls ≡ textFrom n (outputsOf known (map lineOf ls))
 unfolding textOf textFrom outputsOf
-text-is p n [] e = refl
-text-is p n (l ∷ ls) e =
-    let x : Line = lineOf l in
-    cc (text-is (after p x) (suc n) ls (line-counted p x ∙ ap nextNumber e ∙ next-place n), e)
+text-is known n [] e = refl
+text-is known n (l ∷ ls) e =
+    let said : Line = lineOf l in
+    cc (text-is (after known said) (suc n) ls (line-counted known said ∙ ap nextNumber e ∙ next-place n), e)

@@ -8,7 +8,7 @@ use Rattle.basics.proofs.Prelude.{drop, length-drop, ℕ, suc, _+_, _-_, _≤_,
 use lib.ListN.{length-take}
 use lib.Seq.{drop-drop}
 use Rattle.script.specs.Grammar.{lineOf}
-use Rattle.script.specs.Lines.{upTo, part, lineEnd, wholeLines}
+use Rattle.script.specs.Lines.{upTo, part, lineEnd, wholeLines, newline}
 use Rattle.script.specs.Printed.{printed}
 use Rattle.script.proofs.Places.{up-to-take, behind-some, behind-none}
 use Rattle.script.proofs.Split.{first-line, no-whole}
@@ -17,41 +17,46 @@ use Rattle.rehearse.specs.Blocks.{lengthOf}
 
 -- ---- lines behind lines
 
-pub stage-then : (p : Stage) (xs ys : List (List ℕ))
-    → stageAfter p (xs ++ ys) ≡ stageAfter (stageAfter p xs) ys
+pub stage-then : (known : Stage) (lines more : List (List ℕ))
+    → stageAfter known (lines ++ more) ≡ stageAfter (stageAfter known lines) more
 unfolding stageAfter
-stage-then p [] ys = refl
-stage-then p (l ∷ xs) ys = stage-then (after p (lineOf l)) xs ys
+stage-then known [] more = refl
+stage-then known (line ∷ lines) more = stage-then (after known (lineOf line)) lines more
 
-pub text-then : (p : Stage) (xs ys : List (List ℕ))
-    → textOf p (xs ++ ys) ≡ textOf p xs ++ textOf (stageAfter p xs) ys
+pub text-then : (known : Stage) (lines more : List (List ℕ))
+    → textOf known (lines ++ more) ≡ textOf known lines ++ textOf (stageAfter known lines) more
 unfolding textOf stageAfter
-text-then p [] ys = refl
-text-then p (l ∷ xs) ys =
-    let q : Stage = after p (lineOf l) in
-    let t : List ℕ = printed (p .number) (outputOf p (lineOf l)) in
-    cc (text-then q xs ys, append-assoc t (textOf q xs) (textOf (stageAfter q xs) ys))
-
--- one line more
-pub stage-more : (p : Stage) (ls : List (List ℕ)) (l : List ℕ)
-    → stageAfter p (ls ++ l ∷ []) ≡ after (stageAfter p ls) (lineOf l)
-unfolding stageAfter
-stage-more p ls l = stage-then p ls (l ∷ [])
-
-pub text-more : (p : Stage) (ls : List (List ℕ)) (l : List ℕ)
-    → textOf p (ls ++ l ∷ [])
-    ≡ textOf p ls ++ printed (stageAfter p ls .number) (outputOf (stageAfter p ls) (lineOf l))
-unfolding textOf
-text-more p ls l =
+text-then known [] more = refl
+text-then known (line ∷ lines) more =
+    let next : Stage = after known (lineOf line) in
+    let text : List ℕ = printed (known .number) (outputOf known (lineOf line)) in
     cc (
-      text-then p ls (l ∷ []),
-      append-nil (printed (stageAfter p ls .number) (outputOf (stageAfter p ls) (lineOf l))),
+      text-then next lines more,
+      append-assoc text (textOf next lines) (textOf (stageAfter next lines) more),
     )
 
-pub length-more : (ls : List (List ℕ)) (l : List ℕ) → lengthOf (ls ++ l ∷ []) ≡ lengthOf ls + (length l + 1)
+-- one line more
+pub stage-more : (known : Stage) (lines : List (List ℕ)) (line : List ℕ)
+    → stageAfter known (lines ++ line ∷ []) ≡ after (stageAfter known lines) (lineOf line)
+unfolding stageAfter
+stage-more known lines line = stage-then known lines (line ∷ [])
+
+pub text-more : (known : Stage) (lines : List (List ℕ)) (line : List ℕ)
+    → textOf known (lines ++ line ∷ [])
+    ≡ textOf known lines
+    ++ printed (stageAfter known lines .number) (outputOf (stageAfter known lines) (lineOf line))
+unfolding textOf
+text-more known lines line =
+    cc (
+      text-then known lines (line ∷ []),
+      append-nil (printed (stageAfter known lines .number) (outputOf (stageAfter known lines) (lineOf line))),
+    )
+
+pub length-more : (lines : List (List ℕ)) (line : List ℕ)
+    → lengthOf (lines ++ line ∷ []) ≡ lengthOf lines + (length line + 1)
 unfolding lengthOf
-length-more [] l = omega arith
-length-more (k ∷ ls) l = let more = length-more ls l in omega arith
+length-more [] line = omega arith
+length-more (first ∷ lines) line = let more = length-more lines line in omega arith
 
 -- ---- the next line of a block
 
@@ -64,13 +69,13 @@ module _ (input : List ℕ) (at end : ℕ) (inside : at ≤ length input) (e : e
 
   pub next-line : end < length input → wholeLines rest ≡ part input at end ∷ wholeLines (drop (end + 1) input)
   next-line less =
-      let n : ℕ = length (upTo 10 rest) in
+      let n : ℕ = length (upTo newline rest) in
       let wide = long in
       let here : end - at ≡ n = omega arith in
       let more : at + suc n ≡ end + 1 = omega arith in
       cc (
-        first-line false rest (drop (suc n) rest) (behind-some 10 rest (omega arith)),
-        up-to-take 10 rest,
+        first-line false rest (drop (suc n) rest) (behind-some newline rest (omega arith)),
+        up-to-take newline rest,
         here,
         drop-drop (suc n) at input,
         more,
@@ -80,4 +85,4 @@ module _ (input : List ℕ) (at end : ℕ) (inside : at ≤ length input) (e : e
   line-length less = let wide = long in rw (length-take (end - at) rest, wide) (omega arith)
 
   pub no-line : length input ≤ end → wholeLines rest ≡ []
-  no-line far = let wide = long in no-whole rest (behind-none 10 rest (omega arith))
+  no-line far = let wide = long in no-whole rest (behind-none newline rest (omega arith))

@@ -9,9 +9,8 @@ use Rattle.basics.proofs.Prelude.{_≡_, refl, sym, ap, _∙_, inl, inr, List, 
 use Rattle.basics.proofs.Prelude.{drop, length-drop, ℕ, suc, arith}
 use lib.Seq.{drop-cons}
 use Rattle.basics.proofs.Cases.{clash}
-use Rattle.register.specs.Formats.{formats}
-use Rattle.register.specs.History.{worldAt, answerAt}
-use Rattle.register.specs.Settings as settings
+use Rattle.register.proofs.Vocabulary.{formats, worldAt, answerAt}
+use Rattle.register.specs.Settings as register
 use Rattle.register.specs.Steps as model
 use Rattle.script.specs.declared.parse.Line.{Line}
 use Rattle.script.specs.declared.parse.Line.the-variants as line
@@ -42,57 +41,63 @@ at-place l q d x xs e =
 
 -- ---- an S, refused or accepted
 
-refused-setup : (p : Stage) (s : Setup) → acceptedIn s ≡ none → setUp p s ≡ counted p
-refused-setup p (setup.Set t) e = clash (cc)
-refused-setup p (setup.Refused n) e = refl
+refused-setup : (known : Stage) (answer : Setup) → acceptedIn answer ≡ none
+    → setUp known answer ≡ counted known
+refused-setup known (setup.Set settings) e = clash (cc)
+refused-setup known (setup.Refused why) e = refl
 
-accepted-setup : (s : Setup) (S : settings.Settings) → acceptedIn s ≡ some S
-    → (t : Settings) × (s ≡ setup.Set t) × (settingsOf t ≡ S)
-accepted-setup (setup.Set t) S e = (t, refl, (let z : settingsOf t ≡ S = cc in z))
-accepted-setup (setup.Refused n) S e = clash (cc)
+accepted-setup : (answer : Setup) (S : register.Settings) → acceptedIn answer ≡ some S
+    → (settings : Settings) × (answer ≡ setup.Set settings) × (settingsOf settings ≡ S)
+accepted-setup (setup.Set settings) S e = (settings, refl, (let z : settingsOf settings ≡ S = cc in z))
+accepted-setup (setup.Refused why) S e = clash (cc)
 
 -- ---- lines in a session
 
--- where the steps of the history are, from step q on, those of the lines
-pub in-session : (t : Settings) → Allowed t → (steps : List model.Step) (ls : List Line) → NoneAccepted ls
-    → (q n : ℕ) → drop q steps ≡ stepsOf ls
-    → outputsOf (stageAt t steps q n) ls ≡ outputsBy (answerAt (settingsOf t) formats steps) q ls
+-- where the steps of the history are, from a place on, those of the lines
+pub in-session : (settings : Settings) → Allowed settings → (steps : List model.Step) (ls : List Line)
+    → NoneAccepted ls → (place number : ℕ) → drop place steps ≡ stepsOf ls
+    → outputsOf (stageAt settings steps place number) ls
+    ≡ outputsBy (answerAt (settingsOf settings) formats steps) place ls
 unfolding outputsOf outputOf after acceptedBy stepsOf outputsBy
-in-session t allowed steps [] plain q n e = refl
-in-session t allowed steps (line.Setup f c m ∷ ls) plain q n e =
+in-session settings allowed steps [] plain place number e = refl
+in-session settings allowed steps (line.Setup f count faulty ∷ ls) plain place number e =
     cc (
-      refused-setup (stageAt t steps q n) (setupOf f c m) (plain (line.Setup f c m) (inl refl)),
-      in-session t allowed steps ls (λ l among. plain l (inr among)) q (nextNumber n) e,
+      refused-setup (stageAt settings steps place number) (setupOf f count faulty)
+          (plain (line.Setup f count faulty) (inl refl)),
+      in-session settings allowed steps ls (λ l among. plain l (inr among)) place (nextNumber number) e,
     )
-in-session t allowed steps (line.Do x ∷ ls) plain q n e =
-    let here = at-place steps q (model.R 0) (stepOf x) (stepsOf ls) e in
+in-session settings allowed steps (line.Do step ∷ ls) plain place number e =
+    let here = at-place steps place (model.R 0) (stepOf step) (stepsOf ls) e in
     cc (
-      step-answered t steps allowed q n x (here .0),
-      in-session t allowed steps ls (λ l among. plain l (inr among)) (suc q) (nextNumber n) (here .1),
+      step-answered settings steps allowed place number step (here .0),
+      in-session settings allowed steps ls (λ l among. plain l (inr among)) (suc place) (nextNumber number)
+          (here .1),
     )
-in-session t allowed steps (line.Unread ∷ ls) plain q n e =
-    cc (in-session t allowed steps ls (λ l among. plain l (inr among)) q (nextNumber n) e)
+in-session settings allowed steps (line.Unread ∷ ls) plain place number e =
+    cc (in-session settings allowed steps ls (λ l among. plain l (inr among)) place (nextNumber number) e)
 
 -- ---- the S that begins one
 
 -- whatever the program knew, it then is before the first step
-pub record Begun (p : Stage) (s : Line) (S : settings.Settings) : Type 0 where
+pub record Begun (known : Stage) (setup-line : Line) (S : register.Settings) : Type 0 where
   pub settings : Settings
   pub allowed : Allowed settings
   pub same : settingsOf settings ≡ S
-  pub prints : outputOf p s ≡ output.Set
-  pub leaves : (steps : List model.Step) → after p s ≡ stageAt settings steps 0 (nextNumber (p .number))
+  pub prints : outputOf known setup-line ≡ output.Set
+  pub leaves : (steps : List model.Step)
+      → after known setup-line ≡ stageAt settings steps 0 (nextNumber (known .number))
 
-pub begun : (p : Stage) (s : Line) (S : settings.Settings) → acceptedBy s ≡ some S → Begun p s S
+pub begun : (known : Stage) (setup-line : Line) (S : register.Settings) → acceptedBy setup-line ≡ some S
+    → Begun known setup-line S
 unfolding outputOf after acceptedBy worldAt
-begun p (line.Setup f c m) S e =
-    let a = accepted-setup (setupOf f c m) S e in
+begun known (line.Setup f count faulty) S e =
+    let given = accepted-setup (setupOf f count faulty) S e in
     record {
-      settings = a .0;
-      allowed = allowed-set f c m (a .0) (a .1);
-      same = a .2;
-      prints = ap setupOutput (a .1);
-      leaves = λ steps. ap (setUp p) (a .1);
+      settings = given .0;
+      allowed = allowed-set f count faulty (given .0) (given .1);
+      same = given .2;
+      prints = ap setupOutput (given .1);
+      leaves = λ steps. ap (setUp known) (given .1);
     }
-begun p (line.Do x) S e = clash (cc)
-begun p line.Unread S e = clash (cc)
+begun known (line.Do step) S e = clash (cc)
+begun known line.Unread S e = clash (cc)

@@ -28,19 +28,20 @@ use Rattle.rehearse.proofs.Staying.{Sound, line-sound}
 
 -- ---- the lines so far
 
-pub record SoFar (p : Stage) (input out : List ℕ) (q : Stage) (at used : ℕ) (out′ : List ℕ) : Type 0 where
+pub record SoFar (first : Stage) (input out : List ℕ) (known : Stage) (at used : ℕ) (out′ : List ℕ)
+    : Type 0 where
   pub lines : List (List ℕ)
   pub split : wholeLines input ≡ lines ++ wholeLines (drop at input)
   pub place : at ≡ lengthOf lines
   pub within : at ≤ length input
-  pub text : Written (textOf p lines) out 0 used out′
-  pub state : q ≡ stageAfter p lines
+  pub text : Written (textOf first lines) out 0 used out′
+  pub state : known ≡ stageAfter first lines
   pub few : used ≤ at * longest
-  pub sound : Sound q
+  pub sound : Sound known
 
-module _ {p : Stage} {input out : List ℕ} where
+module _ {first : Stage} {input out : List ℕ} where
   -- before the first line
-  pub none-yet : Sound p → SoFar p input out p 0 0 out
+  pub none-yet : Sound first → SoFar first input out first 0 0 out
   unfolding textOf stageAfter lengthOf
   none-yet sound =
       record {
@@ -54,84 +55,96 @@ module _ {p : Stage} {input out : List ℕ} where
         sound = sound;
       }
 
-  module _ {q : Stage} {at used : ℕ} {mid : List ℕ} (h : SoFar p input out q at used mid)
-      (z : Found) (found : z ≡ foundAt input at) where
-    ends : z .end ≡ lineEnd input at
-    ends = ap (λ (y : Found). y .end) found
+  module _ {known : Stage} {at used : ℕ} {mid : List ℕ} (so-far : SoFar first input out known at used mid)
+      (found : Found) (is : found ≡ foundAt input at) where
+    ends : found .end ≡ lineEnd input at
+    ends = ap (λ (other : Found). other .end) is
 
-    module _ (less : z .end < length input) where
+    module _ (less : found .end < length input) where
       -- there is room for what is printed of the next line
       pub room : length input * longest ≤ length out → used + longest ≤ length mid
       room wide =
-          let same = keeps (h .text) in
-          let few = h .few in
+          let same = keeps (so-far .text) in
+          let few = so-far .few in
           let end = ends in
           omega arith
 
       -- ---- one line more
       abbrev text : List ℕ
-      text = part input at (z .end)
+      text = part input at (found .end)
 
-      reads-as : z .line ≡ lineOf text
-      reads-as = cc (found, ends)
+      reads-as : found .line ≡ lineOf text
+      reads-as = cc (is, ends)
 
-      pub one-more : {what : Output} {next : ℕ → Stage} → Obeys q (z .line) what next
-          → {used′ : ℕ} {out′ : List ℕ} → Written (printed (q .number) what) mid used used′ out′
-          → (n : ℕ) → n ≡ nextNumber (q .number)
-          → SoFar p input out (next n) (z .end + 1) used′ out′
-      one-more {what} {next} g {used′} w n en =
-          let is : next n ≡ after q (z .line) = ap next en ∙ g .leaves in
-          let short = printed-short (q .number) what in
-          let fits = w .ends in
-          let few = h .few in
+      pub one-more : {what : Output} {next : ℕ → Stage} → Obeys known (found .line) what next
+          → {used′ : ℕ} {out′ : List ℕ} → Written (printed (known .number) what) mid used used′ out′
+          → (number : ℕ) → number ≡ nextNumber (known .number)
+          → SoFar first input out (next number) (found .end + 1) used′ out′
+      one-more {what} {next} obeys {used′} line number next-number =
+          let leads : next number ≡ after known (found .line) = ap next next-number ∙ obeys .leaves in
+          let short = printed-short (known .number) what in
+          let fits = line .ends in
+          let few = so-far .few in
           let end = ends in
           record {
-            lines = h .lines ++ text ∷ [];
+            lines = so-far .lines ++ text ∷ [];
             split =
                 cc (
-                  h .split,
-                  next-line input at (z .end) (h .within) ends less,
-                  append-snoc (h .lines) text (wholeLines (drop (z .end + 1) input)),
+                  so-far .split,
+                  next-line input at (found .end) (so-far .within) ends less,
+                  append-snoc (so-far .lines) text (wholeLines (drop (found .end + 1) input)),
                 );
             place =
-                sym (line-length input at (z .end) (h .within) ends less)
-                ∙ ap (λ (k : ℕ). k + (length text + 1)) (h .place) ∙ sym (length-more (h .lines) text);
+                sym (line-length input at (found .end) (so-far .within) ends less)
+                ∙ ap (λ (k : ℕ). k + (length text + 1)) (so-far .place)
+                ∙ sym (length-more (so-far .lines) text);
             within = omega arith;
             text =
-                reads (then (h .text) w) (textOf p (h .lines ++ text ∷ []))
-                (ap (λ (o : Output). textOf p (h .lines) ++ printed (q .number) o)
-                (g .prints ∙ ap (outputOf q) reads-as)
-                ∙ ap (λ (y : Stage). textOf p (h .lines) ++ printed (y .number) (outputOf y (lineOf text)))
-                (h .state)
-                ∙ sym (text-more p (h .lines) text));
+                reads (then (so-far .text) line) (textOf first (so-far .lines ++ text ∷ []))
+                (ap (λ (o : Output). textOf first (so-far .lines) ++ printed (known .number) o)
+                (obeys .prints ∙ ap (outputOf known) reads-as)
+                ∙ ap (λ (other : Stage). textOf first (so-far .lines)
+                ++ printed (other .number) (outputOf other (lineOf text))) (so-far .state)
+                ∙ sym (text-more first (so-far .lines) text));
             state =
-                is ∙ ap (after q) reads-as ∙ ap (λ (y : Stage). after y (lineOf text)) (h .state)
-                ∙ sym (stage-more p (h .lines) text);
+                leads ∙ ap (after known) reads-as
+                ∙ ap (λ (other : Stage). after other (lineOf text)) (so-far .state)
+                ∙ sym (stage-more first (so-far .lines) text);
             few = omega arith;
-            sound = subst Sound (sym is) (line-sound q (z .line) (h .sound));
+            sound = subst Sound (sym leads) (line-sound known (found .line) (so-far .sound));
           }
 
     -- ---- the end of the lines: where no whole line is left, all are taken
 
-    all : length input ≤ z .end → h .lines ≡ wholeLines input
-    all far = cc (append-nil (h .lines), no-line input at (z .end) (h .within) ends far, h .split)
+    all : length input ≤ found .end → so-far .lines ≡ wholeLines input
+    all far =
+        cc (
+          append-nil (so-far .lines),
+          no-line input at (found .end) (so-far .within) ends far,
+          so-far .split,
+        )
 
-    pub at-end : length input ≤ z .end
-        → (Written (textOf p (wholeLines input)) out 0 used mid) × (q ≡ stageAfter p (wholeLines input))
+    pub at-end : length input ≤ found .end → (Written (textOf first (wholeLines input)) out 0 used mid)
+        × (known ≡ stageAfter first (wholeLines input))
         × (at ≡ lengthOf (wholeLines input))
     at-end far = (
-      reads (h .text) (textOf p (wholeLines input)) (ap (textOf p) (all far)),
-      h .state ∙ ap (stageAfter p) (all far),
-      h .place ∙ ap lengthOf (all far),
+      reads (so-far .text) (textOf first (wholeLines input)) (ap (textOf first) (all far)),
+      so-far .state ∙ ap (stageAfter first) (all far),
+      so-far .place ∙ ap lengthOf (all far),
     )
 
 -- what the code answers there
-pub lines-done : {q : Turn} {input out s c b s′ c′ b′ out′ : List ℕ} {t : Settings} {i : Bool} {n : Numeral}
-    {at used : ℕ} (z : Turn) → z ≡ turnOf t i n at used → n ≡ numeralOf (n .number)
-    → (Written (textOf (stageIn q s c b) (wholeLines input)) out 0 used out′)
-    × (stage i t s′ c′ b′ (n .number) ≡ stageAfter (stageIn q s c b) (wholeLines input))
+pub lines-done : {left : Turn} {input out servers clients slots servers′ clients′ slots′ out′ : List ℕ}
+    {settings : Settings} {is-set : Bool} {numeral : Numeral}
+    {at used : ℕ} (left′ : Turn) → left′ ≡ turnOf settings is-set numeral at used
+    → numeral ≡ numeralOf (numeral .number)
+    → (Written (textOf (stageIn left servers clients slots) (wholeLines input)) out 0 used out′)
+    × (stage is-set settings servers′ clients′ slots′ (numeral .number)
+    ≡ stageAfter (stageIn left servers clients slots) (wholeLines input))
     × (at ≡ lengthOf (wholeLines input))
-    → LinesDone q input s c b out z s′ c′ b′ out′
-lines-done {q} {input} {out} {s} {c} {b} {s′} {c′} {b′} {out′} z is own h =
-    subst (λ (y : Turn). LinesDone q input s c b out y s′ c′ b′ out′) (sym is)
-    (record { state = h .1; numeral = own; text = h .0; place = h .2 })
+    → LinesDone left input servers clients slots out left′ servers′ clients′ slots′ out′
+lines-done {left} {input} {out} {servers} {clients} {slots} {servers′} {clients′} {slots′} {out′}
+    left′ is own facts =
+    subst (λ (other : Turn).
+    LinesDone left input servers clients slots out other servers′ clients′ slots′ out′) (sym is)
+    (record { state = facts .1; numeral = own; text = facts .0; place = facts .2 })

@@ -13,7 +13,7 @@ use Rattle.basics.proofs.Prelude.{append-nil, none, length, getD, take, drop, �
 use Rattle.basics.proofs.Prelude.{eqb}
 use Rattle.basics.proofs.Cases.{by-test, by-list, clash}
 use Rattle.script.specs.Grammar.{lineOf}
-use Rattle.script.specs.Lines.{behind, inFront, linesBy, linesOf, wholeLines, most}
+use Rattle.script.specs.Lines.{behind, inFront, linesBy, linesOf, wholeLines, most, newline}
 use Rattle.script.specs.Printed.{printed}
 use Rattle.script.proofs.Kept.{cut-line}
 use Rattle.script.proofs.Split.{last-line}
@@ -24,119 +24,128 @@ use Rattle.rehearse.proofs.Scripts.{text-then}
 -- ---- a text without a line end
 
 abbrev Endless : List ℕ → Type 0
-Endless s = behind 10 s ≡ none
+Endless text = behind newline text ≡ none
 
 -- its first byte is none, and there is none behind it
-endless-rest : (b : ℕ) (s : List ℕ) → Endless (b ∷ s) → (eqb b 10 ≡ false) × Endless s
+endless-rest : (byte : ℕ) (text : List ℕ) → Endless (byte ∷ text) → (eqb byte newline ≡ false) × Endless text
 unfolding behind
-endless-rest b s e = by-test (eqb b 10) (λ t. clash (let q = rw t at e in cc)) (λ t. (t, rw t at e))
+endless-rest byte text e =
+    by-test (eqb byte newline) (λ t. clash (let q = rw t at e in cc)) (λ t. (t, rw t at e))
 
 -- nor is there one in a start of it
-endless-take : (n : ℕ) (s : List ℕ) → Endless s → Endless (take n s)
+endless-take : (n : ℕ) (text : List ℕ) → Endless text → Endless (take n text)
 unfolding behind
-endless-take zero s e = refl
+endless-take zero text e = refl
 endless-take (suc n) [] e = refl
-endless-take (suc n) (b ∷ s) e = let r = endless-rest b s e in rw (r .0) (endless-take n s (r .1))
+endless-take (suc n) (byte ∷ text) e =
+    let r = endless-rest byte text e in rw (r .0) (endless-take n text (r .1))
 
 -- ---- the whole lines and the cut one
 
 -- a byte in front of a text makes the whole lines longer, and not the cut one: where it ends a line, where
 -- it is in a whole one
-end-passed : (b n : ℕ) (s : List ℕ) → drop (0 + 1 + n) (b ∷ s) ≡ drop n s
-end-passed b n s = let e : 0 + 1 + n ≡ suc n = omega arith in ap (λ (k : ℕ). drop k (b ∷ s)) e
+end-passed : (byte n : ℕ) (text : List ℕ) → drop (0 + 1 + n) (byte ∷ text) ≡ drop n text
+end-passed byte n text = let e : 0 + 1 + n ≡ suc n = omega arith in ap (λ (k : ℕ). drop k (byte ∷ text)) e
 
-byte-passed : (b n : ℕ) (l s : List ℕ) → drop (length (b ∷ l) + 1 + n) (b ∷ s) ≡ drop (length l + 1 + n) s
-byte-passed b n l s =
-    let e : length (b ∷ l) + 1 + n ≡ suc (length l + 1 + n) = omega arith in ap (λ (k : ℕ). drop k (b ∷ s)) e
+byte-passed : (byte n : ℕ) (line text : List ℕ)
+    → drop (length (byte ∷ line) + 1 + n) (byte ∷ text) ≡ drop (length line + 1 + n) text
+byte-passed byte n line text =
+    let e : length (byte ∷ line) + 1 + n ≡ suc (length line + 1 + n) = omega arith in
+    ap (λ (k : ℕ). drop k (byte ∷ text)) e
 
 -- the cut line has no line end
-cut-endless : (s : List ℕ) → Endless (cutLine s)
+cut-endless : (text : List ℕ) → Endless (cutLine text)
 unfolding behind linesBy lengthOf
 cut-endless [] = refl
-cut-endless (b ∷ s) =
-    let h = cut-endless s in
-    by-test (eqb b 10) (λ d. rw (d, end-passed) h)
-    (λ d. by-list (wholeLines s) (λ e. rw (d, e, d) (rw e at h))
-    (λ l ls e. rw (d, e, byte-passed) (rw e at h)))
+cut-endless (byte ∷ text) =
+    let h = cut-endless text in
+    by-test (eqb byte newline) (λ d. rw (d, end-passed) h)
+    (λ d. by-list (wholeLines text) (λ e. rw (d, e, d) (rw e at h))
+    (λ line lines e. rw (d, e, byte-passed) (rw e at h)))
 
 -- the lines of a text and more are its whole ones, and then those of its cut one and more
-cut-lines : (s t : List ℕ) → linesOf (s ++ t) ≡ wholeLines s ++ linesOf (cutLine s ++ t)
+cut-lines : (text more : List ℕ) → linesOf (text ++ more) ≡ wholeLines text ++ linesOf (cutLine text ++ more)
 unfolding linesBy lengthOf
-cut-lines [] t = refl
-cut-lines (b ∷ s) t =
-    let h = cut-lines s t in
-    by-test (eqb b 10) (λ d. rw (d, end-passed) (ap (λ (ls : List (List ℕ)). [] ∷ ls) h))
-    (λ d. by-list (wholeLines s) (λ e. rw (d, e, d) refl)
-    (λ l ls e. rw (d, e, byte-passed) (ap (inFront true b) (rw e at h))))
+cut-lines [] more = refl
+cut-lines (byte ∷ text) more =
+    let h = cut-lines text more in
+    by-test (eqb byte newline) (λ d. rw (d, end-passed) (ap (λ (lines : List (List ℕ)). [] ∷ lines) h))
+    (λ d. by-list (wholeLines text) (λ e. rw (d, e, d) refl)
+    (λ line lines e. rw (d, e, byte-passed) (ap (inFront true byte) (rw e at h))))
 
 -- ---- what is kept of it
 
 -- a byte goes in front of the first line, if there is one
-front-line : (b : ℕ) (ls : List (List ℕ)) → inFront true b ls ≡ (b ∷ getD ls 0 []) ∷ drop 1 ls
-front-line b [] = refl
-front-line b (l ∷ ls) = refl
+front-line : (byte : ℕ) (lines : List (List ℕ))
+    → inFront true byte lines ≡ (byte ∷ getD lines 0 []) ∷ drop 1 lines
+front-line byte [] = refl
+front-line byte (line ∷ lines) = refl
 
 -- so does a text without a line end
-led-lines : (b : ℕ) (s t : List ℕ) → Endless (b ∷ s)
-    → linesOf (b ∷ s ++ t) ≡ (b ∷ s ++ getD (linesOf t) 0 []) ∷ drop 1 (linesOf t)
+led-lines : (byte : ℕ) (text more : List ℕ) → Endless (byte ∷ text)
+    → linesOf (byte ∷ text ++ more) ≡ (byte ∷ text ++ getD (linesOf more) 0 []) ∷ drop 1 (linesOf more)
 unfolding linesBy
-led-lines b [] t e = rw (endless-rest b [] e .0) (front-line b (linesOf t))
-led-lines b (c ∷ s) t e =
-    let r = endless-rest b (c ∷ s) e in rw (r .0) (ap (inFront true b) (led-lines c s t (r .1)))
+led-lines byte [] more e = rw (endless-rest byte [] e .0) (front-line byte (linesOf more))
+led-lines byte (next ∷ text) more e =
+    let r = endless-rest byte (next ∷ text) e in
+    rw (r .0) (ap (inFront true byte) (led-lines next text more (r .1)))
 
 -- only what the first line is read as matters
-first-alike : (p : Stage) (l m : List ℕ) (ls : List (List ℕ)) → lineOf l ≡ lineOf m
-    → textOf p (l ∷ ls) ≡ textOf p (m ∷ ls)
+first-alike : (known : Stage) (line other : List ℕ) (lines : List (List ℕ)) → lineOf line ≡ lineOf other
+    → textOf known (line ∷ lines) ≡ textOf known (other ∷ lines)
 unfolding textOf
-first-alike p l m ls e = ap (λ x. printed (p .number) (outputOf p x) ++ textOf (after p x) ls) e
+first-alike known line other lines e =
+    ap (λ x. printed (known .number) (outputOf known x) ++ textOf (after known x) lines) e
 
 -- cut it is read as it is whole
-kept-enough : (p : Stage) (s t : List ℕ) → Endless s
-    → textOf p (linesOf (take most s ++ t)) ≡ textOf p (linesOf (s ++ t))
-kept-enough p [] t e = refl
-kept-enough p (b ∷ s) t e =
-    ap (textOf p) (led-lines b (take (most - 1) s) t (endless-take most (b ∷ s) e))
-    ∙ first-alike p _ _ (drop 1 (linesOf t)) (cut-line (b ∷ s) (getD (linesOf t) 0 []))
-    ∙ ap (textOf p) (sym (led-lines b s t e))
+kept-enough : (known : Stage) (text more : List ℕ) → Endless text
+    → textOf known (linesOf (take most text ++ more)) ≡ textOf known (linesOf (text ++ more))
+kept-enough known [] more e = refl
+kept-enough known (byte ∷ text) more e =
+    ap (textOf known) (led-lines byte (take (most - 1) text) more (endless-take most (byte ∷ text) e))
+    ∙ first-alike known _ _ (drop 1 (linesOf more)) (cut-line (byte ∷ text) (getD (linesOf more) 0 []))
+    ∙ ap (textOf known) (sym (led-lines byte text more e))
 
 -- ---- the last line
 
 -- with an end it is a whole line
-one-line : (s : List ℕ) → Endless s → wholeLines (s ++ 10 ∷ []) ≡ s ∷ []
+one-line : (text : List ℕ) → Endless text → wholeLines (text ++ newline ∷ []) ≡ text ∷ []
 unfolding linesBy
 one-line [] e = refl
-one-line (b ∷ s) e = let r = endless-rest b s e in rw (r .0) (ap (inFront false b) (one-line s (r .1)))
+one-line (byte ∷ text) e =
+    let r = endless-rest byte text e in rw (r .0) (ap (inFront false byte) (one-line text (r .1)))
 
 -- and the only line, as without the end
-closed-lines : (s : List ℕ) → Endless s → wholeLines (closed s) ≡ linesOf s
+closed-lines : (text : List ℕ) → Endless text → wholeLines (closed text) ≡ linesOf text
 unfolding linesBy
 closed-lines [] e = refl
-closed-lines (b ∷ s) e = one-line (b ∷ s) e ∙ sym (last-line b s e)
+closed-lines (byte ∷ text) e = one-line (byte ∷ text) e ∙ sym (last-line byte text e)
 
 -- ---- part by part
 
 -- from what is kept of a line, and what has been written
-whole-from : (p : Stage) (cut wrote : List ℕ) (xs : List (List ℕ)) → Endless cut
-    → ending (turns (progress p cut wrote) xs) ≡ wrote ++ textOf p (linesOf (cut ++ inputOf xs))
+whole-from : (known : Stage) (cut wrote : List ℕ) (parts : List (List ℕ)) → Endless cut
+    → ending (turns (progress known cut wrote) parts) ≡ wrote ++ textOf known (linesOf (cut ++ inputOf parts))
 unfolding turns inputOf
-whole-from p cut wrote [] e = cc (closed-lines cut e, append-nil cut)
-whole-from p cut wrote (x ∷ xs) e =
-    let s : List ℕ = cut ++ x in
-    let rest : List ℕ = inputOf xs in
-    let q : Stage = stageAfter p (wholeLines s) in
-    let text : List ℕ = textOf p (wholeLines s) in
-    let endless = cut-endless s in
+whole-from known cut wrote [] e = cc (closed-lines cut e, append-nil cut)
+whole-from known cut wrote (part ∷ parts) e =
+    let block : List ℕ = cut ++ part in
+    let rest : List ℕ = inputOf parts in
+    let next : Stage = stageAfter known (wholeLines block) in
+    let text : List ℕ = textOf known (wholeLines block) in
+    let endless = cut-endless block in
     cc (
-      whole-from q (take most (cutLine s)) (wrote ++ text) xs (endless-take most (cutLine s) endless),
+      whole-from next (take most (cutLine block)) (wrote ++ text) parts
+          (endless-take most (cutLine block) endless),
       append-assoc wrote text _,
-      kept-enough q (cutLine s) rest endless,
-      text-then p (wholeLines s) (linesOf (cutLine s ++ rest)),
-      cut-lines s rest,
-      append-assoc cut x rest,
+      kept-enough next (cutLine block) rest endless,
+      text-then known (wholeLines block) (linesOf (cutLine block ++ rest)),
+      cut-lines block rest,
+      append-assoc cut part rest,
     )
 
 -- from the start
-pub whole : (p : Stage) (xs : List (List ℕ))
-    → ending (turns (progress p [] []) xs) ≡ textOf p (linesOf (inputOf xs))
+pub whole : (known : Stage) (parts : List (List ℕ))
+    → ending (turns (progress known [] []) parts) ≡ textOf known (linesOf (inputOf parts))
 unfolding behind
-whole p xs = whole-from p [] [] xs refl
+whole known parts = whole-from known [] [] parts refl

@@ -9,7 +9,7 @@ use mathlib.Core.Bool.{Bool, false}
 use mathlib.Core.List.{List, [], _∷_, _++_}
 use lib.ListN.{length, take, drop}
 use Rattle.script.specs.declared.print.Numeral.{Numeral}
-use Rattle.script.specs.Lines.{wholeLines, most}
+use Rattle.script.specs.Lines.{newline, wholeLines, most}
 use Rattle.script.specs.Numerals.{numeralOf}
 use Rattle.script.specs.Printed.{longest}
 use Rattle.script.specs.Writing.{Written}
@@ -25,28 +25,31 @@ use Rattle.rehearse.specs.Stage.{Stage, stage, textOf, stageAfter}
 -- the bytes of lines with their ends
 unfoldable pub lengthOf : List (List ℕ) → ℕ
 lengthOf [] = 0
-lengthOf (l ∷ ls) = length l + 1 + lengthOf ls
+lengthOf (text ∷ texts) = length text + 1 + lengthOf texts
 
 -- what stands behind them: the line that is cut, if there is one
 abbrev pub cutLine : List ℕ → List ℕ
-cutLine s = drop (lengthOf (wholeLines s)) s
+cutLine text = drop (lengthOf (wholeLines text)) text
 
 -- ---- what the lines of a block leave
 
 abbrev pub turnOf : Settings → Bool → Numeral → (at used : ℕ) → Turn
-turnOf t isSet number at used =
-    record { settings = t; «is_set» = isSet; number = number; at = at; used = used }
+turnOf settings isSet number at used =
+    record { settings = settings; «is_set» = isSet; number = number; at = at; used = used }
 
 -- what the program knows, with its memory
 abbrev pub stageIn : Turn → List ℕ → List ℕ → List ℕ → Stage
-stageIn q s c b = stage (q .«is_set») (q .settings) s c b (q .number .number)
+stageIn known servers clients slots =
+    stage (known .«is_set») (known .settings) servers clients slots (known .number .number)
 
 -- every whole line is obeyed: its text is written, and the program knows what it knows after it
-pub record LinesDone (q : Turn) (input s c b out : List ℕ) (z : Turn) (s′ c′ b′ out′ : List ℕ) : Type 0 where
-  pub state : stageIn z s′ c′ b′ ≡ stageAfter (stageIn q s c b) (wholeLines input)
-  pub numeral : z .number ≡ numeralOf (z .number .number)
-  pub text : Written (textOf (stageIn q s c b) (wholeLines input)) out 0 (z .used) out′
-  pub place : z .at ≡ lengthOf (wholeLines input)
+pub record LinesDone (first : Turn) (input servers clients slots out : List ℕ)
+    (last : Turn) (servers′ clients′ slots′ out′ : List ℕ) : Type 0 where
+  pub state : stageIn last servers′ clients′ slots′
+      ≡ stageAfter (stageIn first servers clients slots) (wholeLines input)
+  pub numeral : last .number ≡ numeralOf (last .number .number)
+  pub text : Written (textOf (stageIn first servers clients slots) (wholeLines input)) out 0 (last .used) out′
+  pub place : last .at ≡ lengthOf (wholeLines input)
 
 -- ---- a block
 
@@ -60,7 +63,7 @@ outputBytes = inputBytes * longest
 -- the last line gets its end, if there is one
 abbrev pub closed : List ℕ → List ℕ
 closed [] = []
-closed (x ∷ xs) = x ∷ xs ++ 10 ∷ []
+closed (x ∷ xs) = x ∷ xs ++ newline ∷ []
 
 -- what was kept, and what was read behind it; where nothing was, the input has ended
 abbrev pub joined : List ℕ → List ℕ → List ℕ
@@ -76,7 +79,7 @@ pub record Progress : Type 0 where
   pub wrote : List ℕ
 
 abbrev pub progress : Stage → List ℕ → List ℕ → Progress
-progress p cut wrote = record { known = p; cut = cut; wrote = wrote }
+progress known cut wrote = record { known = known; cut = cut; wrote = wrote }
 
 -- at first no setup was accepted, and the next line is number 0; no step reaches the system that is there
 abbrev pub beginning : Stage
@@ -85,19 +88,20 @@ beginning =
 
 -- it reads some bytes, and writes the text of the lines that are then whole
 abbrev pub turn : Progress → List ℕ → Progress
-turn g bytes =
-    progress (stageAfter (g .known) (wholeLines (g .cut ++ bytes))) (take most (cutLine (g .cut ++ bytes)))
-    (g .wrote ++ textOf (g .known) (wholeLines (g .cut ++ bytes)))
+turn soFar bytes =
+    progress (stageAfter (soFar .known) (wholeLines (soFar .cut ++ bytes)))
+    (take most (cutLine (soFar .cut ++ bytes)))
+    (soFar .wrote ++ textOf (soFar .known) (wholeLines (soFar .cut ++ bytes)))
 
 unfoldable pub turns : Progress → List (List ℕ) → Progress
-turns g [] = g
-turns g (x ∷ xs) = turns (turn g x) xs
+turns soFar [] = soFar
+turns soFar (part ∷ parts) = turns (turn soFar part) parts
 
 -- all that it has written when the input has ended
 abbrev pub ending : Progress → List ℕ
-ending g = g .wrote ++ textOf (g .known) (wholeLines (closed (g .cut)))
+ending soFar = soFar .wrote ++ textOf (soFar .known) (wholeLines (closed (soFar .cut)))
 
 -- the whole input
 unfoldable pub inputOf : List (List ℕ) → List ℕ
 inputOf [] = []
-inputOf (x ∷ xs) = x ++ inputOf xs
+inputOf (part ∷ parts) = part ++ inputOf parts

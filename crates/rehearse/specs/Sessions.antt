@@ -36,37 +36,38 @@ use Rattle.rehearse.specs.Blocks.{progress, beginning, turns, ending, in
 
 -- the settings of a line that is an accepted S
 abbrev pub acceptedIn : Setup → Option Settings
-acceptedIn (setup.Set t) = some (settingsOf t)
-acceptedIn (setup.Refused n) = none
+acceptedIn (setup.Set settings) = some (settingsOf settings)
+acceptedIn (setup.Refused why) = none
 
 unfoldable pub acceptedBy : Line → Option Settings
-acceptedBy (line.Setup f c m) = acceptedIn (setupOf f c m)
-acceptedBy (line.Do x) = none
+acceptedBy (line.Setup f count faulty) = acceptedIn (setupOf f count faulty)
+acceptedBy (line.Do step) = none
 acceptedBy line.Unread = none
 
 -- no line of these is an accepted S
 abbrev pub NoneAccepted : List Line → Type 0
-NoneAccepted ls = (l : Line) → Member l ls → acceptedBy l ≡ none
+NoneAccepted lines = (one : Line) → Member one lines → acceptedBy one ≡ none
 
 -- the steps among lines; a line that is unreadable, or an S, is none
 unfoldable pub stepsOf : List Line → List Step
 stepsOf [] = []
-stepsOf (line.Setup f c m ∷ ls) = stepsOf ls
-stepsOf (line.Do x ∷ ls) = stepOf x ∷ stepsOf ls
-stepsOf (line.Unread ∷ ls) = stepsOf ls
+stepsOf (line.Setup f count faulty ∷ rest) = stepsOf rest
+stepsOf (line.Do step ∷ rest) = stepOf step ∷ stepsOf rest
+stepsOf (line.Unread ∷ rest) = stepsOf rest
 
 -- ---- what is printed for the lines of a session
 
--- one output for each line: the first step gets answer q, the next step answer q + 1, and so on
+-- one output for each line: the first step gets answer `next`, the one after it `next + 1`, and so on
 unfoldable pub outputsBy : (ℕ → Answer) → ℕ → List Line → List Output
-outputsBy answer q [] = []
-outputsBy answer q (line.Setup f c m ∷ ls) = setupOutput (setupOf f c m) ∷ outputsBy answer q ls
-outputsBy answer q (line.Do x ∷ ls) = output.Answered (answer q) ∷ outputsBy answer (suc q) ls
-outputsBy answer q (line.Unread ∷ ls) = output.Unread ∷ outputsBy answer q ls
+outputsBy answer next [] = []
+outputsBy answer next (line.Setup f count faulty ∷ rest) =
+    setupOutput (setupOf f count faulty) ∷ outputsBy answer next rest
+outputsBy answer next (line.Do step ∷ rest) = output.Answered (answer next) ∷ outputsBy answer (suc next) rest
+outputsBy answer next (line.Unread ∷ rest) = output.Unread ∷ outputsBy answer next rest
 
--- SET, and behind it the answers of the history that the steps have from the settings S on
+-- SET, and behind it the answers of the history that the steps have from the settings on
 abbrev pub sessionOutputs : Settings → List Line → List Output
-sessionOutputs S ls = output.Set ∷ outputsBy (answerAt S formats (stepsOf ls)) 0 ls
+sessionOutputs settings lines = output.Set ∷ outputsBy (answerAt settings formats (stepsOf lines)) 0 lines
 
 -- outputs as text: the output at place n is printed with the number n, at most the last of 64 bits
 abbrev pub numberAt : ℕ → ℕ
@@ -74,18 +75,19 @@ numberAt n = min n (2 ^ 64 - 1)
 
 unfoldable pub textFrom : ℕ → List Output → List ℕ
 textFrom n [] = []
-textFrom n (o ∷ os) = printed (numberAt n) o ++ textFrom (suc n) os
+textFrom n (first ∷ rest) = printed (numberAt n) first ++ textFrom (suc n) rest
 
 -- ---- a session
 
 -- from a place of the outputs on stand those of an accepted S and of the lines behind it, with the answers of
 -- the history; and demand 3 holds of this history
-pub record Session (outputs : List Output) (place : ℕ) (S : Settings) (lines : List Line) : Type 0 where
+pub record Session (outputs : List Output) (place : ℕ) (settings : Settings) (lines : List Line)
+    : Type 0 where
   pub front : List Output
   pub behind : List Output
   pub many : length front ≡ place
-  pub answers : outputs ≡ front ++ (sessionOutputs S lines ++ behind)
-  pub demand : DemandThreeOf S (stepsOf lines)
+  pub answers : outputs ≡ front ++ (sessionOutputs settings lines ++ behind)
+  pub demand : DemandThreeOf settings (stepsOf lines)
 
 -- ---- what holds of the program
 
@@ -99,6 +101,7 @@ pub record Rehearsed (parts : List (List ℕ)) : Type 0 where
   pub outputs : List Output
   pub many : length outputs ≡ length (linesIn parts)
   pub written : ending (turns (progress beginning [] []) parts) ≡ textFrom 0 outputs
-  pub sessions : (before between after : List Line) (s : Line) (S : Settings)
-      → linesIn parts ≡ before ++ (s ∷ between ++ after)
-      → acceptedBy s ≡ some S → NoneAccepted between → Session outputs (length before) S between
+  pub sessions : (before between after : List Line) (start : Line) (settings : Settings)
+      → linesIn parts ≡ before ++ (start ∷ between ++ after)
+      → acceptedBy start ≡ some settings → NoneAccepted between
+      → Session outputs (length before) settings between

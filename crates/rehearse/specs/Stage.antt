@@ -35,60 +35,73 @@ pub record Stage : Type 0 where
   pub number : ℕ
 
 abbrev pub stage : Bool → Settings → List ℕ → List ℕ → List ℕ → ℕ → Stage
-stage isSet t s c b n =
-    record { isSet = isSet; settings = t; servers = s; clients = c; slots = b; number = n }
+stage isSet settings servers clients slots number =
+    record {
+      isSet = isSet;
+      settings = settings;
+      servers = servers;
+      clients = clients;
+      slots = slots;
+      number = number;
+    }
 
 -- a step of the system that it knows
 abbrev pub stepOn : Stage → Step → After
-stepOn p x = stepped (p .settings) (p .servers) (p .clients) (p .slots) x
+stepOn known step = stepped (known .settings) (known .servers) (known .clients) (known .slots) step
 
 -- ---- what is printed
 
 -- SET, or the refusal
 abbrev pub setupOutput : Setup → Output
-setupOutput (setup.Set t) = output.Set
-setupOutput (setup.Refused n) = output.Answered (Refused n)
+setupOutput (setup.Set settings) = output.Set
+setupOutput (setup.Refused why) = output.Answered (Refused why)
 
 -- a step before an accepted setup is unreadable
 unfoldable pub outputOf : Stage → Line → Output
-outputOf p (line.Setup f c m) = setupOutput (setupOf f c m)
-outputOf p (line.Do x) = cond (p .isSet) (output.Answered (stepOn p x .answer)) output.Unread
-outputOf p line.Unread = output.Unread
+outputOf known (line.Setup f count faulty) = setupOutput (setupOf f count faulty)
+outputOf known (line.Do step) =
+    cond (known .isSet) (output.Answered (stepOn known step .answer)) output.Unread
+outputOf known line.Unread = output.Unread
 
 -- ---- what is known after it
 
 -- only the count of lines has changed, or the memory too
 abbrev pub counted : Stage → Stage
-counted p = stage (p .isSet) (p .settings) (p .servers) (p .clients) (p .slots) (nextNumber (p .number))
+counted known =
+    stage (known .isSet) (known .settings)
+    (known .servers) (known .clients) (known .slots) (nextNumber (known .number))
 
 abbrev pub moved : Stage → After → Stage
-moved p o = stage (p .isSet) (p .settings) (o .servers) (o .clients) (o .slots) (nextNumber (p .number))
+moved known result =
+    stage (known .isSet) (known .settings)
+    (result .servers) (result .clients) (result .slots) (nextNumber (known .number))
 
 -- an accepted setup sets up afresh, a refused one keeps the present system, or none
 abbrev pub setUp : Stage → Setup → Stage
-setUp p (setup.Set t) =
-    stage true t (storeServers newWorld) (storeClients newWorld) (storeSlots newWorld)
-    (nextNumber (p .number))
-setUp p (setup.Refused n) = counted p
+setUp known (setup.Set settings) =
+    stage true settings (storeServers newWorld) (storeClients newWorld) (storeSlots newWorld)
+    (nextNumber (known .number))
+setUp known (setup.Refused why) = counted known
 
 -- a step before an accepted setup changes nothing
 unfoldable pub after : Stage → Line → Stage
-after p (line.Setup f c m) = setUp p (setupOf f c m)
-after p (line.Do x) = cond (p .isSet) (moved p (stepOn p x)) (counted p)
-after p line.Unread = counted p
+after known (line.Setup f count faulty) = setUp known (setupOf f count faulty)
+after known (line.Do step) = cond (known .isSet) (moved known (stepOn known step)) (counted known)
+after known line.Unread = counted known
 
 -- a line is obeyed: what is printed of it, and what is known after it, but for the line's number
-pub record Obeys (p : Stage) (l : Line) (what : Output) (next : ℕ → Stage) : Type 0 where
-  pub prints : what ≡ outputOf p l
-  pub leaves : next (nextNumber (p .number)) ≡ after p l
+pub record Obeys (known : Stage) (given : Line) (what : Output) (next : ℕ → Stage) : Type 0 where
+  pub prints : what ≡ outputOf known given
+  pub leaves : next (nextNumber (known .number)) ≡ after known given
 
 -- ---- lines one after the other
 
 -- what is printed of them, and what is known after them
 unfoldable pub textOf : Stage → List (List ℕ) → List ℕ
-textOf p [] = []
-textOf p (l ∷ ls) = printed (p .number) (outputOf p (lineOf l)) ++ textOf (after p (lineOf l)) ls
+textOf known [] = []
+textOf known (text ∷ texts) =
+    printed (known .number) (outputOf known (lineOf text)) ++ textOf (after known (lineOf text)) texts
 
 unfoldable pub stageAfter : Stage → List (List ℕ) → Stage
-stageAfter p [] = p
-stageAfter p (l ∷ ls) = stageAfter (after p (lineOf l)) ls
+stageAfter known [] = known
+stageAfter known (text ∷ texts) = stageAfter (after known (lineOf text)) texts

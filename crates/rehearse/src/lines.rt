@@ -4,8 +4,7 @@ ghost use mathlib.Core.Bool.{true};
 ghost use mathlib.Core.Path.{_≡_};
 ghost use lib.ListN.{length};
 ghost use Rattle.script.specs.Numerals.{numeralOf};
-ghost use Rattle.script.specs.Printed.{printed, longest};
-ghost use Rattle.script.specs.Writing.{Written};
+ghost use Rattle.script.specs.Printed.{longest};
 ghost use Rattle.state.specs.Sound.{isSound};
 ghost use Rattle.rehearse.specs.Stage.{stage, Obeys};
 ghost use Rattle.rehearse.specs.Blocks.{turnOf, LinesDone};
@@ -16,11 +15,12 @@ use script::parse::Line;
 use script::print::Numeral;
 use script::print::Output;
 use script::print::next_numeral;
-use script::print::print_numbered;
+use script::print::put_numeral;
+use script::print::put_output;
 use state::Clients;
 use state::Servers;
 use state::Settings;
-use steps::step::take_step;
+use steps::step::make_step;
 use system::setup::Setup;
 use system::setup::set_up;
 
@@ -44,14 +44,6 @@ pub fn turn_of(settings: Settings, is_set: bool, number: Numeral, at: usize, use
         at: at,
         used: used,
     }
-}
-
-// Writes a line behind what is written, and answers where it ends.
-fn put_line(out: &mut [u8], used: usize, number: Numeral, what: Output) -> usize
-    requires { ⌜ (used + longest ≤ length (now out)) × (number ≡ numeralOf (number .number)) ⌝ }
-    ensures { λ r. ⌜ Written (printed (number .number) what) (now (out .entry)) used r (now (out .exit)) ⌝ }
-{
-    used + print_numbered(&mut out[used..], number, what)
 }
 
 // ---- what a line does
@@ -121,7 +113,7 @@ fn obey(
             obeyed_of(
                 settings,
                 is_set,
-                Output::Answered(take_step(settings, step, servers, clients, slots)),
+                Output::Answered(make_step(settings, step, servers, clients, slots)),
             )
         }
         Line::Unread => obeyed_of(settings, is_set, Output::Unread),
@@ -130,7 +122,8 @@ fn obey(
 
 // ---- the lines
 
-// Obeys every whole line of a block.
+// Obeys every whole line of a block. A line's number is written before the line is obeyed, so that its answer
+// is printed where it is made.
 pub fn obey_lines(
     turn: Turn,
     input: &[u8],
@@ -157,11 +150,12 @@ pub fn obey_lines(
             return turn_of(settings, is_set, number, at, used);
         }
         let line = found.line;
+        let number_end = put_numeral(out, used, number);
         let obeyed = obey(settings, is_set, line, servers, clients, slots);
         let what = obeyed.what;
         settings = obeyed.settings;
         is_set = obeyed.is_set;
-        used = put_line(out, used, number, what);
+        used = put_output(out, number_end, what);
         at = found.end + 1;
         number = next_numeral(number);
     }

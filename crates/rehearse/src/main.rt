@@ -12,14 +12,15 @@ use libc::STDIN_FILENO;
 use libc::STDOUT_FILENO;
 use lines::obey_lines;
 use lines::turn_of;
+use script::lines::NEWLINE;
 use script::lines::keep;
 use script::print::PRINTED_BYTES;
 use script::print::numeral_of;
+use state::CLIENTS_LENGTH;
+use state::SERVERS_LENGTH;
 use state::Settings;
 
 mod lines;
-
-const LINE_END: u8 = 10;
 
 // The bytes of a block of input, and of the space for what its lines print.
 const INPUT_BYTES: usize = 16384;
@@ -62,7 +63,7 @@ fn close(input: &mut [u8], have: usize, more: usize) -> usize
     if have < 1 {
         return 0;
     }
-    input[have] = LINE_END;
+    input[have] = NEWLINE;
     have + 1
 }
 
@@ -80,8 +81,8 @@ fn write_out(text: &[u8]) -> bool {
 // and nothing says that the input does: so the loop counts its turns down, from a number that no run uses
 // up.
 fn main() {
-    let mut servers = [0u64; 26];
-    let mut clients = [0u64; 571];
+    let mut servers = [0u64; SERVERS_LENGTH];
+    let mut clients = [0u64; CLIENTS_LENGTH];
     let mut slots = channel::empty_slots();
     let mut input = new_input();
     let mut out = new_output();

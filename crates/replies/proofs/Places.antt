@@ -11,11 +11,8 @@ use Prim.Native.Nat.{compare·suc-suc}
 use native.Mathlib.Nat.{le-of-suc-le-suc}
 use lib.ListN.{drop-of-length-le}
 use lib.Seq.{take-all, getD-take, getD-drop, drop-cons}
-use Rattle.message.specs.declared.Pair.{Pair}
-use Rattle.message.specs.Pair.{initial}
-use Rattle.register.specs.Settings.{mostServers}
-use Rattle.register.specs.Client.{isNoted, isAtMost, setLimit}
-use Rattle.replies.specs.Replies.{replyWords, pairsAt, noteAt, sizeAt, ackAt, pairAt}
+use Rattle.register.proofs.Vocabulary.{Pair, initial, mostServers, isNoted, isAtMost, setLimit}
+use Rattle.replies.specs.Replies.{repliesLength, pairsAt, noteAt, sizeAt, ackAt, pairAt}
 use Rattle.replies.specs.Replies.{noteOf, pairsOf, fourAt, setAt, notedIn, setIn, ackIn, row}
 use Rattle.replies.proofs.Steps.{ofFour}
 use Rattle.replies.proofs.Stores.{row-is}
@@ -49,41 +46,41 @@ at-most-used (suc noted) stamp h = rw (add-one stamp, compare·suc-suc noted sta
 
 -- ---- the pairs of a set
 
-pub pairs-length : (l : List ℕ) → length (pairsOf l) ≡ length l
+pub pairs-length : (numbers : List ℕ) → length (pairsOf numbers) ≡ length numbers
 pairs-length [] = refl
-pairs-length (w ∷ l) = ap suc (pairs-length l)
+pairs-length (number ∷ numbers) = ap suc (pairs-length numbers)
 
-pub pairs-at : (l : List ℕ) (j : ℕ) (d : Pair) → j < length l → getD (pairsOf l) j d
-    ≡ record { 0 = getD l j 0 }
-pairs-at [] j d h = absurd (not-suc-le-zero h)
-pairs-at (w ∷ l) zero d h = refl
-pairs-at (w ∷ l) (suc j) d h = pairs-at l j d (le-of-suc-le-suc h)
+pub pairs-at : (numbers : List ℕ) (j : ℕ) (otherwise : Pair) → j < length numbers
+    → getD (pairsOf numbers) j otherwise ≡ record { 0 = getD numbers j 0 }
+pairs-at [] j otherwise h = absurd (not-suc-le-zero h)
+pairs-at (number ∷ numbers) zero otherwise h = refl
+pairs-at (number ∷ numbers) (suc j) otherwise h = pairs-at numbers j otherwise (le-of-suc-le-suc h)
 
-module _ (replies : List ℕ) (i : ℕ) (long : length replies ≡ replyWords) (ih : i < mostServers) where
+module _ (replies : List ℕ) (i : ℕ) (long : length replies ≡ repliesLength) (ih : i < mostServers) where
   abbrev four : List ℕ
   four = fourAt replies i
 
   abbrev size : ℕ
   size = sizeAt replies i
 
-  abbrev S : List Pair
-  S = setIn replies (suc i)
+  abbrev pairs : List Pair
+  pairs = setIn replies (suc i)
 
   pub four-length : length four ≡ setLimit
   four-length =
       let at = pairsAt + i * setLimit in
       length-take-le setLimit (drop at replies) (omega (arith, length-drop at replies))
 
-  set-length : length S ≡ length (take size four)
+  set-length : length pairs ≡ length (take size four)
   set-length = rw (set-at replies i ih) (pairs-length (take size four))
 
-  pub size-below : size ≤ setLimit → length S ≡ size
+  pub size-below : size ≤ setLimit → length pairs ≡ size
   size-below h = set-length ∙ length-take-le size four (omega (arith, four-length))
 
-  pub size-full : setLimit ≤ size → length S ≡ setLimit
+  pub size-full : setLimit ≤ size → length pairs ≡ setLimit
   size-full h = set-length ∙ ap length (take-all size four (omega (arith, four-length))) ∙ four-length
 
-  pub size-most : length S ≤ setLimit
+  pub size-most : length pairs ≤ setLimit
   size-most =
       omega (
         arith,
@@ -93,7 +90,7 @@ module _ (replies : List ℕ) (i : ℕ) (long : length replies ≡ replyWords) (
         native.Mathlib.Nat.min-le-right size (length four),
       )
 
-  pub size-most-read : length S ≤ size
+  pub size-most-read : length pairs ≤ size
   size-most-read =
       omega (
         arith,
@@ -107,19 +104,21 @@ module _ (replies : List ℕ) (i : ℕ) (long : length replies ≡ replyWords) (
       let at = pairsAt + i * setLimit in
       getD-take setLimit (drop at replies) j 0 h ∙ getD-drop at replies j 0
 
-  pub pair-at : (j : ℕ) (d : Pair) → j < length S → getD S j d ≡ record { 0 = pairAt replies i j }
-  pair-at j d h =
+  pub pair-at : (j : ℕ) (otherwise : Pair) → j < length pairs
+      → getD pairs j otherwise ≡ record { 0 = pairAt replies i j }
+  pair-at j otherwise h =
       let inside : j < length (take size four) = omega (arith, set-length) in
       let word : getD (take size four) j 0 ≡ pairAt replies i j =
       getD-take size four j 0 (omega (arith, size-most-read)) ∙ four-at j (omega (arith, size-most)) in
-      rw (set-at replies i ih) (pairs-at (take size four) j d inside ∙ (λ e. record { 0 = word e }))
+      rw (set-at replies i ih) (pairs-at (take size four) j otherwise inside ∙ (λ e. record { 0 = word e }))
 
   -- the rest of a set from place j on begins with the pair at j
-  pub rest-at : (j : ℕ) → j < length S → drop j S ≡ record { 0 = pairAt replies i j } ∷ drop (suc j) S
-  rest-at j h = drop-cons S j initial h ∙ ap (λ (x : Pair). x ∷ drop (suc j) S) (pair-at j initial h)
+  pub rest-at : (j : ℕ) → j < length pairs
+      → drop j pairs ≡ record { 0 = pairAt replies i j } ∷ drop (suc j) pairs
+  rest-at j h = drop-cons pairs j initial h ∙ ap (λ (x : Pair). x ∷ drop (suc j) pairs) (pair-at j initial h)
 
   -- the set by its four numbers
-  pub set-four : S
+  pub set-four : pairs
       ≡ ofFour (getD replies (pairsAt + i * setLimit) 0) (pairAt replies i 1) (pairAt replies i 2)
       (pairAt replies i 3) size
   unfolding row

@@ -8,11 +8,7 @@ use mathlib.Core.Bool.{and-assoc, and-true, or-assoc, or-false}
 use lib.ListN.{drop-of-length-le}
 use lib.Seq.{take-nil}
 use mir.Val.{boolByte}
-use Rattle.basics.specs.Counting.{countBelow}
-use Rattle.message.specs.declared.Pair.{Pair}
-use Rattle.message.specs.Pair.{below}
-use Rattle.register.specs.PairSet.{has}
-use Rattle.register.specs.Client.{higher, highestOf, allPairs}
+use Rattle.register.proofs.Vocabulary.{countBelow, Pair, below, has, higher, highestOf, allPairs}
 use Rattle.replies.specs.Replies.{pairsOf}
 use Rattle.replies.specs.Sound.{isRising}
 use Rattle.replies.specs.Loops.{bestOf, rankOf}
@@ -23,13 +19,14 @@ pub bool-le : (b : Bool) → boolByte b ≤ 1
 bool-le true = omega arith
 bool-le false = omega arith
 
-pub count-step : (p : ℕ → Bool) (i c : ℕ) (b : Bool) → b ≡ p i → c ≡ countBelow p i
-    → c + boolByte b ≡ countBelow p (i + 1)
+pub count-step : (test : ℕ → Bool) (i count : ℕ) (b : Bool) → b ≡ test i → count ≡ countBelow test i
+    → count + boolByte b ≡ countBelow test (i + 1)
 unfolding countBelow
-count-step p i c b q e = rw (add-one i, q, e)
+count-step test i count b q e = rw (add-one i, q, e)
 
-pub count-end : (p : ℕ → Bool) (i n c : ℕ) → i ≤ n → n ≤ i → c ≡ countBelow p i → c ≡ countBelow p n
-count-end p i n c a b e = let s : i ≡ n = omega arith in e ∙ ap (countBelow p) s
+pub count-end : (test : ℕ → Bool) (i n count : ℕ) → i ≤ n → n ≤ i → count ≡ countBelow test i
+    → count ≡ countBelow test n
+count-end test i n count most least e = let end : i ≡ n = omega arith in e ∙ ap (countBelow test) end
 
 -- a loop over the numbers below n: before number i it has counted those that pass the test
 abbrev pub Counted : (ℕ → Bool) → ℕ → ℕ → ℕ → Type 0
@@ -57,34 +54,36 @@ unfolding countBelow
 count-same p q zero h = refl
 count-same p q (suc n) h = rw (count-same p q n (λ i less. h i (omega arith)), h n (omega arith))
 
--- ---- the rest of a set that begins with x at place j
+-- ---- the rest of a set from place j on, by its first pair
 
-module _ (S : List Pair) (j : ℕ) (x : Pair) (e : drop j S ≡ x ∷ drop (suc j) S) (pair : Pair) where
-  pub rank-next : below x pair ≡ true → rankOf pair (drop j S) ≡ suc (rankOf pair (drop (j + 1) S))
+module _ (pairs : List Pair) (j : ℕ) (first : Pair) (e : drop j pairs ≡ first ∷ drop (suc j) pairs)
+    (pair : Pair) where
+  pub rank-next : below first pair ≡ true
+      → rankOf pair (drop j pairs) ≡ suc (rankOf pair (drop (j + 1) pairs))
   unfolding rankOf
   rank-next q = rw (add-one j, e, q)
 
-  pub rank-here : below x pair ≡ false → rankOf pair (drop j S) ≡ 0
+  pub rank-here : below first pair ≡ false → rankOf pair (drop j pairs) ≡ 0
   unfolding rankOf
   rank-here q = rw (e, q)
 
-module _ (test : Pair → Bool) (S : List Pair) (o : Option Pair) (j : ℕ) (x : Pair)
-    (e : drop j S ≡ x ∷ drop (suc j) S) where
-  pub best-next : bestOf test (drop j S) o
-      ≡ cond (test x) (higher x (bestOf test (drop (j + 1) S) o)) (bestOf test (drop (j + 1) S) o)
+module _ (test : Pair → Bool) (pairs : List Pair) (best : Option Pair) (j : ℕ) (first : Pair)
+    (e : drop j pairs ≡ first ∷ drop (suc j) pairs) where
+  pub best-next : let behind = bestOf test (drop (j + 1) pairs) best in
+      bestOf test (drop j pairs) best ≡ cond (test first) (higher first behind) behind
   unfolding bestOf
   best-next = rw (add-one j, e)
 
 -- ---- the end of a set
 
-pub rank-none : (p : Pair) (S : List Pair) (j : ℕ) → j ≡ length S → rankOf p (drop j S) ≡ 0
+pub rank-none : (pair : Pair) (pairs : List Pair) (j : ℕ) → j ≡ length pairs → rankOf pair (drop j pairs) ≡ 0
 unfolding rankOf
-rank-none p S j h = rw (drop-of-length-le S {i = j} (omega arith))
+rank-none pair pairs j h = rw (drop-of-length-le pairs {i = j} (omega arith))
 
-pub best-none : (test : Pair → Bool) (S : List Pair) (o : Option Pair) (j : ℕ) → j ≡ length S
-    → bestOf test (drop j S) o ≡ o
+pub best-none : (test : Pair → Bool) (pairs : List Pair) (best : Option Pair) (j : ℕ) → j ≡ length pairs
+    → bestOf test (drop j pairs) best ≡ best
 unfolding bestOf
-best-none test S o j h = rw (drop-of-length-le S {i = j} (omega arith))
+best-none test pairs best j h = rw (drop-of-length-le pairs {i = j} (omega arith))
 
 -- ---- a set of at most four, place by place
 
@@ -93,9 +92,9 @@ abbrev pub ofFour : ℕ → ℕ → ℕ → ℕ → ℕ → List Pair
 ofFour a b c d n = pairsOf (take n (a ∷ b ∷ c ∷ d ∷ []))
 
 module _ (a b c d : ℕ) (pair : Pair) where
-  -- number x stands at place j, and is the pair's
+  -- a number stands at place j, and is the pair's
   abbrev isAt : ℕ → ℕ → ℕ → Bool
-  isAt n j x = ltb j (length (ofFour a b c d n)) && eqb (pair .0) x
+  isAt n j number = ltb j (length (ofFour a b c d n)) && eqb (pair .0) number
 
   pub has-four : (n : ℕ) → (isAt n 0 a || isAt n 1 b) || (isAt n 2 c || isAt n 3 d)
       ≡ has pair (ofFour a b c d n)
@@ -107,9 +106,9 @@ module _ (a b c d : ℕ) (pair : Pair) where
   has-four (suc (suc (suc (suc n)))) = rw (take-nil {A = ℕ} n) (simp (or-false, or-assoc))
 
 module _ (a b c d : ℕ) where
-  -- number x is below number y at place j, or there is none at place j
+  -- a number is below the one at place j, or there is none at place j
   abbrev isBefore : ℕ → ℕ → ℕ → ℕ → Bool
-  isBefore n j x y = ltb (length (ofFour a b c d n)) (suc j) || ltb x y
+  isBefore n j number here = ltb (length (ofFour a b c d n)) (suc j) || ltb number here
 
   pub rising-four : (n : ℕ) → (isBefore n 1 a b && isBefore n 2 b c) && isBefore n 3 c d
       ≡ isRising (ofFour a b c d n)
@@ -121,11 +120,11 @@ module _ (a b c d : ℕ) where
   rising-four (suc (suc (suc (suc n)))) = rw (take-nil {A = ℕ} n) (simp (and-true, and-assoc))
 
 -- the choice among all sets, one set more at a time
-pub best-append : (test : Pair → Bool) (S T : List Pair) → highestOf test (S ++ T)
-    ≡ bestOf test S (highestOf test T)
+pub best-append : (test : Pair → Bool) (pairs others : List Pair) → highestOf test (pairs ++ others)
+    ≡ bestOf test pairs (highestOf test others)
 unfolding highestOf bestOf
-best-append test [] T = refl
-best-append test (x ∷ S) T = rw (best-append test S T)
+best-append test [] others = refl
+best-append test (first ∷ rest) others = rw (best-append test rest others)
 
 pub best-more : (test : Pair → Bool) (sets : ℕ → List Pair) (n : ℕ)
     → highestOf test (allPairs sets (suc n)) ≡ bestOf test (sets (suc n)) (highestOf test (allPairs sets n))

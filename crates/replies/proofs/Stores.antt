@@ -8,59 +8,59 @@ use Rattle.basics.proofs.Prelude.{_≡_, refl, ap, _∙_, List, [], _∷_, _++_
 use Rattle.basics.proofs.Prelude.{length-set, ℕ, zero, suc, _+_, _*_, _≤_, _<_, not-suc-le-zero, arith}
 use native.Mathlib.Nat.{le-of-suc-le-suc}
 use lib.Seq.{sets, length-sets, getD-set-same, getD-set-other}
-use Rattle.message.specs.declared.Pair.{Pair}
-use Rattle.register.specs.Settings.{mostServers}
-use Rattle.register.specs.Client.{setLimit}
-use Rattle.replies.specs.Replies.{replyWords, sizesAt, pairsAt, sizeAt, pairAt, row, pairWord, putSet}
+use Rattle.register.proofs.Vocabulary.{Pair, mostServers, setLimit}
+use Rattle.replies.specs.Replies.{repliesLength, sizesAt, pairsAt, sizeAt, pairAt, row, pairWord}
+use Rattle.replies.specs.Replies.{putSet}
 
 -- ---- rows
 
-pub row-length : (g : ℕ → ℕ) (n : ℕ) → length (row g n) ≡ n
+pub row-length : (value : ℕ → ℕ) (n : ℕ) → length (row value n) ≡ n
 unfolding row
-row-length g zero = refl
-row-length g (suc n) = ap suc (row-length (λ i. g (suc i)) n)
+row-length value zero = refl
+row-length value (suc n) = ap suc (row-length (λ i. value (suc i)) n)
 
-pub row-at : (g : ℕ → ℕ) (n i : ℕ) → i < n → getD (row g n) i 0 ≡ g i
+pub row-at : (value : ℕ → ℕ) (n i : ℕ) → i < n → getD (row value n) i 0 ≡ value i
 unfolding row
-row-at g zero i h = absurd (not-suc-le-zero h)
-row-at g (suc n) zero h = refl
-row-at g (suc n) (suc i) h = row-at (λ i. g (suc i)) n i (le-of-suc-le-suc h)
+row-at value zero i h = absurd (not-suc-le-zero h)
+row-at value (suc n) zero h = refl
+row-at value (suc n) (suc i) h = row-at (λ i. value (suc i)) n i (le-of-suc-le-suc h)
 
 -- a row that agrees with the head of a list is that head
-pub row-is : (g : ℕ → ℕ) (n : ℕ) (l : List ℕ) → n ≤ length l → ((i : ℕ) → i < n → g i ≡ getD l i 0)
-    → row g n ++ drop n l ≡ l
+pub row-is : (value : ℕ → ℕ) (n : ℕ) (memory : List ℕ) → n ≤ length memory
+    → ((i : ℕ) → i < n → value i ≡ getD memory i 0) → row value n ++ drop n memory ≡ memory
 unfolding row
-row-is g zero l h e = refl
-row-is g (suc n) [] h e = absurd (not-suc-le-zero h)
-row-is g (suc n) (x ∷ l) h e =
+row-is value zero memory h e = refl
+row-is value (suc n) [] h e = absurd (not-suc-le-zero h)
+row-is value (suc n) (number ∷ rest) h e =
     rw (
       e 0 (omega arith),
-      row-is (λ i. g (suc i)) n l (le-of-suc-le-suc h) (λ i less. e (suc i) (omega arith)),
+      row-is (λ i. value (suc i)) n rest (le-of-suc-le-suc h) (λ i less. e (suc i) (omega arith)),
     )
 
 -- ---- a run of stores
 
-pub sets-other : (l : List ℕ) (at : ℕ) (vs : List ℕ) (k : ℕ) → ((j : ℕ) → j < length vs → k ≡ at + j → ⊥)
-    → getD (sets l at vs) k 0 ≡ getD l k 0
-sets-other l at [] k apart = refl
-sets-other l at (v ∷ vs) k apart =
-    sets-other (set l at v) (suc at) vs k (λ j h e. apart (suc j) (omega arith) (omega arith))
-    ∙ getD-set-other l at k v 0 (λ e. apart 0 (omega arith) (omega arith))
+pub sets-other : (memory : List ℕ) (at : ℕ) (values : List ℕ) (k : ℕ)
+    → ((j : ℕ) → j < length values → k ≡ at + j → ⊥) → getD (sets memory at values) k 0 ≡ getD memory k 0
+sets-other memory at [] k apart = refl
+sets-other memory at (value ∷ rest) k apart =
+    sets-other (set memory at value) (suc at) rest k (λ j h e. apart (suc j) (omega arith) (omega arith))
+    ∙ getD-set-other memory at k value 0 (λ e. apart 0 (omega arith) (omega arith))
 
-pub sets-inside : (l : List ℕ) (at : ℕ) (vs : List ℕ) → at + length vs ≤ length l
-    → (j : ℕ) → j < length vs → getD (sets l at vs) (at + j) 0 ≡ getD vs j 0
-sets-inside l at [] fits j h = absurd (not-suc-le-zero h)
-sets-inside l at (v ∷ vs) fits zero h =
+pub sets-inside : (memory : List ℕ) (at : ℕ) (values : List ℕ) → at + length values ≤ length memory
+    → (j : ℕ) → j < length values → getD (sets memory at values) (at + j) 0 ≡ getD values j 0
+sets-inside memory at [] fits j h = absurd (not-suc-le-zero h)
+sets-inside memory at (value ∷ rest) fits zero h =
     let e : at + 0 ≡ at = omega arith in
-    rw e (sets-other (set l at v) (suc at) vs at (λ j less q. omega arith)
-    ∙ getD-set-same l at v 0 (omega arith))
-sets-inside l at (v ∷ vs) fits (suc j) h =
+    rw e (sets-other (set memory at value) (suc at) rest at (λ j less q. omega arith)
+    ∙ getD-set-same memory at value 0 (omega arith))
+sets-inside memory at (value ∷ rest) fits (suc j) h =
     let e : at + suc j ≡ suc at + j = omega arith in
-    rw e (sets-inside (set l at v) (suc at) vs (omega (arith, length-set l at v)) j (le-of-suc-le-suc h))
+    rw e (sets-inside (set memory at value) (suc at) rest (omega (arith, length-set memory at value)) j
+    (le-of-suc-le-suc h))
 
 -- ---- a set
 
-module _ (replies : List ℕ) (i : ℕ) (pairs : List Pair) (long : length replies ≡ replyWords)
+module _ (replies : List ℕ) (i : ℕ) (pairs : List Pair) (long : length replies ≡ repliesLength)
     (ih : i < mostServers) where
   abbrev at : ℕ
   at = pairsAt + i * setLimit
@@ -71,7 +71,7 @@ module _ (replies : List ℕ) (i : ℕ) (pairs : List Pair) (long : length repli
   four : length (row (pairWord pairs) setLimit) ≡ setLimit
   four = row-length (pairWord pairs) setLimit
 
-  pub put-length : length (putSet replies i pairs) ≡ replyWords
+  pub put-length : length (putSet replies i pairs) ≡ repliesLength
   unfolding putSet
   put-length =
       length-sets sized at (row (pairWord pairs) setLimit) ∙ length-set replies (sizesAt + i) (length pairs)

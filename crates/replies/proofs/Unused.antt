@@ -2,26 +2,28 @@
 -- Assumes nothing.
 use Rattle.basics.proofs.Prelude.{_≡_, sym, ap, _∙_, Bool, true, false, cond, _&&_, List, replicate, ℕ, _≤_}
 use Rattle.basics.proofs.Prelude.{arith, ltb}
-use Rattle.message.specs.declared.ReadNumber.{ReadNumber}
+use Rattle.register.proofs.Vocabulary.{ReadNumber, cleared, setLimit}
 use Rattle.register.specs.declared.Phase.the-variants.{Idle}
-use Rattle.register.specs.Client.{cleared, setLimit}
-use Rattle.replies.specs.Replies.{replyWords, noteAt, sizeAt, ackAt, held, storeReplies}
+use Rattle.replies.specs.Replies.{repliesLength, noteAt, sizeAt, ackAt, held, storeReplies}
 use Rattle.replies.specs.Sound.{mostNoted}
 use Rattle.replies.proofs.Soundness.{Sound}
 use Rattle.replies.proofs.Storing.{store-held, store-cleared}
 use Rattle.replies.proofs.Views.{zero-noted, zero-sets, zero-acks}
 
-nothing : (b : Bool) (limit x : ℕ) → x ≤ cond (b && false) limit 0 → x ≡ 0
-nothing true limit x h = omega arith
-nothing false limit x h = omega arith
+nothing : (used : Bool) (limit number : ℕ) → number ≤ cond (used && false) limit 0 → number ≡ 0
+nothing true limit number h = omega arith
+nothing false limit number h = omega arith
 
-module _ (n : ℕ) (r : List ℕ) (s : Sound n false false r) where
-  pub unused-empty : r ≡ replicate replyWords 0
+module _ (n : ℕ) (replies : List ℕ) (known : Sound n false false replies) where
+  pub unused-empty : replies ≡ replicate repliesLength 0
   unused-empty =
-      let noted = zero-noted r (λ i h. nothing (ltb i n) mostNoted (noteAt r i) (s .part i h .noted)) in
-      let sets = zero-sets r (λ i h. nothing (ltb i n) setLimit (sizeAt r i) (s .part i h .size)) in
-      let acks = zero-acks r (λ i h. nothing (ltb i n) 1 (ackAt r i) (s .part i h .ack)) in
-      let t : ReadNumber = record { 0 = 0 } in
-      let same : held Idle t r ≡ cleared Idle t =
-      λ q. record { phase = Idle; reads = t; noted = noted q; sets = sets q; acks = acks q } in
-      sym (store-held n false false r s Idle t) ∙ ap storeReplies same ∙ store-cleared Idle t
+      let noted = zero-noted replies
+      (λ i h. nothing (ltb i n) mostNoted (noteAt replies i) (known .part i h .noted)) in
+      let sets = zero-sets replies
+      (λ i h. nothing (ltb i n) setLimit (sizeAt replies i) (known .part i h .size)) in
+      let acks = zero-acks replies (λ i h. nothing (ltb i n) 1 (ackAt replies i) (known .part i h .ack)) in
+      let reads : ReadNumber = record { 0 = 0 } in
+      let same : held Idle reads replies ≡ cleared Idle reads =
+      λ q. record { phase = Idle; reads = reads; noted = noted q; sets = sets q; acks = acks q } in
+      sym (store-held n false false replies known Idle reads) ∙ ap storeReplies same
+      ∙ store-cleared Idle reads

@@ -38,12 +38,13 @@ isAbove pair (some best) = below best pair
 -- the best choice so far, with the pairs of one more set
 unfoldable pub bestOf : (Pair → Bool) → List Pair → Option Pair → Option Pair
 bestOf test [] best = best
-bestOf test (p ∷ ps) best = cond (test p) (higher p (bestOf test ps best)) (bestOf test ps best)
+bestOf test (pair ∷ rest) best =
+    cond (test pair) (higher pair (bestOf test rest best)) (bestOf test rest best)
 
 -- how many pairs at the head of a set are below a pair
 unfoldable pub rankOf : Pair → List Pair → ℕ
 rankOf pair [] = 0
-rankOf pair (x ∷ xs) = cond (below x pair) (suc (rankOf pair xs)) 0
+rankOf pair (other ∷ rest) = cond (below other pair) (suc (rankOf pair rest)) 0
 
 -- a pair put at place j of a set
 abbrev pub placedAt : ℕ → Pair → List Pair → List Pair

@@ -37,8 +37,8 @@ abbrev pub pairsAt : ℕ
 pairsAt = 3 * mostServers
 
 -- how many numbers there are: 91
-abbrev pub replyWords : ℕ
-replyWords = pairsAt + mostServers * setLimit
+abbrev pub repliesLength : ℕ
+repliesLength = pairsAt + mostServers * setLimit
 
 -- the numbers of the server at place i: its timestamp's, its set's size, its acknowledgement, its pair j's
 abbrev pub noteAt : List ℕ → ℕ → ℕ
@@ -58,11 +58,11 @@ pairAt replies i j = getD replies (pairsAt + i * setLimit + j) 0
 -- a timestamp is stored plus one, so that zero is none
 unfoldable pub noteOf : ℕ → Option ℕ
 noteOf zero = none
-noteOf (suc t) = some t
+noteOf (suc stamp) = some stamp
 
 abbrev pub pairsOf : List ℕ → List Pair
 pairsOf [] = []
-pairsOf (w ∷ ws) = record { 0 = w } ∷ pairsOf ws
+pairsOf (number ∷ numbers) = record { 0 = number } ∷ pairsOf numbers
 
 -- the four numbers of the set at place i, and of these as many as its size says
 abbrev pub fourAt : List ℕ → ℕ → List ℕ
@@ -98,20 +98,20 @@ held phase reads replies =
 
 -- ---- the memory of what a client holds
 
--- g 0, g 1, .. g (n - 1)
+-- value 0, value 1, .. value (n - 1)
 unfoldable pub row : (ℕ → ℕ) → ℕ → List ℕ
-row g zero = []
-row g (suc n) = g 0 ∷ row (λ i. g (suc i)) n
+row value zero = []
+row value (suc n) = value 0 ∷ row (λ i. value (suc i)) n
 
 unfoldable pub noteWord : Option ℕ → ℕ
 noteWord none = 0
-noteWord (some t) = suc t
+noteWord (some stamp) = suc stamp
 
 -- the number of the pair at place j of a set, zero behind its last
 unfoldable pub pairWord : List Pair → ℕ → ℕ
 pairWord [] j = 0
-pairWord (p ∷ ps) zero = p .0
-pairWord (p ∷ ps) (suc j) = pairWord ps j
+pairWord (pair ∷ rest) zero = pair .0
+pairWord (pair ∷ rest) (suc j) = pairWord rest j
 
 unfoldable pub storeReplies : Client → List ℕ
 storeReplies client =

@@ -10,20 +10,20 @@ use lib.Dec.{eqb, leb, ltb}
 use lib.ListN.{length}
 use Rattle.basics.specs.Tests.{allPass, allBelow}
 use Rattle.message.specs.declared.Pair.{Pair}
-use Rattle.message.specs.Pair.{below}
+use Rattle.message.specs.Pair.{below, stampBits}
 use Rattle.register.specs.Settings.{mostServers}
 use Rattle.register.specs.Client.{setLimit}
-use Rattle.replies.specs.Replies.{replyWords, noteAt, sizeAt, ackAt, pairAt, setIn}
+use Rattle.replies.specs.Replies.{repliesLength, noteAt, sizeAt, ackAt, pairAt, setIn}
 
--- p is below the first of a list
+-- a pair is below the first of a list
 abbrev pub isFirst : Pair → List Pair → Bool
-isFirst p [] = true
-isFirst p (q ∷ qs) = below p q
+isFirst pair [] = true
+isFirst pair (other ∷ rest) = below pair other
 
 -- 'sets are in strict order'
 unfoldable pub isRising : List Pair → Bool
 isRising [] = true
-isRising (p ∷ ps) = isFirst p ps && isRising ps
+isRising (pair ∷ rest) = isFirst pair rest && isRising rest
 
 -- number j of the set at place i belongs to a pair or is zero
 abbrev pub isPast : List ℕ → ℕ → ℕ → Bool
@@ -39,7 +39,7 @@ isWithin used limit number = leb number (cond used limit 0)
 
 -- the highest timestamp, of 24 bits, plus one
 abbrev pub mostNoted : ℕ
-mostNoted = 2 ^ 24
+mostNoted = 2 ^ stampBits
 
 -- the server at place i, whose timestamp and set, and whose acknowledgement, are used or not
 unfoldable pub isSoundAt : Bool → Bool → List ℕ → ℕ → Bool
@@ -55,5 +55,5 @@ isSoundAt reading storing replies i =
 -- the whole memory, of which the places of n servers are used
 unfoldable pub areSound : ℕ → Bool → Bool → List ℕ → Bool
 areSound n reading storing replies =
-    eqb (length replies) replyWords
+    eqb (length replies) repliesLength
     && allBelow (λ i. isSoundAt (ltb i n && reading) (ltb i n && storing) replies i) mostServers

@@ -5,11 +5,11 @@ ghost use mathlib.Core.Bool.{cond};
 ghost use Prim.Native.Nat.{suc, _+_, _*_, _<_, _≤_};
 ghost use lib.ListN.{length, drop, replicate};
 ghost use Rattle.basics.specs.Counting.{countBelow};
-ghost use Rattle.register.specs.Settings.{mostServers};
+ghost use Rattle.register.specs.Settings.{mostServers, mostFaulty};
 ghost use Rattle.register.specs.Thresholds.{size, counted};
 ghost use Rattle.register.specs.PairSet.{has, add};
 ghost use Rattle.register.specs.Client.{isNoted, isAtMost, higher, chosen, setLimit};
-ghost use Rattle.replies.specs.Replies.{replyWords, noteOf, notedIn, setIn, ackIn, choiceOf};
+ghost use Rattle.replies.specs.Replies.{repliesLength, noteOf, notedIn, setIn, ackIn, choiceOf};
 ghost use Rattle.replies.specs.Replies.{putNote, putAck, putSet, Padded};
 ghost use Rattle.replies.specs.Sound.{isRising, isPadded, isWithin, isSoundAt, areSound};
 ghost use Rattle.replies.specs.Loops.{isUsed, heldIn, countsIn, isAbove, bestOf, rankOf};
@@ -18,9 +18,9 @@ use message::Pair;
 use message::Timestamp;
 
 // The most servers, and the most pairs of a set.
-const SERVERS: usize = 13;
+const SERVERS: usize = register::MOST_SERVERS as usize;
 
-const LIMIT: usize = 4;
+const LIMIT: usize = register::SET_LIMIT as usize;
 
 // Where each row begins, and the length of all; the noted timestamps begin at 0.
 const SIZES: usize = SERVERS;
@@ -29,10 +29,12 @@ const ACKS: usize = 2 * SERVERS;
 
 const PAIRS: usize = 3 * SERVERS;
 
-pub const WORDS: usize = PAIRS + SERVERS * LIMIT;
+pub const LENGTH: usize = PAIRS + SERVERS * LIMIT;
 
-// The highest timestamp, of 24 bits, plus one.
-const MOST_NOTED: u64 = 0x100_0000;
+// The bits of a timestamp, and the highest one plus one.
+const STAMP_BITS: u32 = message::COUNTER_BITS + message::CLIENT_BITS;
+
+const MOST_NOTED: u64 = 1 << STAMP_BITS;
 
 // The pair that is chosen, if one counts.
 pub enum Choice {
@@ -66,7 +68,7 @@ fn is_at_most(number: u64, stamp: Timestamp) -> bool
 
 // How many noted timestamps are at or below the stamp.
 fn at_most(replies: &[u64], n: usize, stamp: Timestamp) -> u32
-    requires { ⌜ (length (now replies) ≡ replyWords) × (n ≤ mostServers) ⌝ }
+    requires { ⌜ (length (now replies) ≡ repliesLength) × (n ≤ mostServers) ⌝ }
     ensures { λ count. ⌜ count
         ≡ counted (λ k. isAtMost (stamp .0) (notedIn (now (replies .entry)) k)) n ⌝ }
 {
@@ -81,7 +83,7 @@ fn at_most(replies: &[u64], n: usize, stamp: Timestamp) -> u32
 
 // The size of a set, never above the limit.
 fn size_of(replies: &[u64], i: usize) -> usize
-    requires { ⌜ (length (now replies) ≡ replyWords) × (i < mostServers) ⌝ }
+    requires { ⌜ (length (now replies) ≡ repliesLength) × (i < mostServers) ⌝ }
     ensures { λ size. ⌜ (size ≡ length (setIn (now (replies .entry)) (suc i))) × (size ≤ setLimit) ⌝ }
 {
     let size = replies[SIZES + i];
@@ -95,7 +97,7 @@ fn size_of(replies: &[u64], i: usize) -> usize
 // Whether the set of the server at place i has the pair.
 // All four numbers are read, so that nothing branches: which of them is the pair's cannot be foreseen.
 fn holds(replies: &[u64], i: usize, pair: Pair) -> bool
-    requires { ⌜ (length (now replies) ≡ replyWords) × (i < mostServers) ⌝ }
+    requires { ⌜ (length (now replies) ≡ repliesLength) × (i < mostServers) ⌝ }
     ensures { λ b. ⌜ b ≡ has pair (setIn (now (replies .entry)) (suc i)) ⌝ }
 {
     let size = size_of(replies, i);
@@ -109,7 +111,7 @@ fn holds(replies: &[u64], i: usize, pair: Pair) -> bool
 
 // How many sets have the pair.
 fn holders(replies: &[u64], n: usize, pair: Pair) -> u32
-    requires { ⌜ (length (now replies) ≡ replyWords) × (n ≤ mostServers) ⌝ }
+    requires { ⌜ (length (now replies) ≡ repliesLength) × (n ≤ mostServers) ⌝ }
     ensures { λ count. ⌜ count ≡ counted (λ k. has pair (setIn (now (replies .entry)) k)) n ⌝ }
 {
     let mut count: u32 = 0;
@@ -123,7 +125,7 @@ fn holders(replies: &[u64], n: usize, pair: Pair) -> u32
 
 // Whether a pair counts: its timestamp is not old, and it stands in enough sets.
 fn does_count(replies: &[u64], f: u8, pair: Pair) -> bool
-    requires { ⌜ (length (now replies) ≡ replyWords) × (f ≤ 4) ⌝ }
+    requires { ⌜ (length (now replies) ≡ repliesLength) × (f ≤ mostFaulty) ⌝ }
     ensures { λ b. ⌜ b ≡ countsIn f (now (replies .entry)) pair ⌝ }
 {
     let n = register::servers(f) as usize;
@@ -144,7 +146,7 @@ fn is_above(pair: Pair, best: Choice) -> bool
 
 // The choice with one candidate more. It is tested only if it is above the choice so far.
 fn consider(replies: &[u64], f: u8, pair: Pair, best: Choice) -> Choice
-    requires { ⌜ (length (now replies) ≡ replyWords) × (f ≤ 4) ⌝ }
+    requires { ⌜ (length (now replies) ≡ repliesLength) × (f ≤ mostFaulty) ⌝ }
     ensures { λ choice. ⌜ choiceOf choice
         ≡ cond (countsIn f (now (replies .entry)) pair) (higher pair (choiceOf best)) (choiceOf best) ⌝ }
 {
@@ -159,7 +161,7 @@ fn consider(replies: &[u64], f: u8, pair: Pair, best: Choice) -> Choice
 
 // The choice with the pairs of one more set, the highest first.
 fn better(replies: &[u64], f: u8, i: usize, best: Choice) -> Choice
-    requires { ⌜ (length (now replies) ≡ replyWords) × (f ≤ 4) × (i < mostServers) ⌝ }
+    requires { ⌜ (length (now replies) ≡ repliesLength) × (f ≤ mostFaulty) × (i < mostServers) ⌝ }
     ensures { λ choice. ⌜ choiceOf choice
         ≡ bestOf (countsIn f (now (replies .entry))) (setIn (now (replies .entry)) (suc i))
         (choiceOf best) ⌝ }
@@ -177,7 +179,7 @@ fn better(replies: &[u64], f: u8, i: usize, best: Choice) -> Choice
 // The highest of the pairs that count, once enough timestamps are noted. There are at most 4n candidates;
 // one that is above the best so far costs n steps for its timestamp and 4n for its holders.
 pub fn choose(replies: &[u64], f: u8) -> Choice
-    requires { ⌜ (length (now replies) ≡ replyWords) × (f ≤ 4) ⌝ }
+    requires { ⌜ (length (now replies) ≡ repliesLength) × (f ≤ mostFaulty) ⌝ }
     ensures { λ choice. ⌜ choiceOf choice ≡ chosen (size f) f 0 (heldIn (now (replies .entry))) ⌝ }
 {
     let n = register::servers(f) as usize;
@@ -195,7 +197,7 @@ pub fn choose(replies: &[u64], f: u8) -> Choice
 
 // How many servers have acknowledged.
 pub fn acknowledged(replies: &[u64], f: u8) -> u32
-    requires { ⌜ (length (now replies) ≡ replyWords) × (f ≤ 4) ⌝ }
+    requires { ⌜ (length (now replies) ≡ repliesLength) × (f ≤ mostFaulty) ⌝ }
     ensures { λ count. ⌜ count ≡ counted (ackIn (now (replies .entry))) (size f) ⌝ }
 {
     used(replies, ACKS, register::servers(f) as usize)
@@ -203,7 +205,7 @@ pub fn acknowledged(replies: &[u64], f: u8) -> u32
 
 // Whether a timestamp of the server at place i is noted.
 pub fn is_noted(replies: &[u64], i: usize) -> bool
-    requires { ⌜ (length (now replies) ≡ replyWords) × (i < mostServers) ⌝ }
+    requires { ⌜ (length (now replies) ≡ repliesLength) × (i < mostServers) ⌝ }
     ensures { λ b. ⌜ b ≡ isNoted (notedIn (now (replies .entry)) (suc i)) ⌝ }
 {
     replies[i] != 0
@@ -211,7 +213,7 @@ pub fn is_noted(replies: &[u64], i: usize) -> bool
 
 // How many pairs at the head of a set of this size are below the pair.
 fn rank(replies: &[u64], i: usize, size: usize, pair: Pair) -> usize
-    requires { ⌜ (length (now replies) ≡ replyWords) × (i < mostServers)
+    requires { ⌜ (length (now replies) ≡ repliesLength) × (i < mostServers)
         × (size ≡ length (setIn (now replies) (suc i))) × (size ≤ setLimit) ⌝ }
     ensures { λ j. ⌜ j ≡ rankOf pair (setIn (now (replies .entry)) (suc i)) ⌝ }
 {
@@ -242,7 +244,7 @@ fn widened(replies: &[u64], at: usize, j: usize, pair: Pair, place: usize) -> u6
 
 // A pair put at place j of a set of this size, of which the first `out` then leave.
 fn place(replies: &mut [u64], i: usize, size: usize, j: usize, pair: Pair, out: usize)
-    requires { ⌜ (length (now replies) ≡ replyWords) × (i < mostServers)
+    requires { ⌜ (length (now replies) ≡ repliesLength) × (i < mostServers)
         × (size ≡ length (setIn (now replies) (suc i)))
         × (j ≤ size) × (out ≤ 1) × (size + 1 ≤ setLimit + out) × Padded (now replies) i ⌝ }
     ensures { λ u. ⌜ now (replies .exit)
@@ -263,7 +265,7 @@ fn place(replies: &mut [u64], i: usize, size: usize, j: usize, pair: Pair, out: 
 
 // Adds a pair to the set of the server at place i: if it would make five, the lowest of the five leaves.
 pub fn insert(replies: &mut [u64], i: usize, pair: Pair)
-    requires { ⌜ (length (now replies) ≡ replyWords) × (i < mostServers) × Padded (now replies) i ⌝ }
+    requires { ⌜ (length (now replies) ≡ repliesLength) × (i < mostServers) × Padded (now replies) i ⌝ }
     ensures { λ u. ⌜ now (replies .exit)
         ≡ putSet (now (replies .entry)) i (add setLimit pair (setIn (now (replies .entry)) (suc i))) ⌝ }
 {
@@ -283,7 +285,7 @@ pub fn insert(replies: &mut [u64], i: usize, pair: Pair)
 
 // Notes the timestamp of the server at place i.
 pub fn note(replies: &mut [u64], i: usize, stamp: Timestamp)
-    requires { ⌜ (length (now replies) ≡ replyWords) × (i < mostServers) ⌝ }
+    requires { ⌜ (length (now replies) ≡ repliesLength) × (i < mostServers) ⌝ }
     ensures { λ u. ⌜ now (replies .exit) ≡ putNote (now (replies .entry)) i (stamp .0) ⌝ }
 {
     replies[i] = (stamp.0 as u64) + 1;
@@ -291,7 +293,7 @@ pub fn note(replies: &mut [u64], i: usize, stamp: Timestamp)
 
 // Notes that the server at place i has acknowledged.
 pub fn acknowledge(replies: &mut [u64], i: usize)
-    requires { ⌜ (length (now replies) ≡ replyWords) × (i < mostServers) ⌝ }
+    requires { ⌜ (length (now replies) ≡ repliesLength) × (i < mostServers) ⌝ }
     ensures { λ u. ⌜ now (replies .exit) ≡ putAck (now (replies .entry)) i ⌝ }
 {
     replies[ACKS + i] = 1;
@@ -299,24 +301,24 @@ pub fn acknowledge(replies: &mut [u64], i: usize)
 
 // Empties all of it.
 pub fn clear(replies: &mut [u64])
-    requires { ⌜ length (now replies) ≡ replyWords ⌝ }
-    ensures { λ u. ⌜ now (replies .exit) ≡ replicate replyWords 0 ⌝ }
+    requires { ⌜ length (now replies) ≡ repliesLength ⌝ }
+    ensures { λ u. ⌜ now (replies .exit) ≡ replicate repliesLength 0 ⌝ }
 {
     let mut i = 0;
-    while i < WORDS {
+    while i < LENGTH {
         replies[i] = 0;
         i += 1;
     }
 }
 
 // A copy, for a trial.
-pub fn copied(replies: &[u64]) -> [u64; WORDS]
-    requires { ⌜ length (now replies) ≡ replyWords ⌝ }
+pub fn copied(replies: &[u64]) -> [u64; LENGTH]
+    requires { ⌜ length (now replies) ≡ repliesLength ⌝ }
     ensures { λ copy. ⌜ copy ≡ now (replies .entry) ⌝ }
 {
-    let mut copy = [0u64; WORDS];
+    let mut copy = [0u64; LENGTH];
     let mut at = 0;
-    while at < WORDS {
+    while at < LENGTH {
         copy[at] = replies[at];
         at += 1;
     }
@@ -334,7 +336,7 @@ fn is_within(used: bool, limit: u64, number: u64) -> bool
 
 // Whether the set at place i is in strict order.
 fn is_rising(replies: &[u64], i: usize) -> bool
-    requires { ⌜ (length (now replies) ≡ replyWords) × (i < mostServers) ⌝ }
+    requires { ⌜ (length (now replies) ≡ repliesLength) × (i < mostServers) ⌝ }
     ensures { λ b. ⌜ b ≡ isRising (setIn (now (replies .entry)) (suc i)) ⌝ }
 {
     let size = size_of(replies, i);
@@ -349,7 +351,7 @@ fn is_rising(replies: &[u64], i: usize) -> bool
 
 // Whether the numbers behind the last pair of the set at place i are zero.
 fn is_padded(replies: &[u64], i: usize) -> bool
-    requires { ⌜ (length (now replies) ≡ replyWords) × (i < mostServers) ⌝ }
+    requires { ⌜ (length (now replies) ≡ repliesLength) × (i < mostServers) ⌝ }
     ensures { λ b. ⌜ b ≡ isPadded (now (replies .entry)) i ⌝ }
 {
     let size = replies[SIZES + i];
@@ -362,7 +364,7 @@ fn is_padded(replies: &[u64], i: usize) -> bool
 }
 
 fn is_sound_at(replies: &[u64], i: usize, reading: bool, storing: bool) -> bool
-    requires { ⌜ (length (now replies) ≡ replyWords) × (i < mostServers) ⌝ }
+    requires { ⌜ (length (now replies) ≡ repliesLength) × (i < mostServers) ⌝ }
     ensures { λ b. ⌜ b ≡ isSoundAt reading storing (now (replies .entry)) i ⌝ }
 {
     let noted = is_within(reading, MOST_NOTED, replies[i]);
@@ -371,18 +373,19 @@ fn is_sound_at(replies: &[u64], i: usize, reading: bool, storing: bool) -> bool
     noted & (size & (ack & (is_rising(replies, i) & is_padded(replies, i))))
 }
 
-// Whether the memory is sound, of which the places of n servers are used.
+// Whether the memory is sound, of which the places of n servers are used; up to the first fault.
 pub fn are_sound(replies: &[u64], n: usize, reading: bool, storing: bool) -> bool
     ensures { λ b. ⌜ b ≡ areSound n reading storing (now (replies .entry)) ⌝ }
 {
-    if replies.len() != WORDS {
+    if replies.len() != LENGTH {
         return false;
     }
-    let mut sound = true;
     let mut i = 0;
     while i < SERVERS {
-        sound = sound & is_sound_at(replies, i, (i < n) & reading, (i < n) & storing);
+        if !is_sound_at(replies, i, (i < n) & reading, (i < n) & storing) {
+            return false;
+        }
         i += 1;
     }
-    sound
+    true
 }

@@ -7,7 +7,8 @@ use Rattle.basics.proofs.Prelude.{_≡_, refl, ap, length, ℕ, zero, suc, _+_,
 use Rattle.basics.proofs.Prelude.{ltb, lt-ltb, le-ltb}
 use native.Mathlib.Nat.{pow-suc, one-le-pow, le-div-iff-mul-le, div-lt-iff-lt-mul, zero-lt-suc}
 use Rattle.basics.proofs.Cases.{by-test}
-use Rattle.script.specs.Numbers.{hexDigit, digitsOf, digitCount, decimal}
+use Rattle.basics.specs.Digits.{hexDigit}
+use Rattle.script.specs.Numbers.{digitsOf, digitCount, decimal}
 
 pub digits-length : (base n value : ℕ) → length (digitsOf base n value) ≡ n
 unfolding digitsOf
@@ -15,8 +16,8 @@ digits-length base zero value = refl
 digits-length base (suc n) value = ap suc (digits-length base n value)
 
 -- a decimal digit is one of 0 to 9
-pub digit-below-ten : (d : ℕ) → d < 10 → 48 + d ≡ hexDigit d
-digit-below-ten d h = rw (lt-ltb d 10 h)
+pub digit-below-ten : (value : ℕ) → value < 10 → 48 + value ≡ hexDigit value
+digit-below-ten value h = rw (lt-ltb value 10 h)
 
 -- the last two digits of a number are those of its last two as a number
 pub last-one : (value : ℕ) → value % 100 % 10 ≡ value % 10
@@ -49,22 +50,22 @@ count-most zero value = omega arith
 count-most (suc n) value =
     by-test (ltb value 10) (λ t. rw t (omega arith)) (λ t. rw t (omega (arith, count-most n (value / 10))))
 
--- a number below 10 ^ m has at most m
-pub count-few : (n m value : ℕ) → value < 10 ^ suc m → digitCount n value ≤ suc m
+-- a number below a power of ten has at most as many
+pub count-few : (n digits value : ℕ) → value < 10 ^ suc digits → digitCount n value ≤ suc digits
 unfolding digitCount
-count-few zero m value h = omega arith
+count-few zero digits value h = omega arith
 count-few (suc n) zero value h = rw (lt-ltb value 10 h) (omega arith)
-count-few (suc n) (suc m) value h =
+count-few (suc n) (suc digits) value h =
     by-test (ltb value 10) (λ t. rw t (omega arith))
-    (λ t. rw t (omega (arith, count-few n m (value / 10) (tenth-lt (suc m) value h))))
+    (λ t. rw t (omega (arith, count-few n digits (value / 10) (tenth-lt (suc digits) value h))))
 
--- a number from 10 ^ m on has more than m
-pub count-many : (n m value : ℕ) → m ≤ n → 10 ^ m ≤ value → m < digitCount n value
+-- a number from a power of ten on has more
+pub count-many : (n digits value : ℕ) → digits ≤ n → 10 ^ digits ≤ value → digits < digitCount n value
 count-many n zero value l h = count-some n value
-count-many zero (suc m) value l h = absurd (omega arith)
-count-many (suc n) (suc m) value l h =
-    let some = one-le-pow m 10 (zero-lt-suc 9) in
-    let tenth = count-many n m (value / 10) (omega arith) (tenth-le m value h) in
+count-many zero (suc digits) value l h = absurd (omega arith)
+count-many (suc n) (suc digits) value l h =
+    let some = one-le-pow digits 10 (zero-lt-suc 9) in
+    let tenth = count-many n digits (value / 10) (omega arith) (tenth-le digits value h) in
     rw (count-more n value (omega arith)) (omega arith)
 
 pub decimal-short : (value : ℕ) → length (decimal value) ≤ 20

@@ -8,7 +8,8 @@ use Rattle.basics.proofs.Prelude.{_≡_, refl, sym, ap, _∙_, _&&_, List, [], 
 use Rattle.basics.proofs.Prelude.{_*_, _/_, _%_, _^_, _≤_, _<_, arith, ltb, ltb-true, lt-ltb, le-ltb}
 use native.Mathlib.Nat.{pow-suc, div-div-eq-div-mul}
 use Rattle.basics.proofs.Cases.{by-test, both}
-use Rattle.script.specs.Numbers.{hexDigit, digitsOf, digitCount, decimal}
+use Rattle.basics.specs.Digits.{hexDigit}
+use Rattle.script.specs.Numbers.{digitsOf, digitCount, decimal}
 use Rattle.script.specs.Numerals.{keptDigits}
 use Rattle.script.proofs.Digits.{digits-length, tenth-lt, count-more, count-few}
 
@@ -16,15 +17,15 @@ use Rattle.script.proofs.Digits.{digits-length, tenth-lt, count-more, c
 abbrev pub lastTwo : ℕ → List ℕ
 lastTwo value = hexDigit (value / 10 % 10) ∷ hexDigit (value % 10) ∷ []
 
-digits-behind : (k value : ℕ) → digitsOf 10 (suc (suc k)) value ≡ digitsOf 10 k (value / 100) ++ lastTwo value
+digits-behind : (n value : ℕ) → digitsOf 10 (suc (suc n)) value ≡ digitsOf 10 n (value / 100) ++ lastTwo value
 unfolding digitsOf
 digits-behind zero value = let one : value / 1 ≡ value = omega arith in rw one
-digits-behind (suc k) value =
-    let more : 100 * 10 ^ k ≡ 10 ^ suc (suc k) = rw (pow-suc 10 (suc k), pow-suc 10 k) (omega arith) in
-    let same : value / 10 ^ suc (suc k) ≡ value / 100 / 10 ^ k =
-    ap (λ (x : ℕ). value / x) (sym more) ∙ sym (div-div-eq-div-mul value 100 (10 ^ k)) in
-    ap (λ (x : ℕ). hexDigit (x % 10) ∷ digitsOf 10 (suc (suc k)) value) same
-    ∙ ap (λ (l : List ℕ). hexDigit (value / 100 / 10 ^ k % 10) ∷ l) (digits-behind k value)
+digits-behind (suc n) value =
+    let more : 100 * 10 ^ n ≡ 10 ^ suc (suc n) = rw (pow-suc 10 (suc n), pow-suc 10 n) (omega arith) in
+    let same : value / 10 ^ suc (suc n) ≡ value / 100 / 10 ^ n =
+    ap (λ (x : ℕ). value / x) (sym more) ∙ sym (div-div-eq-div-mul value 100 (10 ^ n)) in
+    ap (λ (x : ℕ). hexDigit (x % 10) ∷ digitsOf 10 (suc (suc n)) value) same
+    ∙ ap (λ (l : List ℕ). hexDigit (value / 100 / 10 ^ n % 10) ∷ l) (digits-behind n value)
 
 -- a longer count finds no more digits
 count-steady : (n value : ℕ) → value < 10 ^ suc n → digitCount (suc n) value ≡ digitCount n value
@@ -37,36 +38,39 @@ count-steady (suc n) value h =
 pub decimal-hundreds : (value : ℕ) → 0 < value / 100 → value / 100 < 1000000
     → decimal value ≡ decimal (value / 100) ++ lastTwo value
 decimal-hundreds value some few =
-    let h : ℕ = value / 100 in
-    let tenth : value / 10 / 10 ≡ h = omega arith in
-    let count : digitCount 19 value ≡ suc (suc (digitCount 19 h)) = cc (
+    let hundreds : ℕ = value / 100 in
+    let tenth : value / 10 / 10 ≡ hundreds = omega arith in
+    let count : digitCount 19 value ≡ suc (suc (digitCount 19 hundreds)) = cc (
       count-more 18 value (omega arith),
       count-more 17 (value / 10) (omega arith),
       tenth,
-      count-steady 18 h (omega arith),
-      count-steady 17 h (omega arith),
+      count-steady 18 hundreds (omega arith),
+      count-steady 17 hundreds (omega arith),
     ) in
-    cc (count, digits-behind (digitCount 19 h) value)
+    cc (count, digits-behind (digitCount 19 hundreds) value)
 
 -- ---- the digits that are kept
 
-pub kept-all : (h : ℕ) → 0 < h → h < 1000000 → keptDigits h ≡ decimal h
+pub kept-all : (hundreds : ℕ) → 0 < hundreds → hundreds < 1000000 → keptDigits hundreds ≡ decimal hundreds
 unfolding keptDigits
-kept-all h some few = rw (lt-ltb 0 h some, lt-ltb h 1000000 few) refl
+kept-all hundreds some few = rw (lt-ltb 0 hundreds some, lt-ltb hundreds 1000000 few) refl
 
-pub kept-none : (h : ℕ) → (0 < h → 1000000 ≤ h) → keptDigits h ≡ []
+pub kept-none : (hundreds : ℕ) → (0 < hundreds → 1000000 ≤ hundreds) → keptDigits hundreds ≡ []
 unfolding keptDigits
-kept-none h not =
-    by-test (ltb 0 h) (λ t. rw (t, le-ltb h 1000000 (not (ltb-true 0 h t))) refl) (λ t. rw t refl)
+kept-none hundreds not =
+    by-test (ltb 0 hundreds) (λ t. rw (t, le-ltb hundreds 1000000 (not (ltb-true 0 hundreds t))) refl)
+    (λ t. rw t refl)
 
-pub decimal-few : (h : ℕ) → h < 1000000 → length (decimal h) ≤ 6
-decimal-few h few = rw (digits-length 10 (digitCount 19 h) h) (count-few 19 5 h few)
+pub decimal-few : (hundreds : ℕ) → hundreds < 1000000 → length (decimal hundreds) ≤ 6
+decimal-few hundreds few =
+    rw (digits-length 10 (digitCount 19 hundreds) hundreds) (count-few 19 5 hundreds few)
 
-pub kept-few : (h : ℕ) → length (keptDigits h) ≤ 6
+pub kept-few : (hundreds : ℕ) → length (keptDigits hundreds) ≤ 6
 unfolding keptDigits
-kept-few h =
-    by-test (ltb 0 h && ltb h 1000000)
-    (λ t. rw t (decimal-few h (ltb-true h 1000000 (both (ltb 0 h) (ltb h 1000000) t .1))))
+kept-few hundreds =
+    by-test (ltb 0 hundreds && ltb hundreds 1000000)
+    (λ t. let tests = both (ltb 0 hundreds) (ltb hundreds 1000000) t in
+    rw t (decimal-few hundreds (ltb-true hundreds 1000000 (tests .1))))
     (λ t. rw t (omega arith))
 
 -- if some are kept, with the last two behind them they are the number's
@@ -74,8 +78,8 @@ pub kept-digits : (value : ℕ) → 0 < length (keptDigits (value / 100))
     → decimal value ≡ keptDigits (value / 100) ++ lastTwo value
 unfolding keptDigits
 kept-digits value some =
-    let h : ℕ = value / 100 in
-    by-test (ltb 0 h && ltb h 1000000)
-    (λ t. let b = both (ltb 0 h) (ltb h 1000000) t in
-    rw t (decimal-hundreds value (ltb-true 0 h (b .0)) (ltb-true h 1000000 (b .1))))
+    let hundreds : ℕ = value / 100 in
+    by-test (ltb 0 hundreds && ltb hundreds 1000000)
+    (λ t. let tests = both (ltb 0 hundreds) (ltb hundreds 1000000) t in
+    rw t (decimal-hundreds value (ltb-true 0 hundreds (tests .0)) (ltb-true hundreds 1000000 (tests .1))))
     (λ t. absurd (let z = rw t at some in omega arith))

@@ -20,19 +20,18 @@ use Rattle.script.specs.Writing.{Written}
 
 -- ---- parts by their lengths
 
-take-both : (a b : ℕ) (l : List ℕ) → take a (take b l) ≡ take (min a b) l
-take-both a b l =
-    by-test (leb a b)
-    (λ t. let h = leb-true a b t in rw (min-eq-left h) (take-take a b l h))
-    (λ t. let h : b ≤ a = omega (arith, leb-false a b t) in
-    rw (min-eq-right h) (take-all a (take b l) (rw (length-take b l) (omega arith))))
+take-both : (first second : ℕ) (text : List ℕ) → take first (take second text) ≡ take (min first second) text
+take-both first second text =
+    by-test (leb first second)
+    (λ t. let h = leb-true first second t in rw (min-eq-left h) (take-take first second text h))
+    (λ t. let h : second ≤ first = omega (arith, leb-false first second t) in
+    rw (min-eq-right h) (take-all first (take second text) (rw (length-take second text) (omega arith))))
 
-take-within : (n : ℕ) (l : List ℕ) → take n l ≡ take (min n (length l)) l
-take-within n l =
-    by-test (leb n (length l))
-    (λ t. rw (min-eq-left (leb-true n (length l) t)) refl)
-    (λ t. let h : length l ≤ n = omega (arith, leb-false n (length l) t) in
-    rw (min-eq-right h) (take-all n l h ∙ sym (take-length l)))
+take-within : (n : ℕ) (text : List ℕ) → take n text ≡ take (min n (length text)) text
+take-within n text =
+    by-test (leb n (length text)) (λ t. rw (min-eq-left (leb-true n (length text) t)) refl)
+    (λ t. let h : length text ≤ n = omega (arith, leb-false n (length text) t) in
+    rw (min-eq-right h) (take-all n text h ∙ sym (take-length text)))
 
 sub-least : (a b c : ℕ) → min a b - c ≡ min (a - c) (b - c)
 sub-least a b c = omega arith
@@ -44,15 +43,15 @@ least-swap a b c = omega arith
 kept-take : (text : List ℕ) (at end n : ℕ) → n ≡ min (min end (length text) - at) most
     → take n (drop at text) ≡ kept text at end
 kept-take text at end n e =
-    let l : List ℕ = drop at text in
-    let wide : length l ≡ length text - at = length-drop at text in
-    let m : n ≡ min (min most (end - at)) (length l) = cc (
+    let rest : List ℕ = drop at text in
+    let wide : length rest ≡ length text - at = length-drop at text in
+    let count : n ≡ min (min most (end - at)) (length rest) = cc (
       e,
       sub-least end (length text) at,
       least-swap (end - at) (length text - at) most,
       wide,
     ) in
-    cc (m, take-both most (end - at) l, take-within (min most (end - at)) l)
+    cc (count, take-both most (end - at) rest, take-within (min most (end - at)) rest)
 
 -- ---- byte by byte
 
@@ -60,7 +59,7 @@ kept-take text at end n e =
 abbrev pub moved : List ℕ → ℕ → ℕ → List ℕ
 moved text at i = take i (drop at text) ++ drop i text
 
-module _ (text : List ℕ) (at i : ℕ) (h : at + i ≤ length text) where
+module _ (text : List ℕ) (at i : ℕ) (inside : at + i ≤ length text) where
   front : length (take i (drop at text)) ≡ i
   front = length-take-le i (drop at text) (rw (length-drop at text) (omega arith))
 
@@ -76,33 +75,33 @@ module _ (text : List ℕ) (at i : ℕ) (h : at + i ≤ length text) where
         front,
         getD-append-add (take i (drop at text)) (drop i text) at 0,
         getD-drop i text at 0,
-        add-comm i at,
       )
 
 pub moved-more : (text : List ℕ) (at i : ℕ) → at + i < length text
     → set (moved text at i) i (getD text (at + i) 0) ≡ moved text at (i + 1)
 moved-more text at i h =
-    let x : List ℕ = take i (drop at text) in
-    let b : ℕ = getD (drop at text) i 0 in
+    let stored : List ℕ = take i (drop at text) in
+    let byte : ℕ = getD (drop at text) i 0 in
     let inside : i < length (drop at text) = rw (length-drop at text) (omega arith) in
     cc (
       drop-cons text i 0 (omega arith),
-      set-at x (getD text i 0) (drop (suc i) text) (getD text (at + i) 0) i (front text at i (omega arith)),
+      set-at stored (getD text i 0) (drop (suc i) text) (getD text (at + i) 0) i
+          (front text at i (omega arith)),
       getD-drop at text i 0,
-      append-snoc x b (drop (suc i) text),
+      append-snoc stored byte (drop (suc i) text),
       take-suc (drop at text) i 0 inside,
       add-one i,
     )
 
 -- ---- the whole part
 
-module _ (text : List ℕ) (at end n : ℕ) (e : n ≡ min (min end (length text) - at) most) where
+module _ (text : List ℕ) (at end n : ℕ) (is : n ≡ min (min end (length text) - at) most) where
   pub within : at ≤ length text → at + n ≤ length text
   within h = omega arith
 
   long : length (kept text at end) ≡ n
   long =
-      ap length (sym (kept-take text at end n e))
+      ap length (sym (kept-take text at end n is))
       ∙ length-take n (drop at text) ∙ rw (length-drop at text) (omega arith)
 
   pub kept-written : Written (kept text at end) text 0 n (moved text at n)
@@ -112,7 +111,7 @@ module _ (text : List ℕ) (at end n : ℕ) (e : n ≡ min (min end (length text
         fits = rw long (omega arith);
         ends = ends;
         holds =
-            ap (λ (l : List ℕ). l ++ drop n text) (kept-take text at end n e)
+            ap (λ (l : List ℕ). l ++ drop n text) (kept-take text at end n is)
             ∙ ap (λ (k : ℕ). kept text at end ++ drop k text) ends;
       }
 
@@ -126,12 +125,12 @@ too-long text h = rw (lt-leb (length text) 64 h, and-right (leb 3 (length text))
     and-right true = refl
     and-right false = refl
 
--- the start l of a line, cut, and what is read behind it
-pub cut-line : (l t : List ℕ) → lineOf (take most l ++ t) ≡ lineOf (l ++ t)
-cut-line l t =
-    by-test (leb (length l) most)
-    (λ e. rw (take-all most l (leb-true (length l) most e)) refl)
-    (λ e. let h = leb-false (length l) most e in
-    too-long (take most l ++ t)
-    (rw (length-append (take most l) t, length-take-le most l (omega arith)) (omega arith))
-    ∙ sym (too-long (l ++ t) (rw (length-append l t) (omega arith))))
+-- the start of a line, cut, and what is read behind it
+pub cut-line : (start rest : List ℕ) → lineOf (take most start ++ rest) ≡ lineOf (start ++ rest)
+cut-line start rest =
+    by-test (leb (length start) most)
+    (λ t. rw (take-all most start (leb-true (length start) most t)) refl)
+    (λ t. let h = leb-false (length start) most t in
+    too-long (take most start ++ rest)
+    (rw (length-append (take most start) rest, length-take-le most start (omega arith)) (omega arith))
+    ∙ sym (too-long (start ++ rest) (rw (length-append start rest) (omega arith))))

@@ -2,7 +2,7 @@
 -- and the line's end. Counting 20 digits for every number is enough. And how short it can be: 5 bytes behind
 -- the number.
 -- Assumes nothing.
-use Rattle.basics.proofs.Prelude.{[], _∷_, _++_, length, length-append, ℕ, _≤_, arith}
+use Rattle.basics.proofs.Prelude.{[], _∷_, _++_, length, length-append, ℕ, _+_, _≤_, arith}
 use Rattle.message.specs.declared.Pair.{Pair}
 use Rattle.message.specs.Pair.{counter, client, entry}
 use Rattle.refusal.specs.Numbers.{numberOf}
@@ -10,7 +10,8 @@ use Rattle.register.specs.declared.Answer.{Answer}
 use Rattle.register.specs.declared.Answer.the-variants.{Went, Read, Wrote, Spent, Refused}
 use Rattle.script.specs.declared.print.Output.{Output}
 use Rattle.script.specs.declared.print.Output.the-variants.{Set, Unread, Answered}
-use Rattle.script.specs.Numbers.{decimal, hexEntry}
+use Rattle.script.specs.Lines.{newline}
+use Rattle.script.specs.Numbers.{decimal, hexEntry, entryDigits}
 use Rattle.script.specs.Printed.{spaced, pairText, answerText, outputText}
 use Rattle.script.specs.Printed.{behindNumber, printed, longest}
 use Rattle.script.proofs.Digits.{decimal-short, digits-length}
@@ -19,35 +20,42 @@ use Rattle.script.proofs.Digits.{decimal-short, digits-length}
 pub spaced-short : (value : ℕ) → length (spaced value) ≤ 21
 spaced-short value = omega (arith, decimal-short value)
 
-pub two-short : (value w : ℕ) → length (spaced value ++ spaced w) ≤ 42
-two-short value w =
-    rw (length-append (spaced value) (spaced w)) (omega (arith, spaced-short value, spaced-short w))
+two-short : (first second : ℕ) → length (spaced first ++ spaced second) ≤ 42
+two-short first second =
+    rw (length-append (spaced first) (spaced second)) (omega (arith, spaced-short first, spaced-short second))
 
-pub pair-short : (p : Pair) → length (pairText p) ≤ 53
-pair-short p =
-    rw (length-append (spaced (counter p .0) ++ spaced (client p)) (32 ∷ hexEntry (entry p .0)))
-    (omega (arith, two-short (counter p .0) (client p), digits-length 16 10 (entry p .0)))
+pub pair-short : (pair : Pair) → length (pairText pair) ≤ 53
+pair-short pair =
+    rw (length-append (spaced (counter pair .0) ++ spaced (client pair)) (32 ∷ hexEntry (entry pair .0)))
+    (omega (arith, two-short (counter pair .0) (client pair), digits-length 16 entryDigits (entry pair .0)))
 
 -- a word and what it adds have 3 to 58 bytes
-answer-size : (a : Answer) → (3 ≤ length (answerText a)) × (length (answerText a) ≤ 58)
+answer-size : (answer : Answer) → (3 ≤ length (answerText answer)) × (length (answerText answer) ≤ 58)
 answer-size Went = (omega arith, omega arith)
-answer-size (Read p) = (omega arith, omega (arith, pair-short p))
-answer-size (Wrote p) = (omega arith, omega (arith, pair-short p))
+answer-size (Read pair) = (omega arith, omega (arith, pair-short pair))
+answer-size (Wrote pair) = (omega arith, omega (arith, pair-short pair))
 answer-size Spent = (omega arith, omega arith)
-answer-size (Refused r) = (omega arith, omega (arith, spaced-short (numberOf r)))
+answer-size (Refused refusal) = (omega arith, omega (arith, spaced-short (numberOf refusal)))
 
-output-size : (o : Output) → (3 ≤ length (outputText o)) × (length (outputText o) ≤ 58)
+output-size : (output : Output) → (3 ≤ length (outputText output)) × (length (outputText output) ≤ 58)
 output-size Set = (omega arith, omega arith)
 output-size Unread = (omega arith, omega arith)
-output-size (Answered a) = answer-size a
+output-size (Answered answer) = answer-size answer
 
 -- no line is longer
-pub printed-short : (n : ℕ) (o : Output) → length (printed n o) ≤ longest
+pub printed-short : (number : ℕ) (output : Output) → length (printed number output) ≤ longest
 unfolding printed
-printed-short n o =
-    rw (length-append (decimal n) (behindNumber o), length-append (32 ∷ outputText o) (10 ∷ []))
-    (omega (arith, decimal-short n, output-size o .1))
+printed-short number output =
+    rw (
+      length-append (decimal number) (behindNumber output),
+      length-append (32 ∷ outputText output) (newline ∷ []),
+    ) (omega (arith, decimal-short number, output-size output .1))
+
+-- the room for a number
+pub decimal-fits : (value at size : ℕ) → at + 20 ≤ size → at + length (decimal value) ≤ size
+decimal-fits value at size h = omega (arith, decimal-short value)
 
 -- what stands behind the number is no shorter than ` SET` and the line's end
-pub behind-long : (o : Output) → 5 ≤ length (behindNumber o)
-behind-long o = rw (length-append (32 ∷ outputText o) (10 ∷ [])) (omega (arith, output-size o .0))
+pub behind-long : (output : Output) → 5 ≤ length (behindNumber output)
+behind-long output =
+    rw (length-append (32 ∷ outputText output) (newline ∷ [])) (omega (arith, output-size output .0))

@@ -14,16 +14,16 @@ mark-range byte e =
     by-test (eqb byte 48) (λ t. let h = eqb-true byte 48 t in (omega arith, omega arith))
     (λ t. let h = eqb-true byte 49 (rw t at e) in (omega arith, omega arith))
 
-module _ (text : List ℕ) (i : ℕ) (h : i < length text) where
+module _ (text : List ℕ) (i : ℕ) (inside : i < length text) where
   pub all-from : isMark (getD text i 0) ≡ true → allBytes isMark (drop (suc i) text) ≡ true
       → allBytes isMark (drop i text) ≡ true
   unfolding allBytes
-  all-from here rest = rw (drop-cons text i 0 h, here) rest
+  all-from here rest = rw (drop-cons text i 0 inside, here) rest
 
   pub bits-from : (value : ℕ) → value ≡ markBits (drop (suc i) text)
       → (getD text i 0 - 48) + 2 * value ≡ markBits (drop i text)
   unfolding markBits
-  bits-from value e = rw (drop-cons text i 0 h) (ap (λ (n : ℕ). (getD text i 0 - 48) + 2 * n) e)
+  bits-from value e = rw (drop-cons text i 0 inside) (ap (λ (n : ℕ). (getD text i 0 - 48) + 2 * n) e)
 
   pub bits-lt : (value : ℕ) → isMark (getD text i 0) ≡ true → value < 2 ^ (length text - suc i)
       → (getD text i 0 - 48) + 2 * value < 2 ^ (length text - i)

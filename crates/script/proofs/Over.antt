@@ -12,108 +12,110 @@ use lib.Seq.{take-at, drop-append-add, drop-drop}
 use Rattle.script.specs.Writing.{written, Written, Begun}
 use Rattle.script.proofs.Writing.{written-none, written-then, written-front, length-written, keeps}
 
-drop-append : (k : ℕ) (xs ys : List ℕ) → drop k (xs ++ ys) ≡ drop k xs ++ drop (k - length xs) ys
+drop-append : (n : ℕ) (xs ys : List ℕ) → drop n (xs ++ ys) ≡ drop n xs ++ drop (n - length xs) ys
 drop-append zero xs ys = let none : 0 - length xs ≡ 0 = omega arith in rw none
-drop-append (suc k) [] ys = let all : suc k - 0 ≡ suc k = omega arith in rw all
-drop-append (suc k) (x ∷ xs) ys =
-    let less : suc k - suc (length xs) ≡ k - length xs = omega arith in rw less (drop-append k xs ys)
+drop-append (suc n) [] ys = let all : suc n - 0 ≡ suc n = omega arith in rw all
+drop-append (suc n) (x ∷ xs) ys =
+    let less : suc n - suc (length xs) ≡ n - length xs = omega arith in rw less (drop-append n xs ys)
 
 -- two bytes stored
-pub two-written : (out : List ℕ) (at a b : ℕ) → at + 2 ≤ length out
-    → set (set out (at + 1) b) at a ≡ written out at (a ∷ b ∷ [])
-two-written out at a b h =
+pub two-written : (out : List ℕ) (at first second : ℕ) → at + 2 ≤ length out
+    → set (set out (at + 1) second) at first ≡ written out at (first ∷ second ∷ [])
+two-written out at first second h =
     let next : at + 1 ≡ suc at = omega arith in
-    let one : set out (suc at) b ≡ written out (suc at) (b ∷ []) = cc (
+    let one : set out (suc at) second ≡ written out (suc at) (second ∷ []) = cc (
       written-none out (suc (suc at)),
-      written-front out (suc at) [] b (omega arith),
+      written-front out (suc at) [] second (omega arith),
     ) in
-    rw (next, one) (written-front out at (b ∷ []) a (omega arith))
+    rw (next, one) (written-front out at (second ∷ []) first (omega arith))
 
-module _ (out : List ℕ) (p : ℕ) (t u : List ℕ) (h : p + length t ≤ length out) where
+module _ (out : List ℕ) (at : ℕ) (old new : List ℕ) (room : at + length old ≤ length out) where
   -- what is left of the first text
   abbrev rest : List ℕ
-  rest = drop (length u) t
+  rest = drop (length new) old
 
   -- what stands before both
   abbrev head : List ℕ
-  head = take p out
+  head = take at out
 
-  head-length : length head ≡ p
-  head-length = length-take-le p out (omega arith)
+  head-length : length head ≡ at
+  head-length = length-take-le at out (omega arith)
 
-  behind : drop (p + length u) (written out p t) ≡ rest ++ drop (p + length (u ++ rest)) out
+  behind : drop (at + length new) (written out at old) ≡ rest ++ drop (at + length (new ++ rest)) out
   behind =
-      let q : List ℕ = drop (p + length t) out in
-      let more : p + length t + (length u - length t) ≡ p + length (u ++ rest) =
-      rw (length-append u rest, length-drop (length u) t) (omega arith) in
-      ap (λ (l : List ℕ). drop (p + length u) l) (append-assoc head t q)
-      ∙ ap (λ (n : ℕ). drop (n + length u) (head ++ (t ++ q))) (sym head-length)
-      ∙ drop-append-add head (t ++ q) (length u)
-      ∙ drop-append (length u) t q
+      let end : List ℕ = drop (at + length old) out in
+      let more : at + length old + (length new - length old) ≡ at + length (new ++ rest) =
+      rw (length-append new rest, length-drop (length new) old) (omega arith) in
+      ap (λ (l : List ℕ). drop (at + length new) l) (append-assoc head old end)
+      ∙ ap (λ (n : ℕ). drop (n + length new) (head ++ (old ++ end))) (sym head-length)
+      ∙ drop-append-add head (old ++ end) (length new) ∙ drop-append (length new) old end
       ∙ ap (λ (l : List ℕ). rest ++ l)
-      (drop-drop (length u - length t) (p + length t) out ∙ ap (λ (n : ℕ). drop n out) more)
+      (drop-drop (length new - length old) (at + length old) out ∙ ap (λ (n : ℕ). drop n out) more)
 
-  pub written-over : written (written out p t) p u ≡ written out p (u ++ rest)
+  pub written-over : written (written out at old) at new ≡ written out at (new ++ rest)
   written-over =
-      let q : List ℕ = drop (p + length t) out in
-      let q′ : List ℕ = drop (p + length (u ++ rest)) out in
+      let end : List ℕ = drop (at + length old) out in
+      let end′ : List ℕ = drop (at + length (new ++ rest)) out in
       cc (
-        append-assoc head t q,
-        take-at head (t ++ q) p head-length,
+        append-assoc head old end,
+        take-at head (old ++ end) at head-length,
         behind,
-        append-assoc (head ++ u) rest q′,
-        append-assoc head u rest,
+        append-assoc (head ++ new) rest end′,
+        append-assoc head new rest,
       )
 
--- a text written from the end of s on, over t
-pub over : (s t : List ℕ) {u before : List ℕ} {n m r : ℕ} {mid after : List ℕ}
-    → Written (s ++ t) before 0 n mid → m ≡ length s
-    → Written u mid m r after → after ≡ written before 0 (s ++ (u ++ drop (length u) t))
-over s t {u} {before} {n} {m} w e v =
-    let one : length (s ++ t) ≡ length s + length t = length-append s t in
-    let free : length s + length t ≤ length before = omega (arith, w .fits) in
-    let base : List ℕ = written before 0 s in
-    let wide : length base ≡ length before = length-written before 0 s (omega arith) in
-    let at : m ≡ 0 + length s = omega arith in
+-- a text written from the end of `front` on, over `old`
+pub over : (front old : List ℕ) {new before : List ℕ} {at end here last : ℕ} {mid after : List ℕ}
+    → Written (front ++ old) before at end mid → here ≡ at + length front
+    → Written new mid here last after → after ≡ written before at (front ++ (new ++ drop (length new) old))
+over front old {new} {before} {at} {end} {here} first ends second =
+    let one : length (front ++ old) ≡ length front + length old = length-append front old in
+    let free : at + length front + length old ≤ length before = omega (arith, first .fits) in
+    let base : List ℕ = written before at front in
+    let wide : length base ≡ length before = length-written before at front (omega arith) in
     cc (
-      v .holds,
-      w .holds,
-      written-then before 0 s (omega arith) t,
-      at,
-      written-over base (0 + length s) t u (omega arith),
-      written-then before 0 s (omega arith) (u ++ drop (length u) t),
+      second .holds,
+      first .holds,
+      written-then before at front (omega arith) old,
+      ends,
+      written-over base (at + length front) old new (omega arith),
+      written-then before at front (omega arith) (new ++ drop (length new) old),
     )
 
 -- five bytes or more behind a text that was begun: nothing else has changed
-module _ {text before : List ℕ} {m : ℕ} {mid : List ℕ} (b : Begun text before m mid) where
+module _ {text before : List ℕ} {at end : ℕ} {mid : List ℕ} (begun : Begun text before at end mid) where
   pub begun-keeps : length mid ≡ length before
-  begun-keeps = keeps (b .wrote)
+  begun-keeps = keeps (begun .wrote)
 
-  pub then-over : {u : List ℕ} {r : ℕ} {after : List ℕ} → 5 ≤ length u → Written u mid m r after
-      → Written (text ++ u) before 0 r after
-  then-over {u} {r} {after} long v =
-      let sum : length (text ++ u) ≡ length text + length u = length-append text u in
+  pub then-over : {more : List ℕ} {last : ℕ} {after : List ℕ} → 5 ≤ length more
+      → Written more mid end last after → Written (text ++ more) before at last after
+  then-over {more} {last} {after} long rest =
+      let sum : length (text ++ more) ≡ length text + length more = length-append text more in
       let wide : length mid ≡ length before = begun-keeps in
-      let none : drop (length u) (b .more) ≡ [] =
-      drop-of-length-le (b .more) {i = length u} (omega (arith, b .few)) in
-      let all : u ++ drop (length u) (b .more) ≡ u = rw none (append-nil u) in
+      let none : drop (length more) (begun .more) ≡ [] =
+      drop-of-length-le (begun .more) {i = length more} (omega (arith, begun .few)) in
+      let all : more ++ drop (length more) (begun .more) ≡ more = rw none (append-nil more) in
       record {
-        fits = rw sum (omega (arith, v .fits, b .ends));
-        ends = v .ends ∙ rw sum (omega (arith, b .ends));
+        fits = rw sum (omega (arith, rest .fits, begun .ends));
+        ends = rest .ends ∙ rw sum (omega (arith, begun .ends));
         holds =
-            over text (b .more) (b .wrote) (b .ends) v
-            ∙ ap (λ (l : List ℕ). written before 0 (text ++ l)) all;
+            over text (begun .more) (begun .wrote) (begun .ends) rest
+            ∙ ap (λ (l : List ℕ). written before at (text ++ l)) all;
       }
 
+  pub over-keeps : {more : List ℕ} {last : ℕ} {after : List ℕ} → Written more mid end last after
+      → length after ≡ length before
+  over-keeps rest = keeps rest ∙ begun-keeps
+
 -- nothing behind it
-pub begun-alone : {text before : List ℕ} {r : ℕ} {after : List ℕ} → Written text before 0 r after
-    → Begun text before r after
-begun-alone {text} {before} {r} w =
-    let none : r + 0 ≡ r = omega arith in
+pub begun-alone : {text before : List ℕ} {at end : ℕ} {after : List ℕ} → Written text before at end after
+    → Begun text before at end after
+begun-alone {text} {before} {at} {end} alone =
+    let none : end + 0 ≡ end = omega arith in
     record {
       more =
           [];
       few = omega arith;
-      ends = omega (arith, w .ends);
-      wrote = rw (none, append-nil text) w;
+      ends = alone .ends;
+      wrote = rw (none, append-nil text) alone;
     }

@@ -6,20 +6,23 @@ use Rattle.basics.proofs.Prelude.{_≡_, refl, sym, ap, _∙_, subst, List, Opt
 use Rattle.basics.proofs.Prelude.{length-drop, ℕ, zero, suc, _+_, _-_, _≤_, _<_, le-refl, not-suc-le-zero}
 use Rattle.basics.proofs.Prelude.{add-one, arith}
 use Rattle.script.specs.declared.parse.Line.{Line}
+use Rattle.script.specs.declared.parse.Line.the-variants.{Unread}
 use Rattle.script.specs.declared.parse.Number.{Number}
 use Rattle.script.specs.declared.parse.Number.the-variants as number
 use Rattle.script.specs.declared.parse.First.{First}
 use Rattle.script.specs.declared.parse.First.the-variants as first
 use Rattle.script.specs.Numbers.{numberIn}
 use Rattle.script.specs.Lines.{upTo, behind}
-use Rattle.script.specs.Grammar.{numberIs, onNumber, onFirst, startOf, numberThen, numbersThen, Cut}
+use Rattle.script.specs.Grammar.{numberIs, onNumber, onFirst, numberThen, numbersThen, Cut}
 use Rattle.script.proofs.Places.{up-to-take, behind-some, behind-none}
-use lib.Seq.{take-all}
+use lib.Seq.{take-all, drop-drop}
 
--- a reader answered a, which is what it read by the definition
-pub read : {A : Type 0} (is : A → Option ℕ) (f : ℕ → Line) (o : Option ℕ) {r : A} → is r ≡ o → {a : A} → r ≡ a
-    → onNumber (is a) f ≡ onNumber o f
-read is f o means e = ap (λ x. onNumber (is x) f) (sym e) ∙ ap (λ (p : Option ℕ). onNumber p f) means
+-- what a reader answered is what it read by the definition
+pub read : {A : Type 0} (is : A → Option ℕ) (line : ℕ → Line) (told : Option ℕ) {answer : A}
+    → is answer ≡ told → {variant : A} → answer ≡ variant
+    → onNumber (is variant) line ≡ onNumber told line
+read is line told means e =
+    ap (λ x. onNumber (is x) line) (sym e) ∙ ap (λ (number : Option ℕ). onNumber number line) means
 
 -- the text from a place on, as a part of the slice
 pub rest-is : (text : List ℕ) (at : ℕ) → take (length text - at) (drop at text) ≡ drop at text
@@ -28,64 +31,78 @@ rest-is text at =
 
 -- ---- the numbers before the last argument
 
-module _ (x y : ℕ) (text : List ℕ) (f : ℕ → ℕ → List ℕ → Line) where
-  -- none is ahead
-  pub none-ahead : (numbers : ℕ) → numbers ≡ 0 → f x y text ≡ numbersThen numbers x y text f
-  unfolding numbersThen
-  none-ahead numbers e = rw e refl
-
-  -- one is read, and the others behind it
-  one-ahead : (numbers : ℕ) → 0 < numbers
-      → numbersThen numbers x y text f
-      ≡ numberThen text (λ value rest. numbersThen (numbers - 1) y value rest f)
-  unfolding numbersThen
-  one-ahead zero h = absurd (not-suc-le-zero h)
-  one-ahead (suc n) h =
-      let one-less : n ≡ suc n - 1 = omega arith in
-      ap (λ (m : ℕ). numberThen text (λ value rest. numbersThen m y value rest f)) one-less
+-- one is read, and the others behind it
+one-ahead : (numbers earlier later : ℕ) (text : List ℕ) (line : ℕ → ℕ → List ℕ → Line) → 0 < numbers
+    → numberThen text (λ value rest. numbersThen (numbers - 1) later value rest line)
+    ≡ numbersThen numbers earlier later text line
+unfolding numbersThen
+one-ahead zero earlier later text line h = absurd (not-suc-le-zero h)
+one-ahead (suc n) earlier later text line h =
+    let one-less : suc n - 1 ≡ n = omega arith in
+    ap (λ (left : ℕ). numberThen text (λ value rest. numbersThen left later value rest line)) one-less
 
 -- what was read at a place
 module _
-    (text : List ℕ)
-    (at : ℕ)
-    {r : First}
-    (cut : Cut r (take (length text - at) (drop at text)))
-    {a : First}
-    (is : r ≡ a)
+    (text : List ℕ) (at : ℕ) {answer : First} (cut : Cut answer (take (length text - at) (drop at text)))
   where
-    there : Cut a (drop at text)
-    there = subst (λ (x : First). Cut x (drop at text)) is (rw (rest-is text at) at cut)
+    there : (variant : First) → answer ≡ variant → Cut variant (drop at text)
+    there variant is = subst (λ (told : First). Cut told (drop at text)) is (rw (rest-is text at) at cut)
 
-    pub starts-within : at ≤ length text → at + startOf a ≤ length text
-    starts-within h =
-        let inside = there .within in
-        let long = length-drop at text in
-        omega arith
+    pub starts-within : (value next : ℕ) → answer ≡ first.Is value next → at ≤ length text
+        → at + next ≤ length text
+    starts-within value next is h =
+        let inside : next ≤ length (drop at text) = there (first.Is value next) is .within in
+        omega (arith, length-drop at text)
 
-    pub number-read : (numbers x y : ℕ) (f : ℕ → ℕ → List ℕ → Line) → 0 < numbers
-        → onFirst a (drop at text) (λ value rest. numbersThen (numbers - 1) y value rest f)
-        ≡ numbersThen numbers x y (drop at text) f
-    number-read numbers x y f h =
-        there .means (λ value rest. numbersThen (numbers - 1) y value rest f)
-        ∙ sym (one-ahead x y (drop at text) f numbers h)
+    -- of the numbers that make the line, some are left
+    module _
+        (numbers earlier later : ℕ) (line : ℕ → ℕ → List ℕ → Line) (whole : Line)
+        (makes : numbersThen numbers earlier later (drop at text) line ≡ whole) (left : 0 < numbers)
+      where
+        abbrev others : ℕ → List ℕ → Line
+        others value rest = numbersThen (numbers - 1) later value rest line
 
--- the first word of a text ends at e
-module _ (text : List ℕ) (e : ℕ) (ends : e ≡ length (upTo 32 text)) where
+        read-as : (variant : First) → answer ≡ variant → onFirst variant (drop at text) others ≡ whole
+        read-as variant is =
+            there variant is .means others ∙ one-ahead numbers earlier later (drop at text) line left ∙ makes
+
+        pub none-read : answer ≡ first.No → Unread ≡ whole
+        none-read is = read-as first.No is
+
+        pub one-read : (value next : ℕ) → answer ≡ first.Is value next
+            → numbersThen (numbers - 1) later value (drop (at + next) text) line ≡ whole
+        one-read value next is =
+            ap (others value) (sym (drop-drop next at text)) ∙ read-as (first.Is value next) is
+
+-- none is left
+pub all-read : (text : List ℕ) (at numbers earlier later : ℕ) (line : ℕ → ℕ → List ℕ → Line)
+    (whole last : Line) → numbersThen numbers earlier later (drop at text) line ≡ whole → numbers ≤ 0
+    → last ≡ line earlier later (take (length text - at) (drop at text)) → last ≡ whole
+unfolding numbersThen
+all-read text at numbers earlier later line whole last makes none is =
+    let zero : numbers ≡ 0 = omega arith in
+    is ∙ ap (line earlier later) (rest-is text at) ∙ (rw zero at makes)
+
+-- the first word of a text ends at a place
+module _ (text : List ℕ) (end : ℕ) (ends : end ≡ length (upTo 32 text)) where
   -- at the text's end: there is no blank
-  pub cut-none : length text ≤ e → Cut first.No text
-  cut-none h = record { within = omega arith; means = λ f. rw (behind-none 32 text (omega arith)) refl }
+  pub cut-none : length text ≤ end → Cut first.No text
+  cut-none h = record { within = omega arith; means = λ line. rw (behind-none 32 text (omega arith)) refl }
 
-  module _ (inside : e < length text) (r : Number) (means : numberIs r ≡ numberIn (take e text)) where
-    -- behind the blank stands the rest, and the number is that of the first word
-    split : (f : ℕ → List ℕ → Line) → numberThen text f ≡ onNumber (numberIs r) (λ v. f v (drop (e + 1) text))
-    split f =
-        let word : take e text ≡ upTo 32 text = rw ends (up-to-take 32 text) in
-        let rest : behind 32 text ≡ some (drop (e + 1) text) =
-        rw (ends, add-one) (behind-some 32 text (omega arith)) in
-        rw (rest, ← word, ← means) refl
+  module _
+      (inside : end < length text) (answer : Number) (means : numberIs answer ≡ numberIn (take end text))
+    where
+      -- behind the blank stands the rest, and the number is that of the first word
+      split : (line : ℕ → List ℕ → Line)
+          → numberThen text line ≡ onNumber (numberIs answer) (λ value. line value (drop (end + 1) text))
+      split line =
+          let word : take end text ≡ upTo 32 text = rw ends (up-to-take 32 text) in
+          let rest : behind 32 text ≡ some (drop (end + 1) text) =
+          rw (ends, add-one) (behind-some 32 text (omega arith)) in
+          rw (rest, ← word, ← means) refl
 
-    pub cut-at : (v : ℕ) → r ≡ number.Is v → Cut (first.Is v (e + 1)) text
-    cut-at v is = record { within = omega arith; means = λ f. sym (split f ∙ rw is refl) }
+      pub cut-at : (value : ℕ) → answer ≡ number.Is value → Cut (first.Is value (end + 1)) text
+      cut-at value is = record { within = omega arith; means = λ line. sym (split line ∙ rw is refl) }
 
-    pub cut-no-number : r ≡ number.No → Cut first.No text
-    cut-no-number is = record { within = omega arith; means = λ f. sym (split f ∙ rw is refl) }
+      pub cut-no-number : answer ≡ number.No → Cut first.No text
+      cut-no-number is = record { within = omega arith; means = λ line. sym (split line ∙ rw is refl) }

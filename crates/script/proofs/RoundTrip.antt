@@ -14,7 +14,8 @@ use native.Mathlib.Nat.{mul-assoc, add-assoc, lt-of-lt-of-le, mul-pos}
 use lib.Arith.{mod-mul}
 use lib.Dec.{lit≤}
 use Rattle.basics.proofs.Cases.{by-test, both-of}
-use Rattle.script.specs.Numbers.{isDigit, isHexDigit, digitValue, hexValue, hexDigit, allBytes}
+use Rattle.basics.specs.Digits.{hexDigit}
+use Rattle.script.specs.Numbers.{isDigit, isHexDigit, digitValue, hexValue, allBytes, entryDigits}
 use Rattle.script.specs.Numbers.{valueFrom, numberIn, hexIn, digitsOf, digitCount, decimal, hexEntry}
 use Rattle.script.proofs.Digits.{digits-length, tenth-lt, count-few, count-some}
 
@@ -51,23 +52,24 @@ module _ (base : ℕ) (some-base : 0 < base) where
   pos zero = rw (pow-zero base) (omega arith)
   pos (suc n) = rw (pow-suc base n) (mul-pos (pos n) some-base)
 
-  all-back : (p : ℕ → Bool) → ((d : ℕ) → d < base → p (hexDigit d) ≡ true) → (n value : ℕ)
-      → allBytes p (digitsOf base n value) ≡ true
+  all-back : (test : ℕ → Bool) → ((d : ℕ) → d < base → test (hexDigit d) ≡ true) → (n value : ℕ)
+      → allBytes test (digitsOf base n value) ≡ true
   unfolding allBytes digitsOf
-  all-back p each zero value = refl
-  all-back p each (suc n) value =
-      both-of (p (hexDigit (value / base ^ n % base))) (allBytes p (digitsOf base n value))
-      (each (value / base ^ n % base) (mod-lt (value / base ^ n) some-base)) (all-back p each n value)
+  all-back test each zero value = refl
+  all-back test each (suc n) value =
+      both-of (test (hexDigit (value / base ^ n % base))) (allBytes test (digitsOf base n value))
+      (each (value / base ^ n % base) (mod-lt (value / base ^ n) some-base)) (all-back test each n value)
 
   value-back : (digit : ℕ → ℕ) → ((d : ℕ) → d < base → digit (hexDigit d) ≡ d)
-      → (n a value : ℕ) → valueFrom digit base a (digitsOf base n value) ≡ a * base ^ n + value % base ^ n
+      → (n number value : ℕ)
+      → valueFrom digit base number (digitsOf base n value) ≡ number * base ^ n + value % base ^ n
   unfolding valueFrom digitsOf
-  value-back digit each zero a value = rw (pow-zero base) (omega arith)
-  value-back digit each (suc n) a value =
+  value-back digit each zero number value = rw (pow-zero base) (omega arith)
+  value-back digit each (suc n) number value =
       let d : ℕ = value / base ^ n % base in
-      ap (λ (x : ℕ). valueFrom digit base (a * base + x) (digitsOf base n value))
+      ap (λ (x : ℕ). valueFrom digit base (number * base + x) (digitsOf base n value))
       (each d (mod-lt (value / base ^ n) some-base))
-      ∙ value-back digit each n (a * base + d) value
+      ∙ value-back digit each n (number * base + d) value
       ∙ rw (pow-succ' base n, mod-mul value {m = base} {c = base ^ n} some-base (pos n))
       (simp (add-mul, mul-assoc, add-assoc))
 
@@ -133,5 +135,5 @@ hex-back n value h =
     )
     refl
 
-pub entry-back : (value : ℕ) → value < 2 ^ 40 → hexIn 10 (hexEntry value) ≡ some value
-entry-back value h = hex-back 10 value h
+pub entry-back : (value : ℕ) → value < 2 ^ 40 → hexIn entryDigits (hexEntry value) ≡ some value
+entry-back value h = hex-back entryDigits value h

@@ -13,9 +13,10 @@ use Rattle.script.specs.declared.parse.First.the-variants as first
 use Rattle.script.specs.Numbers.{isDigit, allBytes, numberIn}
 use Rattle.script.specs.Next.{shortWord, shortValue, Short, IsShort}
 
-word-number : (a b : ℕ) → isDigit a ≡ true → numberIn (shortWord a b) ≡ some (shortValue a b)
+word-number : (byte second : ℕ) → isDigit byte ≡ true
+    → numberIn (shortWord byte second) ≡ some (shortValue byte second)
 unfolding numberIn allBytes
-word-number a b e = by-test (isDigit b) (λ t. rw (t, e, t) refl) (λ t. rw (t, e) refl)
+word-number byte second e = by-test (isDigit second) (λ two. rw (two, e, two) refl) (λ two. rw (two, e) refl)
 
 -- a byte more, if the test holds
 pub more-le : (t : Bool) → boolByte t ≤ 1
@@ -31,57 +32,56 @@ module _
     (room : at + 3 ≤ length text)
     (digit : isDigit (getD text at 0) ≡ true)
   where
-    abbrev a : ℕ
-    a = getD text at 0
+    abbrev byte : ℕ
+    byte = getD text at 0
 
-    abbrev b : ℕ
-    b = getD text (at + 1) 0
+    abbrev second : ℕ
+    second = getD text (at + 1) 0
 
-    -- t says whether the second byte is a digit too
-    word-length : (t : Bool) → t ≡ isDigit b → length (shortWord a b) ≡ 1 + boolByte t
+    -- `two` says whether the second byte is a digit too
+    word-length : (two : Bool) → two ≡ isDigit second → length (shortWord byte second) ≡ 1 + boolByte two
     word-length true e = rw (← e) refl
     word-length false e = rw (← e) refl
 
-    word-bytes : (t : Bool) → t ≡ isDigit b → getD text (at + 1 + boolByte t) 0 ≡ mark
-        → drop at text ≡ shortWord a b ++ mark ∷ drop (at + 1 + boolByte t + 1) text
+    word-bytes : (two : Bool) → two ≡ isDigit second → getD text (at + 1 + boolByte two) 0 ≡ mark
+        → drop at text ≡ shortWord byte second ++ mark ∷ drop (at + 1 + boolByte two + 1) text
     word-bytes true e is =
         rw (← e)
         (one-byte text at (omega arith)
-        ∙ ap (λ (l : List ℕ). a ∷ l) (one-byte text (at + 1) (omega arith))
-        ∙ ap (λ (l : List ℕ). a ∷ b ∷ l) (one-byte text (at + 1 + 1) (omega arith))
-        ∙ ap (λ (n : ℕ). a ∷ b ∷ n ∷ drop (at + 1 + 1 + 1) text) is)
+        ∙ ap (λ (rest : List ℕ). byte ∷ rest) (one-byte text (at + 1) (omega arith))
+        ∙ ap (λ (rest : List ℕ). byte ∷ second ∷ rest) (one-byte text (at + 1 + 1) (omega arith))
+        ∙ ap (λ (n : ℕ). byte ∷ second ∷ n ∷ drop (at + 1 + 1 + 1) text) is)
     word-bytes false e is =
         let here : at + 1 ≡ at + 1 + 0 = omega arith in
         rw (← e)
         (one-byte text at (omega arith)
-        ∙ ap (λ (n : ℕ). a ∷ drop n text) here
-        ∙ ap (λ (l : List ℕ). a ∷ l) (one-byte text (at + 1 + 0) (omega arith))
-        ∙ ap (λ (n : ℕ). a ∷ n ∷ drop (at + 1 + 0 + 1) text) is)
+        ∙ ap (λ (n : ℕ). byte ∷ drop n text) here
+        ∙ ap (λ (rest : List ℕ). byte ∷ rest) (one-byte text (at + 1 + 0) (omega arith))
+        ∙ ap (λ (n : ℕ). byte ∷ n ∷ drop (at + 1 + 0 + 1) text) is)
 
-    pub short-is : (t : Bool) → t ≡ isDigit b → getD text (at + 1 + boolByte t) 0 ≡ mark → (v : ℕ)
-        → v ≡ shortValue a b
-        → Short text at mark v (at + 1 + boolByte t + 1)
-    short-is t e is v value =
-        let long = word-length t e in
-        let few = more-le t in
+    pub short-is : (two : Bool) → two ≡ isDigit second → getD text (at + 1 + boolByte two) 0 ≡ mark
+        → (value : ℕ) → value ≡ shortValue byte second
+        → Short text at mark value (at + 1 + boolByte two + 1)
+    short-is two e is value is-value =
+        let long = word-length two e in
+        let few = more-le two in
         record {
-          word = shortWord a b;
+          word = shortWord byte second;
           few = omega arith;
-          number = word-number a b digit ∙ ap some (sym value);
-          bytes = word-bytes t e is;
+          number = word-number byte second digit ∙ ap some (sym is-value);
+          bytes = word-bytes two e is;
           behind = omega arith;
         }
 
 -- ---- what the reader answered
 
-pub short-of : (text : List ℕ) (at mark : ℕ) (r : First) → IsShort r text at mark → (v next : ℕ)
-    → r ≡ first.Is v next
-    → Short text at mark v next
-short-of text at mark r h v next e = rw e at h
+pub short-of : (text : List ℕ) (at mark : ℕ) (answer : First) → IsShort answer text at mark → (value next : ℕ)
+    → answer ≡ first.Is value next → Short text at mark value next
+short-of text at mark answer short value next e = rw e at short
 
-module _ {text : List ℕ} {at mark v next : ℕ} (h : Short text at mark v next) where
+module _ {text : List ℕ} {at mark value next : ℕ} (short : Short text at mark value next) where
   pub next-some : 1 ≤ next
-  next-some = omega (arith, h .behind)
+  next-some = omega (arith, short .behind)
 
   pub next-most : next ≤ at + 3
-  next-most = omega (arith, h .behind, h .few)
+  next-most = omega (arith, short .behind, short .few)

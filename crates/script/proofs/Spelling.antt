@@ -7,7 +7,8 @@ use Rattle.basics.proofs.Prelude.{_≡_, refl, true, List, [], _∷_, some, len
 use Rattle.basics.proofs.Prelude.{_^_, arith, lt-ltb, le-ltb}
 use lib.Arith.{digits-div, digits-mod}
 use Rattle.basics.proofs.Cases.{by-test, both}
-use Rattle.script.specs.Numbers.{isDigit, isHexDigit, hexValue, hexDigit, allBytes, valueFrom, hexIn}
+use Rattle.basics.specs.Digits.{hexDigit}
+use Rattle.script.specs.Numbers.{isDigit, isHexDigit, hexValue, allBytes, valueFrom, hexIn}
 use Rattle.script.specs.Numbers.{digitsOf}
 use Rattle.script.proofs.Halves.{value-behind, digits-below, hex-value}
 use Rattle.script.proofs.Texts.{hex-lt, range}
@@ -20,25 +21,25 @@ digit-of-value byte e =
     (λ t. let h = range 65 70 byte (rw t at e) .0 in rw (t, le-ltb (byte - 55) 10 (omega arith))
     (omega arith))
 
-digits-back : (a : ℕ) (text : List ℕ) → allBytes isHexDigit text ≡ true
-    → digitsOf 16 (length text) (valueFrom hexValue 16 a text) ≡ text
+digits-back : (number : ℕ) (text : List ℕ) → allBytes isHexDigit text ≡ true
+    → digitsOf 16 (length text) (valueFrom hexValue 16 number text) ≡ text
 unfolding allBytes valueFrom digitsOf
-digits-back a [] e = refl
-digits-back a (byte ∷ text) e =
-    let p = both (isHexDigit byte) (allBytes isHexDigit text) e in
-    let value : ℕ = valueFrom hexValue 16 (a * 16 + hexValue byte) text in
-    let q : value / 16 ^ length text ≡ a * 16 + hexValue byte =
+digits-back number [] e = refl
+digits-back number (byte ∷ text) e =
+    let parts = both (isHexDigit byte) (allBytes isHexDigit text) e in
+    let value : ℕ = valueFrom hexValue 16 (number * 16 + hexValue byte) text in
+    let above : value / 16 ^ length text ≡ number * 16 + hexValue byte =
     cc (
-      value-behind hexValue 16 (a * 16 + hexValue byte) text,
-      digits-div (a * 16 + hexValue byte) (digits-below text (p .1)),
+      value-behind hexValue 16 (number * 16 + hexValue byte) text,
+      digits-div (number * 16 + hexValue byte) (digits-below text (parts .1)),
     ) in
-    let d : value / 16 ^ length text % 16 ≡ hexValue byte = cc (
-      q,
-      digits-mod a (hex-lt byte (p .0)),
+    let digit : value / 16 ^ length text % 16 ≡ hexValue byte = cc (
+      above,
+      digits-mod number (hex-lt byte (parts .0)),
     ) in
-    cc (d, digit-of-value byte (p .0), digits-back (a * 16 + hexValue byte) text (p .1))
+    cc (digit, digit-of-value byte (parts .0), digits-back (number * 16 + hexValue byte) text (parts .1))
 
--- n hexadecimal digits that are the number v are its digits
+-- n hexadecimal digits that are a number are its digits
 pub hex-spelt : (n : ℕ) (text : List ℕ) (value : ℕ) → hexIn n text ≡ some value → digitsOf 16 n value ≡ text
 hex-spelt n text value e =
     let is = hex-value n text value e in

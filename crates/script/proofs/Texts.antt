@@ -13,35 +13,36 @@ use lib.Seq.{take-suc}
 use Rattle.basics.proofs.Cases.{by-test, both, true-or-false}
 use Rattle.script.specs.Numbers.{allBytes, valueFrom, isDigit, isHexDigit, hexValue}
 
-pub all-append : (p : ℕ → Bool) (xs ys : List ℕ) → allBytes p (xs ++ ys) ≡ allBytes p xs && allBytes p ys
+pub all-append : (test : ℕ → Bool) (xs ys : List ℕ)
+    → allBytes test (xs ++ ys) ≡ allBytes test xs && allBytes test ys
 unfolding allBytes
-all-append p [] ys = refl
-all-append p (byte ∷ xs) ys =
-    cc (all-append p xs ys, and-assoc (p byte) (allBytes p xs) (allBytes p ys))
+all-append test [] ys = refl
+all-append test (byte ∷ xs) ys =
+    cc (all-append test xs ys, and-assoc (test byte) (allBytes test xs) (allBytes test ys))
 
-pub value-append : (digit : ℕ → ℕ) (base a : ℕ) (xs ys : List ℕ)
-    → valueFrom digit base a (xs ++ ys) ≡ valueFrom digit base (valueFrom digit base a xs) ys
+pub value-append : (digit : ℕ → ℕ) (base number : ℕ) (xs ys : List ℕ)
+    → valueFrom digit base number (xs ++ ys) ≡ valueFrom digit base (valueFrom digit base number xs) ys
 unfolding valueFrom
-value-append digit base a [] ys = refl
-value-append digit base a (byte ∷ xs) ys = value-append digit base (a * base + digit byte) xs ys
+value-append digit base number [] ys = refl
+value-append digit base number (byte ∷ xs) ys = value-append digit base (number * base + digit byte) xs ys
 
-module _ (text : List ℕ) (i : ℕ) (h : i < length text) where
+module _ (text : List ℕ) (i : ℕ) (inside : i < length text) where
   longer : take (i + 1) text ≡ take i text ++ getD text i 0 ∷ []
-  longer = rw (add-one i) (take-suc text i 0 h)
+  longer = rw (add-one i) (take-suc text i 0 inside)
 
   -- the first i + 1 bytes pass a test: the first i do, and the next
-  pub all-next : (p : ℕ → Bool)
-      → allBytes p (take (i + 1) text) ≡ allBytes p (take i text) && p (getD text i 0)
+  pub all-next : (test : ℕ → Bool)
+      → allBytes test (take (i + 1) text) ≡ allBytes test (take i text) && test (getD text i 0)
   unfolding allBytes
-  all-next p =
+  all-next test =
       let here : ℕ = getD text i 0 in
       rw longer
-      (all-append p (take i text) (here ∷ [])
-      ∙ ap (λ (t : Bool). allBytes p (take i text) && t) (and-true (p here)))
+      (all-append test (take i text) (here ∷ [])
+      ∙ ap (λ (passes : Bool). allBytes test (take i text) && passes) (and-true (test here)))
 
-  pub all-longer : (p : ℕ → Bool) → allBytes p (take i text) ≡ true → p (getD text i 0) ≡ true
-      → allBytes p (take (i + 1) text) ≡ true
-  all-longer p before here = all-next p ∙ cc
+  pub all-longer : (test : ℕ → Bool) → allBytes test (take i text) ≡ true → test (getD text i 0) ≡ true
+      → allBytes test (take (i + 1) text) ≡ true
+  all-longer test before here = all-next test ∙ cc
 
   -- the value of the first i + 1 digits
   pub value-longer : (digit : ℕ → ℕ) (base value : ℕ) → value ≡ valueFrom digit base 0 (take i text)
@@ -51,9 +52,9 @@ module _ (text : List ℕ) (i : ℕ) (h : i < length text) where
       cc (e, value-append digit base 0 (take i text) (getD text i 0 ∷ []), longer)
 
 -- digits to a base of at most 16: i of them are a number below 2 ^ 4i
-pub digits-lt : (value base d i : ℕ) → value < 2 ^ (4 * i) → base ≤ 16 → d < 16
-    → value * base + d < 2 ^ (4 * (i + 1))
-digits-lt value base d i h few e =
+pub digits-lt : (value base digit i : ℕ) → value < 2 ^ (4 * i) → base ≤ 16 → digit < 16
+    → value * base + digit < 2 ^ (4 * (i + 1))
+digits-lt value base digit i h few e =
     let fits : value * base ≤ value * 16 = mul-le-mul-left value few in
     let next : 2 ^ (4 * (i + 1)) ≡ 2 ^ (4 * i) * 2 ^ 4 = rw (mul-add 4 i 1) (pow-add 2 (4 * i) 4) in
     rw next (omega arith)
@@ -63,13 +64,13 @@ pub fits-more : (value i n : ℕ) → value < 2 ^ i → i ≤ n → value < 2 ^ 
 fits-more value i n h le = lt-of-lt-of-le h (pow-mono le)
 
 -- a byte that fails the test is in the text
-pub all-fails : (p : ℕ → Bool) (text : List ℕ) (i : ℕ) → i < length text → p (getD text i 0) ≡ false
-    → allBytes p text ≡ false
+pub all-fails : (test : ℕ → Bool) (text : List ℕ) (i : ℕ) → i < length text → test (getD text i 0) ≡ false
+    → allBytes test text ≡ false
 unfolding allBytes
-all-fails p [] i h e = absurd (not-suc-le-zero h)
-all-fails p (byte ∷ text) zero h e = rw e refl
-all-fails p (byte ∷ text) (suc i) h e =
-    by-test (p byte) (λ t. rw t (all-fails p text i (le-of-suc-le-suc h) e)) (λ t. rw t refl)
+all-fails test [] i h e = absurd (not-suc-le-zero h)
+all-fails test (byte ∷ text) zero h e = rw e refl
+all-fails test (byte ∷ text) (suc i) h e =
+    by-test (test byte) (λ t. rw t (all-fails test text i (le-of-suc-le-suc h) e)) (λ t. rw t refl)
 
 -- a text of 1 to n bytes
 pub sized : (text : List ℕ) (n : ℕ) → 1 ≤ length text → length text ≤ n
@@ -87,12 +88,12 @@ hex-lt byte e =
     by-test (isDigit byte) (λ t. rw t (omega (arith, range 48 57 byte t .1)))
     (λ t. let l = rw t at e in rw t (omega (arith, range 65 70 byte l .1)))
 
--- a byte as `hex_digit` reads it, its value or 16: what is below 16 was a digit, and is its value
-pub hex-told : (byte d : ℕ) → d ≡ cond (isHexDigit byte) (hexValue byte) 16
-    → (ltb d 16 ≡ isHexDigit byte) × (isHexDigit byte ≡ true → d % 16 ≡ hexValue byte)
-hex-told byte d is =
+-- a byte as `hex_value` reads it, its value or 16: what is below 16 was a digit, and is its value
+pub hex-told : (byte digit : ℕ) → digit ≡ cond (isHexDigit byte) (hexValue byte) 16
+    → (ltb digit 16 ≡ isHexDigit byte) × (isHexDigit byte ≡ true → digit % 16 ≡ hexValue byte)
+hex-told byte digit is =
     by-test (isHexDigit byte)
     (λ t. let h = hex-lt byte t in
-    let e : d ≡ hexValue byte = is ∙ rw t refl in
+    let e : digit ≡ hexValue byte = is ∙ rw t refl in
     (rw (e, t) (lt-ltb (hexValue byte) 16 h), λ _. rw e (omega arith)))
     (λ t. (rw (is, t) refl, λ u. absurd (true-or-false (isHexDigit byte) u t)))

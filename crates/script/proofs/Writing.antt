@@ -1,8 +1,7 @@
 -- Texts written into a buffer, one behind the other.
 --
--- The buffer keeps its length (`keeps`), so what is written next has the room that is left (`room`); two
--- texts written one behind the other are their join written at once (`then`); a byte stored right before a
--- text makes it longer (`written-front`).
+-- The buffer keeps its length (`keeps`); two texts written one behind the other are their join written at
+-- once (`then`); a byte stored right before a text makes it longer (`written-front`).
 -- Assumes nothing.
 use Rattle.basics.proofs.Prelude.{_≡_, sym, ap, _∙_, subst, List, [], _∷_, _++_, append-assoc, length, getD}
 use Rattle.basics.proofs.Prelude.{set, take, drop, length-append, length-drop, length-take-le, ℕ, suc, _+_}
@@ -15,80 +14,78 @@ use Rattle.script.specs.Writing.{written, Written}
 pub written-none : (out : List ℕ) (at : ℕ) → out ≡ written out at []
 written-none out at = paste-zero out at []
 
-module _ (out : List ℕ) (at : ℕ) (s : List ℕ) (h : at + length s ≤ length out) where
+module _ (out : List ℕ) (at : ℕ) (text : List ℕ) (room : at + length text ≤ length out) where
   -- what stands before the end of the text
-  head-length : length (take at out ++ s) ≡ at + length s
+  head-length : length (take at out ++ text) ≡ at + length text
   head-length =
-      length-append (take at out) s ∙ ap (λ (n : ℕ). n + length s) (length-take-le at out (omega arith))
+      length-append (take at out) text ∙ ap (λ (n : ℕ). n + length text) (length-take-le at out (omega arith))
 
-  pub length-written : length (written out at s) ≡ length out
+  pub length-written : length (written out at text) ≡ length out
   length-written =
-      length-append (take at out ++ s) (drop (at + length s) out)
-      ∙ rw (head-length, length-drop (at + length s) out) (omega arith)
+      length-append (take at out ++ text) (drop (at + length text) out)
+      ∙ rw (head-length, length-drop (at + length text) out) (omega arith)
 
   -- a text behind it
-  pub written-then : (t : List ℕ) → written (written out at s) (at + length s) t ≡ written out at (s ++ t)
-  written-then t =
-      let h : List ℕ = take at out ++ s in
-      let q : List ℕ = drop (at + length s) out in
+  pub written-then : (more : List ℕ)
+      → written (written out at text) (at + length text) more ≡ written out at (text ++ more)
+  written-then more =
+      let front : List ℕ = take at out ++ text in
+      let behind : List ℕ = drop (at + length text) out in
       cc (
-        take-at h q (at + length s) head-length,
+        take-at front behind (at + length text) head-length,
         head-length,
-        drop-append-add h q (length t),
-        drop-drop (length t) (at + length s) out,
-        append-assoc (take at out) s t,
-        add-assoc at (length s) (length t),
-        length-append s t,
+        drop-append-add front behind (length more),
+        drop-drop (length more) (at + length text) out,
+        append-assoc (take at out) text more,
+        add-assoc at (length text) (length more),
+        length-append text more,
       )
 
 -- a byte right before it
-pub written-front : (out : List ℕ) (at : ℕ) (t : List ℕ) (d : ℕ) → at < length out
-    → set (written out (suc at) t) at d ≡ written out at (d ∷ t)
-written-front out at t d h =
-    let q : List ℕ = drop (suc at + length t) out in
-    let b : ℕ = getD out at 0 in
-    let split : take (suc at) out ++ t ++ q ≡ take at out ++ b ∷ (t ++ q) =
+pub written-front : (out : List ℕ) (at : ℕ) (text : List ℕ) (byte : ℕ) → at < length out
+    → set (written out (suc at) text) at byte ≡ written out at (byte ∷ text)
+written-front out at text byte h =
+    let behind : List ℕ = drop (suc at + length text) out in
+    let old : ℕ = getD out at 0 in
+    let split : take (suc at) out ++ text ++ behind ≡ take at out ++ old ∷ (text ++ behind) =
     cc (
-      append-assoc (take (suc at) out) t q,
+      append-assoc (take (suc at) out) text behind,
       take-suc out at 0 h,
-      append-assoc (take at out) (b ∷ []) (t ++ q),
+      append-assoc (take at out) (old ∷ []) (text ++ behind),
     ) in
     cc (
       split,
-      set-at (take at out) b (t ++ q) d at (length-take-le at out (omega arith)),
-      append-assoc (take at out) (d ∷ t) q,
-      suc-add at (length t),
-      add-suc at (length t),
+      set-at (take at out) old (text ++ behind) byte at (length-take-le at out (omega arith)),
+      append-assoc (take at out) (byte ∷ text) behind,
+      suc-add at (length text),
+      add-suc at (length text),
     )
 
-module _ {s before : List ℕ} {at m : ℕ} {mid : List ℕ} (w : Written s before at m mid) where
+module _ {text before : List ℕ} {at end : ℕ} {mid : List ℕ} (first : Written text before at end mid) where
   pub keeps : length mid ≡ length before
-  keeps = ap length (w .holds) ∙ length-written before at s (w .fits)
+  keeps = ap length (first .holds) ∙ length-written before at text (first .fits)
 
-  -- k bytes more are free where the text was shorter than n
-  pub room : (n k : ℕ) → length s ≤ n → at + (n + k) ≤ length before → m + k ≤ length mid
-  room n k few free = rw (keeps, w .ends) (omega arith)
-
-  pub then : {t : List ℕ} {r : ℕ} {after : List ℕ} → Written t mid m r after
-      → Written (s ++ t) before at r after
-  then {t} {r} {after} u =
-      let long : length (s ++ t) ≡ length s + length t = length-append s t in
-      let free : m + length t ≤ length mid = u .fits in
-      let e : m ≡ at + length s = w .ends in
-      let n : length mid ≡ length before = keeps in
+  pub then : {more : List ℕ} {last : ℕ} {after : List ℕ} → Written more mid end last after
+      → Written (text ++ more) before at last after
+  then {more} {last} {after} second =
+      let long : length (text ++ more) ≡ length text + length more = length-append text more in
+      let free : end + length more ≤ length mid = second .fits in
+      let ends : end ≡ at + length text = first .ends in
+      let wide : length mid ≡ length before = keeps in
       record {
         fits = rw long (omega arith);
-        ends = u .ends ∙ rw long (omega arith);
+        ends = second .ends ∙ rw long (omega arith);
         holds =
-            u .holds ∙ ap (λ (l : List ℕ). written l m t) (w .holds)
-            ∙ ap (λ (n : ℕ). written (written before at s) n t) e ∙ written-then before at s (w .fits) t;
+            second .holds ∙ ap (λ (l : List ℕ). written l end more) (first .holds)
+            ∙ ap (λ (n : ℕ). written (written before at text) n more) ends
+            ∙ written-then before at text (first .fits) more;
       }
 
   -- the same text by another name
-  pub reads : (t : List ℕ) → s ≡ t → Written t before at m mid
-  reads t e = subst (λ (l : List ℕ). Written l before at m mid) e w
+  pub reads : (other : List ℕ) → text ≡ other → Written other before at end mid
+  reads other same = subst (λ (bytes : List ℕ). Written bytes before at end mid) same first
 
 -- the text of the same thing by another name
-pub named : {A : Type 0} (text : A → List ℕ) {a b : A} {before : List ℕ} {at r : ℕ} {after : List ℕ}
-    → a ≡ b → Written (text b) before at r after → Written (text a) before at r after
-named text {a = a} e w = reads w (text a) (ap text (sym e))
+pub named : {A : Type 0} (text : A → List ℕ) {one other : A} {before : List ℕ} {at end : ℕ} {after : List ℕ}
+    → one ≡ other → Written (text other) before at end after → Written (text one) before at end after
+named text {one = one} same writing = reads writing (text one) (ap text (sym same))

@@ -13,6 +13,7 @@ use mathlib.Core.Option.{Option, none, some}
 use lib.Dec.{leb, eqb}
 use lib.ListN.{length, getD, drop}
 use Rattle.message.specs.Layout.{words}
+use Rattle.register.specs.Settings.{mostServers}
 use Rattle.register.specs.declared.Step.the-variants.{R, W, K, D, C, L}
 use Rattle.script.specs.declared.parse.Line.{Line}
 use Rattle.script.specs.declared.parse.Line.the-variants.{Setup, Do, Unread}
@@ -20,27 +21,27 @@ use Rattle.script.specs.declared.parse.Number.{Number}
 use Rattle.script.specs.declared.parse.Hex.{Hex}
 use Rattle.script.specs.declared.parse.First.{First}
 use Rattle.script.specs.Lines.{upTo, behind, lineBytes}
-use Rattle.script.specs.Numbers.{digitValue, allBytes, numberIn, hexIn}
+use Rattle.script.specs.Numbers.{digitValue, allBytes, numberIn, hexIn, entryDigits, messageDigits}
 
 -- a text that is one number, and what follows from its value
 abbrev pub onNumber : Option ℕ → (ℕ → Line) → Line
-onNumber none f = Unread
-onNumber (some value) f = f value
+onNumber none line = Unread
+onNumber (some value) line = line value
 
 abbrev pub onRest : Option (List ℕ) → (List ℕ → Line) → Line
-onRest none f = Unread
-onRest (some rest) f = f rest
+onRest none line = Unread
+onRest (some rest) line = line rest
 
 -- a number, a blank, and what follows from its value and the rest
 abbrev pub numberThen : List ℕ → (ℕ → List ℕ → Line) → Line
-numberThen text f =
+numberThen text line =
     onRest (behind (code " ") text)
-    (λ rest. onNumber (numberIn (upTo (code " ") text)) (λ value. f value rest))
+    (λ rest. onNumber (numberIn (upTo (code " ") text)) (λ value. line value rest))
 
 -- n numbers, each with a blank behind it, and what follows from the last two and the rest
 unfoldable pub numbersThen : ℕ → ℕ → ℕ → List ℕ → (ℕ → ℕ → List ℕ → Line) → Line
-numbersThen zero earlier later text f = f earlier later text
-numbersThen (suc n) earlier later text f = numberThen text (λ value rest. numbersThen n later value rest f)
+numbersThen zero earlier later text line = line earlier later text
+numbersThen (suc n) _ later text line = numberThen text (λ value rest. numbersThen n later value rest line)
 
 -- marks are 1 to 13 digits 0 or 1, the first that of server 1; as a number, server k's mark is bit k - 1
 abbrev pub isMark : ℕ → Bool
@@ -52,7 +53,8 @@ markBits (byte ∷ rest) = digitValue byte + 2 * markBits rest
 
 unfoldable pub marksIn : List ℕ → Option ℕ
 marksIn text =
-    cond (leb 1 (length text) && leb (length text) 13 && allBytes isMark text) (some (markBits text)) none
+    cond (leb 1 (length text) && leb (length text) mostServers && allBytes isMark text)
+    (some (markBits text)) none
 
 -- the last argument, and what the line says: a number, behind earlier if there is a number before it
 abbrev pub numberLine : ℕ → ℕ → ℕ → Line
@@ -67,10 +69,10 @@ numberAfter letter earlier text = onNumber (numberIn text) (numberLine letter ea
 
 -- an entry behind a client, a message behind a server and a client, marks behind f and the number of clients
 abbrev pub entryAfter : ℕ → List ℕ → Line
-entryAfter d text = onNumber (hexIn 10 text) (λ value. Do (W d (record { 0 = value })))
+entryAfter d text = onNumber (hexIn entryDigits text) (λ value. Do (W d (record { 0 = value })))
 
 abbrev pub messageAfter : ℕ → ℕ → List ℕ → Line
-messageAfter k d text = onNumber (hexIn 22 text) (λ value. Do (L k d (words value)))
+messageAfter k d text = onNumber (hexIn messageDigits text) (λ value. Do (L k d (words value)))
 
 abbrev pub marksAfter : ℕ → ℕ → List ℕ → Line
 marksAfter f clients text = onNumber (marksIn text) (Setup f clients)
@@ -109,15 +111,15 @@ hexIs Hex.No = none
 
 -- what follows from a number and the text behind it
 abbrev pub onFirst : First → List ℕ → (ℕ → List ℕ → Line) → Line
-onFirst (First.Is value at) text f = f value (drop at text)
-onFirst First.No text f = Unread
+onFirst (First.Is value at) text line = line value (drop at text)
+onFirst First.No text line = Unread
 
 -- where that text begins
 abbrev pub startOf : First → ℕ
 startOf (First.Is value at) = at
 startOf First.No = 0
 
--- r is the number before the first blank of a text, and where the text behind it begins
-pub record Cut (r : First) (text : List ℕ) : Type 0 where
-  pub within : startOf r ≤ length text
-  pub means : (f : ℕ → List ℕ → Line) → onFirst r text f ≡ numberThen text f
+-- the answer is the number before the first blank of a text, and where the text behind it begins
+pub record Cut (answer : First) (text : List ℕ) : Type 0 where
+  pub within : startOf answer ≤ length text
+  pub means : (line : ℕ → List ℕ → Line) → onFirst answer text line ≡ numberThen text line

@@ -20,20 +20,24 @@ unfoldable pub behind : ℕ → List ℕ → Option (List ℕ)
 behind stop [] = none
 behind stop (byte ∷ rest) = cond (eqb byte stop) (some rest) (behind stop rest)
 
+-- the byte that ends a line
+abbrev pub newline : ℕ
+newline = code "\n"
+
 -- where the line that begins at a place ends, or the text does
 abbrev pub lineEnd : List ℕ → ℕ → ℕ
-lineEnd text at = at + length (upTo (code "\n") (drop at text))
+lineEnd text at = at + length (upTo newline (drop at text))
 
 -- a byte at the front of the first line; where there is none, it begins one if a last line needs no end
 abbrev pub inFront : Bool → ℕ → List (List ℕ) → List (List ℕ)
 inFront unended byte [] = cond unended ((byte ∷ []) ∷ []) []
 inFront unended byte (line ∷ lines) = (byte ∷ line) ∷ lines
 
--- only the byte 10 ends a line; a last line without its end is one too, or is not
+-- only a newline ends a line; a last line without its end is one too, or is not
 unfoldable pub linesBy : Bool → List ℕ → List (List ℕ)
 linesBy unended [] = []
 linesBy unended (byte ∷ rest) =
-    cond (eqb byte (code "\n")) ([] ∷ linesBy unended rest) (inFront unended byte (linesBy unended rest))
+    cond (eqb byte newline) ([] ∷ linesBy unended rest) (inFront unended byte (linesBy unended rest))
 
 -- the lines of a script: the last line needs no end
 abbrev pub linesOf : List ℕ → List (List ℕ)

@@ -3,7 +3,6 @@
 -- In order: what stands at a place; a short number, a lie; what the quick readers answer.
 -- A reader of the public contracts needs none of it.
 -- Assumes nothing.
-use Prim.Native.Char.{code}
 use Prim.Native.Nat.{ℕ, _+_, _≤_}
 use mathlib.Core.Path.{_≡_}
 use mathlib.Core.Bool.{cond}
@@ -16,7 +15,7 @@ use Rattle.script.specs.declared.next.Quick.{Quick}
 use Rattle.script.specs.declared.parse.First.{First}
 use Rattle.script.specs.declared.parse.Line.the-variants.{Do}
 use Rattle.script.specs.Grammar.{numberThen, messageAfter, lineOf}
-use Rattle.script.specs.Lines.{upTo, part, lineEnd}
+use Rattle.script.specs.Lines.{upTo, newline, part, lineEnd}
 use Rattle.script.specs.Numbers.{isDigit, digitValue, valueFrom, numberIn}
 
 -- where the line that begins at a place ends, or the text does, and what it says
@@ -25,7 +24,7 @@ foundAt text at = record { end = lineEnd text at; line = lineOf (part text at (l
 
 -- the bytes from a place up to the line's end
 abbrev pub restAt : List ℕ → ℕ → List ℕ
-restAt text at = upTo (code "\n") (drop at text)
+restAt text at = upTo newline (drop at text)
 
 -- a digit and, if the byte behind it is one too, that digit
 abbrev pub shortWord : ℕ → ℕ → List ℕ

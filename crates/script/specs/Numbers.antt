@@ -9,6 +9,9 @@ use mathlib.Core.List.{List, [], _∷_}
 use mathlib.Core.Option.{Option, none, some}
 use lib.Dec.{leb, ltb, eqb}
 use lib.ListN.{length}
+use Rattle.basics.specs.Digits.{hexDigit}
+use Rattle.message.specs.Layout.{messageBytes}
+use Rattle.message.specs.Pair.{entryBits}
 
 -- 0 to 9, and A to F
 abbrev pub isDigit : ℕ → Bool
@@ -48,10 +51,6 @@ unfoldable pub hexIn : ℕ → List ℕ → Option ℕ
 hexIn n text =
     cond (eqb (length text) n && allBytes isHexDigit text) (some (valueFrom hexValue 16 0 text)) none
 
--- the digit of a value
-abbrev pub hexDigit : ℕ → ℕ
-hexDigit value = cond (ltb value 10) (code "0" + value) (55 + value)
-
 -- the last n digits of a value to a base, the highest first
 unfoldable pub digitsOf : ℕ → ℕ → ℕ → List ℕ
 digitsOf base zero value = []
@@ -66,6 +65,13 @@ digitCount (suc n) value = cond (ltb value 10) 1 (suc (digitCount n (value / 10)
 abbrev pub decimal : ℕ → List ℕ
 decimal value = digitsOf 10 (digitCount 19 value) value
 
--- an entry: 10 hexadecimal digits
+-- the hexadecimal digits of an entry, of four bits each, and of a message
+abbrev pub entryDigits : ℕ
+entryDigits = entryBits / 4
+
+abbrev pub messageDigits : ℕ
+messageDigits = 2 * messageBytes
+
+-- an entry as text
 abbrev pub hexEntry : ℕ → List ℕ
-hexEntry value = digitsOf 16 10 value
+hexEntry value = digitsOf 16 entryDigits value

@@ -15,9 +15,9 @@ use Rattle.script.specs.Writing.{written}
 abbrev pub nextNumber : ℕ → ℕ
 nextNumber n = cond (ltb n (2 ^ 64 - 1)) (n + 1) n
 
--- the digits of hundreds h = n / 100 are kept of a number n of 3 to 8 digits, so that h has 1 to 6
+-- the digits of the hundreds, n / 100, are kept of a number n of 3 to 8 digits: they are 1 to 6
 unfoldable pub keptDigits : ℕ → List ℕ
-keptDigits h = cond (ltb 0 h && ltb h 1000000) (decimal h) []
+keptDigits hundreds = cond (ltb 0 hundreds && ltb hundreds 1000000) (decimal hundreds) []
 
 -- the numeral of a number: the digits of its hundreds at the start of eight bytes, how many they are, and the
 -- number of its last two

@@ -9,15 +9,15 @@ use lib.ListN.{length, take, drop}
 abbrev pub written : List ℕ → ℕ → List ℕ → List ℕ
 written out at text = take at out ++ text ++ drop (at + length text) out
 
--- a text that fits was written from `at` on, r is where it ends, and the rest of the buffer is as it was
-pub record Written (text before : List ℕ) (at r : ℕ) (after : List ℕ) : Type 0 where
+-- a text that fits was written from `at` on up to `end`, and the rest of the buffer is as it was
+pub record Written (text before : List ℕ) (at end : ℕ) (after : List ℕ) : Type 0 where
   pub fits : at + length text ≤ length before
-  pub ends : r ≡ at + length text
+  pub ends : end ≡ at + length text
   pub holds : after ≡ written before at text
 
--- a text was written at the start, r is where it ends, and up to five bytes behind it have changed
-pub record Begun (text before : List ℕ) (r : ℕ) (after : List ℕ) : Type 0 where
+-- a text was written from `at` on up to `end`, and up to five bytes behind it have changed
+pub record Begun (text before : List ℕ) (at end : ℕ) (after : List ℕ) : Type 0 where
   pub more : List ℕ
   pub few : length more ≤ 5
-  pub ends : r ≡ length text
-  pub wrote : Written (text ++ more) before 0 (r + length more) after
+  pub ends : end ≡ at + length text
+  pub wrote : Written (text ++ more) before at (end + length more) after

@@ -11,6 +11,9 @@ ghost use Rattle.script.specs.Writing.{Written};
 use crate::parse::LINE_BYTES;
 use basics::least;
 
+// The byte that ends a line.
+pub const NEWLINE: u8 = b'\n';
+
 // A line with so many bytes is unreadable, however it goes on.
 const KEPT: usize = LINE_BYTES + 1;
 

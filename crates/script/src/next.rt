@@ -6,6 +6,7 @@ ghost use mathlib.Core.Bool.{true};
 ghost use lib.ListN.{length};
 ghost use Rattle.script.specs.Numbers.{isDigit};
 ghost use Rattle.script.specs.Next.{foundAt, shortValue, IsShort, IsLie, IsQuick};
+use crate::lines::NEWLINE;
 use crate::lines::place_of;
 use crate::parse::First;
 use crate::parse::Line;
@@ -14,9 +15,6 @@ use crate::parse::is_digit;
 use crate::parse::message_after;
 use crate::parse::parse;
 use register::Step;
-
-// The byte that ends a line.
-const LINE_END: u8 = 10;
 
 // The longest K or D line of the quick reader, with its end.
 const QUICK: usize = 8;
@@ -75,7 +73,7 @@ fn quick_lie(text: &[u8], k: u32, at: usize) -> Quick
         return Quick::No;
     }
     let end = next + MESSAGE_DIGITS;
-    if text[end] != LINE_END {
+    if text[end] != NEWLINE {
         return Quick::No;
     }
     match message_after(k, d, &text[next..end]) {
@@ -102,7 +100,7 @@ fn quick_step(text: &[u8], at: usize) -> Quick
     if letter == b'L' {
         return quick_lie(text, first, next);
     }
-    let First::Is(second, last) = short_at(text, next, LINE_END) else {
+    let First::Is(second, last) = short_at(text, next, NEWLINE) else {
         return Quick::No;
     };
     let end = last - 1;
@@ -131,7 +129,7 @@ pub fn next(text: &[u8], at: usize) -> Found
             };
         }
     }
-    let end = at + place_of(LINE_END, &text[at..]);
+    let end = at + place_of(NEWLINE, &text[at..]);
     Found {
         end: end,
         line: parse(&text[at..end]),

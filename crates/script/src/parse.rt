@@ -8,8 +8,13 @@ ghost use Rattle.script.specs.Grammar.{isMark, marksIn, lineOf, argument
 ghost use Rattle.script.specs.Grammar.{numberAfter, entryAfter, messageAfter, marksAfter};
 ghost use Rattle.script.specs.Grammar.{leadingOf, lastOf, numberIs, hexIs, Cut};
 use crate::lines::place_of;
+use basics::OVER_32;
+use message::ENTRY_BITS;
 use message::Entry;
+use message::HEAD_BYTES;
+use message::MESSAGE_BYTES;
 use message::Words;
+use register::MOST_SERVERS;
 use register::Step;
 
 // No line of more bytes can be read.
@@ -18,15 +23,15 @@ pub const LINE_BYTES: usize = 64;
 // The digits of a number, at most.
 const NUMBER_DIGITS: usize = 7;
 
-// The hexadecimal digits of an entry, of a message, and of a message's high 24 bits.
-const ENTRY_DIGITS: usize = 10;
+// The hexadecimal digits of an entry, of four bits each, of a message, and of a message's high 24 bits.
+pub const ENTRY_DIGITS: usize = ENTRY_BITS as usize / 4;
 
-pub const MESSAGE_DIGITS: usize = 22;
+pub const MESSAGE_DIGITS: usize = 2 * MESSAGE_BYTES;
 
-const HIGH_DIGITS: usize = 6;
+const HIGH_DIGITS: usize = 2 * HEAD_BYTES;
 
 // The marks of an S, at most.
-const MARKS: usize = 13;
+const MARKS: usize = MOST_SERVERS as usize;
 
 pub enum Line {
     Setup(u32, u32, u32),
@@ -65,7 +70,7 @@ fn is_mark(byte: u8) -> bool
 }
 
 // The value of a hexadecimal digit, or 16.
-fn hex_digit(byte: u8) -> u64
+fn hex_value(byte: u8) -> u64
     ensures { λ r. ⌜ r ≡ cond (isHexDigit byte) (hexValue byte) 16 ⌝ }
 {
     if b'0' <= byte && byte <= b'9' {
@@ -110,7 +115,7 @@ fn hex_in(text: &[u8]) -> Hex
     let mut bad: u64 = 0;
     let mut i = 0;
     while i < text.len() {
-        let digit = hex_digit(text[i]);
+        let digit = hex_value(text[i]);
         bad = bad | digit;
         value = value * 16 + digit % 16;
         i += 1;
@@ -197,7 +202,7 @@ pub fn message_after(k: u32, d: u32, text: &[u8]) -> Line
     let Hex::Is(low) = hex_in(&text[HIGH_DIGITS..]) else {
         return Line::Unread;
     };
-    Line::Do(Step::L(k, d, Words((high % 0x1_0000_0000) as u32, low)))
+    Line::Do(Step::L(k, d, Words((high % OVER_32) as u32, low)))
 }
 
 // Marks behind f and the number of clients.

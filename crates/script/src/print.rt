@@ -3,12 +3,15 @@
 ghost use mathlib.Core.Path.{_≡_};
 ghost use Prim.Native.Nat.{_+_, _/_, _%_, _≤_, _<_};
 ghost use lib.ListN.{length, set};
+ghost use Rattle.basics.specs.Digits.{hexDigit};
 ghost use Rattle.register.specs.declared.Answer.the-variants.{Refused};
-ghost use Rattle.script.specs.Numbers.{hexDigit, digitsOf, digitCount, decimal};
+ghost use Rattle.script.specs.Numbers.{digitsOf, digitCount, decimal};
 ghost use Rattle.script.specs.Numerals.{nextNumber, numeralOf};
 ghost use Rattle.script.specs.Printed.{spaced, pairText, pairLine, answerLine};
-ghost use Rattle.script.specs.Printed.{behindNumber, printed, Shown};
+ghost use Rattle.script.specs.Printed.{behindNumber, printed, Shown, longestNumber, longestOutput};
 ghost use Rattle.script.specs.Writing.{Written, Begun};
+use crate::parse::ENTRY_DIGITS;
+use basics::hex_digit;
 use message::Pair;
 use refusal::Refusal;
 use register::Answer;
@@ -43,17 +46,6 @@ fn digit_count(value: u64) -> usize
     count
 }
 
-fn digit(value: u64) -> u8
-    requires { ⌜ value < 16 ⌝ }
-    ensures { λ r. ⌜ r ≡ hexDigit value ⌝ }
-{
-    if value < 10 {
-        b'0' + value as u8
-    } else {
-        55 + value as u8
-    }
-}
-
 // The last `count` hexadecimal digits of a number, the last one first.
 fn put_digits(out: &mut [u8], at: usize, count: usize, value: u64) -> usize
     requires { ⌜ at + count ≤ length (now out) ⌝ }
@@ -63,7 +55,7 @@ fn put_digits(out: &mut [u8], at: usize, count: usize, value: u64) -> usize
     let mut i = count;
     while 0 < i {
         i -= 1;
-        out[at + i] = digit(rest % 16);
+        out[at + i] = hex_digit(rest % 16);
         rest = rest / 16;
     }
     at + count
@@ -125,7 +117,7 @@ fn put_pair(out: &mut [u8], at: usize, pair: Pair) -> usize
     let counter_end = put_spaced(out, at, message::counter_word(message::counter_of(pair)));
     let client_end = put_spaced(out, counter_end, message::client_of(pair) as u64);
     let next = put_text(out, client_end, b" ");
-    put_digits(out, next, 10, message::entry_of(pair).0)
+    put_digits(out, next, ENTRY_DIGITS, message::entry_of(pair).0)
 }
 
 // A pair and the line's end, behind its word.
@@ -148,7 +140,7 @@ fn put_refused(out: &mut [u8], at: usize, why: Refusal) -> usize
 }
 
 fn put_answer(out: &mut [u8], at: usize, answer: Answer) -> usize
-    requires { ⌜ at + 60 ≤ length (now out) ⌝ }
+    requires { ⌜ at + longestOutput ≤ length (now out) ⌝ }
     ensures { λ r. ⌜ Written (answerLine answer) (now (out .entry)) at r (now (out .exit)) ⌝ }
 {
     match answer {
@@ -160,8 +152,9 @@ fn put_answer(out: &mut [u8], at: usize, answer: Answer) -> usize
     }
 }
 
-fn put_output(out: &mut [u8], at: usize, what: Output) -> usize
-    requires { ⌜ at + 60 ≤ length (now out) ⌝ }
+// What stands behind the line's number.
+pub fn put_output(out: &mut [u8], at: usize, what: Output) -> usize
+    requires { ⌜ at + longestOutput ≤ length (now out) ⌝ }
     ensures { λ r. ⌜ Written (behindNumber what) (now (out .entry)) at r (now (out .exit)) ⌝ }
 {
     match what {
@@ -221,36 +214,30 @@ pub fn next_numeral(numeral: Numeral) -> Numeral
     }
 }
 
-// All eight bytes of the text are written at once, so up to five bytes behind the number may change.
-fn put_numeral(out: &mut [u8], numeral: Numeral) -> usize
-    requires { ⌜ (numeral ≡ numeralOf (numeral .number)) × (20 ≤ length (now out)) ⌝ }
-    ensures { λ r. ⌜ Begun (decimal (numeral .number)) (now (out .entry)) r (now (out .exit)) ⌝ }
+// Writes the number from `at` on. All eight bytes of the text are written at once, so up to five bytes behind
+// the number may change.
+pub fn put_numeral(out: &mut [u8], at: usize, numeral: Numeral) -> usize
+    requires { ⌜ (numeral ≡ numeralOf (numeral .number)) × (at + longestNumber ≤ length (now out)) ⌝ }
+    ensures { λ r. ⌜ Begun (decimal (numeral .number)) (now (out .entry)) at r (now (out .exit)) ⌝ }
 {
     if numeral.kept < 1 {
-        return put_decimal(out, 0, numeral.number);
+        return put_decimal(out, at, numeral.number);
     }
     let text = numeral.text;
-    put_text(out, 0, &text);
-    put_two(out, numeral.kept, numeral.last_two);
-    numeral.kept + 2
+    put_text(out, at, &text);
+    let kept_end = at + numeral.kept;
+    put_two(out, kept_end, numeral.last_two);
+    kept_end + 2
 }
 
 // The line of a number, at the start of a buffer; the answer is its length. A buffer that could be too short
 // stays as it is.
-pub fn print_numbered(out: &mut [u8], numeral: Numeral, what: Output) -> usize
-    requires { ⌜ numeral ≡ numeralOf (numeral .number) ⌝ }
-    ensures { λ r. ⌜ Shown (printed (numeral .number) what) (now (out .entry)) r (now (out .exit)) ⌝ }
+pub fn print(out: &mut [u8], number: u64, what: Output) -> usize
+    ensures { λ r. ⌜ Shown (printed number what) (now (out .entry)) r (now (out .exit)) ⌝ }
 {
     if out.len() < PRINTED_BYTES {
         return 0;
     }
-    let number_end = put_numeral(out, numeral);
+    let number_end = put_numeral(out, 0, numeral_of(number));
     put_output(out, number_end, what)
-}
-
-// The same of a number whose text was not kept.
-pub fn print(out: &mut [u8], number: u64, what: Output) -> usize
-    ensures { λ r. ⌜ Shown (printed number what) (now (out .entry)) r (now (out .exit)) ⌝ }
-{
-    print_numbered(out, numeral_of(number), what)
 }

@@ -9,76 +9,82 @@
 use Rattle.basics.proofs.Prelude.{_≡_, refl, sym, ap, true, List, [], _∷_, length, getD, set, ℕ, _%_, _^_}
 use Rattle.basics.proofs.Prelude.{_<_, arith, eqb, eqb-true, ltb-true, lt-ltb}
 use native.Mathlib.Nat.{mod-eq-of-lt}
+use Rattle.register.proofs.Vocabulary.{setOf, newServer, mostClients}
 use Rattle.basics.proofs.Cases.{both}
+use Rattle.basics.proofs.BitSets.{set-lt}
 use Rattle.register.specs.Server as model
-use Rattle.register.specs.Server.{newServer}
 use Rattle.server.specs.declared.Server.{Server}
 use Rattle.server.specs.State as state
-use Rattle.server.specs.State.{setOf}
-use Rattle.server.specs.Memory.{loaded, numbersOf, view, store, isSound}
-use Rattle.server.proofs.Sets.{set-lt}
+use Rattle.server.specs.Memory.{pairAt, readersAt, serverLength, loaded, numbersOf, view, store}
+use Rattle.server.specs.Memory.{isSound}
 use Rattle.server.proofs.Views as views
 use Rattle.server.proofs.Views.{Formed}
 
 -- ---- two numbers
 
-two : (m : List ℕ) → length m ≡ 2 → getD m 0 0 ∷ getD m 1 0 ∷ [] ≡ m
+two : (memory : List ℕ) → length memory ≡ serverLength
+    → getD memory pairAt 0 ∷ getD memory readersAt 0 ∷ [] ≡ memory
 two [] h = absurd (let z : ⊥ = omega arith in z)
 two (a ∷ []) h = absurd (let z : ⊥ = omega arith in z)
 two (a ∷ b ∷ []) h = refl
-two (a ∷ b ∷ c ∷ m) h = absurd (let z : ⊥ = omega arith in z)
+two (a ∷ b ∷ c ∷ memory) h = absurd (let z : ⊥ = omega arith in z)
 
-pub two-set : (m : List ℕ) (a b : ℕ) → length m ≡ 2 → set (set m 0 a) 1 b ≡ a ∷ b ∷ []
-two-set m a b h = ap (λ (l : List ℕ). set (set l 0 a) 1 b) (sym (two m h))
+pub two-set : (memory : List ℕ) (a b : ℕ) → length memory ≡ serverLength
+    → set (set memory 0 a) 1 b ≡ a ∷ b ∷ []
+two-set memory a b h = ap (λ (l : List ℕ). set (set l 0 a) 1 b) (sym (two memory h))
 
 -- ---- soundness
 
-pub sound-length : (m : List ℕ) → isSound m ≡ true → length m ≡ 2
+pub sound-length : (memory : List ℕ) → isSound memory ≡ true → length memory ≡ serverLength
 unfolding isSound
-sound-length m h = eqb-true (length m) 2 (both (eqb (length m) 2) _ h .0)
+sound-length memory h = eqb-true (length memory) serverLength (both (eqb (length memory) serverLength) _ h .0)
 
-pub sound-few : (m : List ℕ) → isSound m ≡ true → getD m 1 0 < 64
+pub sound-few : (memory : List ℕ) → isSound memory ≡ true → getD memory readersAt 0 < 2 ^ mostClients
 unfolding isSound
-sound-few m h = ltb-true (getD m 1 0) 64 (both (eqb (length m) 2) _ h .1)
+sound-few memory h =
+    ltb-true (getD memory readersAt 0) (2 ^ mostClients) (both (eqb (length memory) serverLength) _ h .1)
 
-low-byte : (m : List ℕ) → isSound m ≡ true → getD m 1 0 % 2 ^ 8 ≡ getD m 1 0
-low-byte m h = let few = sound-few m h in mod-eq-of-lt (omega arith)
+low-byte : (memory : List ℕ) → isSound memory ≡ true
+    → getD memory readersAt 0 % 2 ^ 8 ≡ getD memory readersAt 0
+low-byte memory h = let few = sound-few memory h in mod-eq-of-lt (omega arith)
 
-pub loaded-sound : (m : List ℕ) → isSound m ≡ true → state.sound (loaded m) ≡ true
+pub loaded-sound : (memory : List ℕ) → isSound memory ≡ true → state.sound (loaded memory) ≡ true
 unfolding loaded state.sound
-loaded-sound m h = rw (low-byte m h) (lt-ltb (getD m 1 0) 64 (sound-few m h))
+loaded-sound memory h =
+    rw (low-byte memory h) (lt-ltb (getD memory readersAt 0) (2 ^ mostClients) (sound-few memory h))
 
-pub store-sound : (x : model.Server) → isSound (store x) ≡ true
+pub store-sound : (server : model.Server) → isSound (store server) ≡ true
 unfolding store numbersOf isSound state.store
-store-sound x = lt-ltb (setOf (x .readers) 6) 64 (set-lt (x .readers) 6)
+store-sound server =
+    lt-ltb (setOf (server .readers) mostClients) (2 ^ mostClients) (set-lt (server .readers) mostClients)
 
 -- ---- loading and storing
 
-pub loaded-numbers : (s : Server) → s .readers < 2 ^ 8 → loaded (numbersOf s) ≡ s
+pub loaded-numbers : (server : Server) → server .readers < 2 ^ 8 → loaded (numbersOf server) ≡ server
 unfolding loaded numbersOf
-loaded-numbers s h = rw (mod-eq-of-lt h)
+loaded-numbers server h = rw (mod-eq-of-lt h)
 
-pub numbers-loaded : (m : List ℕ) → isSound m ≡ true → numbersOf (loaded m) ≡ m
+pub numbers-loaded : (memory : List ℕ) → isSound memory ≡ true → numbersOf (loaded memory) ≡ memory
 unfolding loaded numbersOf
-numbers-loaded m h = rw (low-byte m h) (two m (sound-length m h))
+numbers-loaded memory h = rw (low-byte memory h) (two memory (sound-length memory h))
 
-pub view-store : (x : model.Server) → Formed x → view (store x) ≡ x
+pub view-store : (server : model.Server) → Formed server → view (store server) ≡ server
 unfolding view store
-view-store x f =
-    let few = views.few (state.store x) (views.store-sound x) in
-    rw (loaded-numbers (state.store x) (omega arith)) (views.view-store x f)
+view-store server formed =
+    let few = views.few (state.store server) (views.store-sound server) in
+    rw (loaded-numbers (state.store server) (omega arith)) (views.view-store server formed)
 
-pub store-view : (m : List ℕ) → isSound m ≡ true → store (view m) ≡ m
+pub store-view : (memory : List ℕ) → isSound memory ≡ true → store (view memory) ≡ memory
 unfolding view store
-store-view m h = rw (views.store-view (loaded m) (loaded-sound m h)) (numbers-loaded m h)
+store-view memory h = rw (views.store-view (loaded memory) (loaded-sound memory h)) (numbers-loaded memory h)
 
-pub view-formed : (m : List ℕ) → isSound m ≡ true → Formed (view m)
+pub view-formed : (memory : List ℕ) → isSound memory ≡ true → Formed (view memory)
 unfolding view
-view-formed m h = views.view-formed (loaded m) (loaded-sound m h)
+view-formed memory h = views.view-formed (loaded memory) (loaded-sound memory h)
 
-pub store-length : (x : model.Server) → length (store x) ≡ 2
+pub store-length : (server : model.Server) → length (store server) ≡ serverLength
 unfolding store numbersOf
-store-length x = refl
+store-length server = refl
 
 -- at setup all is zero
 pub store-new : store newServer ≡ 0 ∷ 0 ∷ []

@@ -5,73 +5,72 @@
 -- What is stored is sound (`store-sound`), what is viewed is formed (`view-formed`), and serving a message
 -- keeps a server formed (`after-formed`).
 -- Assumes nothing.
-use Rattle.basics.proofs.Prelude.{_≡_, refl, sym, _∙_, Bool, true, false, ℕ, zero, suc, _≤_, _<_, arith, ltb}
-use Rattle.basics.proofs.Prelude.{ltb-true, ltb-false, lt-ltb}
-use Rattle.basics.specs.Update.{update}
+use Rattle.register.proofs.Vocabulary.{update, contains, setOf, Message, GetInfo, Info, Done, WriteInfo, Fwd}
+use Rattle.register.proofs.Vocabulary.{WriteAck, nextServer, mostClients}
+use Rattle.basics.proofs.Prelude.{_≡_, refl, sym, _∙_, Bool, true, false, ℕ, zero, suc, _^_, _≤_, _<_, arith}
+use Rattle.basics.proofs.Prelude.{ltb, ltb-true, ltb-false, lt-ltb}
 use Rattle.basics.proofs.Cases.{by-test}
 use Rattle.basics.proofs.Update.{update-at}
-use Rattle.message.specs.declared.Message.{Message}
-use Rattle.message.specs.declared.Message.the-variants.{GetInfo, Info, Done, WriteInfo, Fwd, WriteAck}
+use Rattle.basics.proofs.BitSets.{set-back, set-lt, set-of, set-above}
 use Rattle.register.specs.Server as model
-use Rattle.register.specs.Server.{newServer, nextServer}
 use Rattle.server.specs.declared.Server.{Server}
-use Rattle.server.specs.State.{contains, setOf, view, store, sound}
-use Rattle.server.proofs.Sets.{set-back, set-lt, set-of, set-above}
+use Rattle.server.specs.State.{view, store, sound}
 
 -- no reader but clients 1 to 6
-pub record Formed (x : model.Server) : Type 0 where
-  pub none : x .readers 0 ≡ false
-  pub above : (i : ℕ) → 6 ≤ i → x .readers (suc i) ≡ false
+pub record Formed (server : model.Server) : Type 0 where
+  pub none : server .readers 0 ≡ false
+  pub above : (i : ℕ) → mostClients ≤ i → server .readers (suc i) ≡ false
 
-pub few : (s : Server) → sound s ≡ true → s .readers < 64
+pub few : (server : Server) → sound server ≡ true → server .readers < 2 ^ mostClients
 unfolding sound
-few s h = ltb-true (s .readers) 64 h
+few server h = ltb-true (server .readers) (2 ^ mostClients) h
 
-pub store-view : (s : Server) → sound s ≡ true → store (view s) ≡ s
+pub store-view : (server : Server) → sound server ≡ true → store (view server) ≡ server
 unfolding store view
-store-view s h = λ i. record { pair = s .pair; readers = set-back (s .readers) 6 (few s h) i }
+store-view server h =
+    λ i. record { pair = server .pair; readers = set-back (server .readers) mostClients (few server h) i }
 
-same-readers : (x : model.Server) → Formed x → (d : ℕ) → contains (setOf (x .readers) 6) d ≡ x .readers d
+same-readers : (server : model.Server) → Formed server → (d : ℕ)
+    → contains (setOf (server .readers) mostClients) d ≡ server .readers d
 unfolding contains
-same-readers x f zero = sym (f .none)
-same-readers x f (suc i) =
-    by-test (ltb i 6) (λ e. set-of (x .readers) 6 i (ltb-true i 6 e))
-    (λ e. set-above (setOf (x .readers) 6) 6 i (set-lt (x .readers) 6) (ltb-false i 6 e)
-    ∙ sym (f .above i (ltb-false i 6 e)))
+same-readers server formed zero = sym (formed .none)
+same-readers server formed (suc i) =
+    by-test (ltb i mostClients) (λ e. set-of (server .readers) mostClients i (ltb-true i mostClients e))
+    (λ e. set-above (setOf (server .readers) mostClients) mostClients i (set-lt (server .readers) mostClients)
+    (ltb-false i mostClients e) ∙ sym (formed .above i (ltb-false i mostClients e)))
 
-pub view-store : (x : model.Server) → Formed x → view (store x) ≡ x
+pub view-store : (server : model.Server) → Formed server → view (store server) ≡ server
 unfolding store view
-view-store x f = λ i. record { pair = x .pair; readers = λ d. same-readers x f d i }
+view-store server formed = λ i. record { pair = server .pair; readers = λ d. same-readers server formed d i }
 
-pub store-sound : (x : model.Server) → sound (store x) ≡ true
+pub store-sound : (server : model.Server) → sound (store server) ≡ true
 unfolding store sound
-store-sound x = lt-ltb (setOf (x .readers) 6) 64 (set-lt (x .readers) 6)
+store-sound server =
+    lt-ltb (setOf (server .readers) mostClients) (2 ^ mostClients) (set-lt (server .readers) mostClients)
 
-pub view-formed : (s : Server) → sound s ≡ true → Formed (view s)
+pub view-formed : (server : Server) → sound server ≡ true → Formed (view server)
 unfolding view contains
-view-formed s h = record { none = refl; above = λ i more. set-above (s .readers) 6 i (few s h) more }
-
-pub new-formed : Formed newServer
-new-formed = record { none = refl; above = λ i more. refl }
+view-formed server h =
+    record { none = refl; above = λ i more. set-above (server .readers) mostClients i (few server h) more }
 
 -- client d added or removed
-update-formed : (x : model.Server) (d : ℕ) (b : Bool) → Formed x → 1 ≤ d → d ≤ 6
-    → Formed (record { pair = x .pair; readers = update (x .readers) d b })
-update-formed x d b f low top =
+update-formed : (server : model.Server) (d : ℕ) (reads : Bool) → Formed server → 1 ≤ d → d ≤ mostClients
+    → Formed (record { pair = server .pair; readers = update (server .readers) d reads })
+update-formed server d reads formed low top =
     record {
-      none = update-at (λ r. r ≡ false) (x .readers) d 0 b (λ e. absurd (let z : ⊥ = omega arith in z))
-          (λ e. f .none);
+      none = update-at (λ r. r ≡ false) (server .readers) d 0 reads
+          (λ e. absurd (let z : ⊥ = omega arith in z)) (λ e. formed .none);
       above = λ i more.
-          update-at (λ r. r ≡ false) (x .readers) d (suc i) b (λ e. absurd (let z : ⊥ = omega arith in z))
-          (λ e. f .above i more);
+          update-at (λ r. r ≡ false) (server .readers) d (suc i) reads
+          (λ e. absurd (let z : ⊥ = omega arith in z)) (λ e. formed .above i more);
     }
 
-pub after-formed : (x : model.Server) (d : ℕ) (m : Message) → Formed x → 1 ≤ d → d ≤ 6
-    → Formed (nextServer x d m)
+pub after-formed : (server : model.Server) (d : ℕ) (message : Message) → Formed server → 1 ≤ d
+    → d ≤ mostClients → Formed (nextServer server d message)
 unfolding nextServer
-after-formed x d (GetInfo n) f low top = update-formed x d true f low top
-after-formed x d Done f low top = update-formed x d false f low top
-after-formed x d (WriteInfo p) f low top = record { none = f .none; above = f .above }
-after-formed x d (Info n p) f low top = f
-after-formed x d (Fwd p) f low top = f
-after-formed x d (WriteAck c) f low top = f
+after-formed server d (GetInfo tag) formed low top = update-formed server d true formed low top
+after-formed server d Done formed low top = update-formed server d false formed low top
+after-formed server d (WriteInfo pair) formed low top = record { none = formed .none; above = formed .above }
+after-formed server d (Info tag pair) formed low top = formed
+after-formed server d (Fwd pair) formed low top = formed
+after-formed server d (WriteAck count) formed low top = formed

@@ -22,8 +22,8 @@ abbrev pub readersAt : ℕ
 readersAt = 1
 
 -- how many numbers a server has
-abbrev pub words : ℕ
-words = 2
+abbrev pub serverLength : ℕ
+serverLength = 2
 
 -- the server that stands in memory; of the readers the low byte, so that any numbers are a server
 unfoldable pub loaded : List ℕ → Server
@@ -36,13 +36,13 @@ numbersOf server = server .pair .0 ∷ server .readers ∷ []
 
 -- the model's server
 unfoldable pub view : List ℕ → model.Server
-view m = state.view (loaded m)
+view memory = state.view (loaded memory)
 
 -- and back
 unfoldable pub store : model.Server → List ℕ
-store x = numbersOf (state.store x)
+store server = numbersOf (state.store server)
 
 -- two numbers, and no reader but clients 1 to 6 (01: 'unused places are zero'); every pair of 64 bits is in
 -- range
 unfoldable pub isSound : List ℕ → Bool
-isSound memory = eqb (length memory) words && ltb (getD memory readersAt 0) (2 ^ mostClients)
+isSound memory = eqb (length memory) serverLength && ltb (getD memory readersAt 0) (2 ^ mostClients)

@@ -4,17 +4,18 @@
 -- lowest first; bytes served.
 -- Assumes nothing.
 use Prim.Native.Nat.{ℕ}
-use mathlib.Core.Bool.{Bool, false, not, _&&_}
+use mathlib.Core.Bool.{not}
 use mathlib.Core.List.{List, [], _∷_, _++_}
 use mathlib.Core.Option.{Option, none, some}
-use lib.Dec.{leb}
+use Rattle.basics.specs.BitSets.{contains}
+use Rattle.basics.specs.Tests.{isUpTo}
 use Rattle.refusal.specs.declared.Refusal.{Refusal}
 use Rattle.refusal.specs.Ladder.{Rung, _whenever_, lowest}
 use Rattle.message.specs.declared.Message.{Message}
 use Rattle.message.specs.declared.Message.the-variants.{GetInfo, Info, Done, WriteInfo, Fwd, WriteAck}
 use Rattle.message.specs.declared.Unpacked.{Unpacked}
 use Rattle.message.specs.declared.Unpacked.the-variants.{Good, Refused}
-use Rattle.message.specs.Layout.{isReply, unpackOf}
+use Rattle.message.specs.Layout.{unpackOf, goesUp}
 use Rattle.message.specs.Pair.{counter}
 use Rattle.register.specs.Server.{Sent, sent, forwards, nextServer, serverSends}
 use Rattle.register.specs.Settings.{mostClients}
@@ -25,14 +26,14 @@ use Rattle.server.specs.declared.Sends.the-variants as sends
 use Rattle.server.specs.declared.Served.{Served}
 use Rattle.server.specs.declared.Server.{Server}
 use Rattle.server.specs.State as state
-use Rattle.server.specs.State.{contains}
 use Rattle.server.specs.Memory.{loaded, view, store, isSound}
 
 -- the messages that an answer to client d stands for: to whom which, in order
 unfoldable pub sentBy : ℕ → Sends → List Sent
 sentBy d sends.Nothing = []
-sentBy d (sends.Info t p) = sent d (Info t p) ∷ []
-sentBy d (sends.Forward set p) = forwards (contains set) p mostClients ++ sent d (WriteAck (counter p)) ∷ []
+sentBy d (sends.Info tag pair) = sent d (Info tag pair) ∷ []
+sentBy d (sends.Forward set pair) =
+    forwards (contains set) pair mostClients ++ sent d (WriteAck (counter pair)) ∷ []
 
 -- the answer by its kind: which one stands for what the server sends
 unfoldable pub answerOf : Server → Message → Sends
@@ -82,30 +83,25 @@ servedIn memory d message =
     became (messages (answerOf (loaded memory) message) (serverSends (view memory) d message))
     (store (nextServer (view memory) d message))
 
--- a message that a client sends: it is no reply
-unfoldable pub isRequest : Unpacked → Bool
-isRequest (Good message) = not (isReply message)
-isRequest (Refused r) = false
-
 -- the result that the code's outcome stands for
 unfoldable pub resultOf : ℕ → Outcome → Result
-resultOf d (outcome.Sent s) = messages s (sentBy d s)
-resultOf d (outcome.Refused r) = refusal r
+resultOf d (outcome.Sent answer) = messages answer (sentBy d answer)
+resultOf d (outcome.Refused why) = refusal why
 
 -- 3 unsound memory; 4 a sender that is not 1 to 6; 9 not a message, or a reply
 abbrev pub ladder : List ℕ → ℕ → List ℕ → List Rung
 ladder memory d bytes =
     3 whenever not (isSound memory)
-    ∷ 4 whenever not (leb 1 d && leb d mostClients)
-    ∷ 9 whenever not (isRequest (unpackOf bytes))
+    ∷ 4 whenever not (isUpTo mostClients d)
+    ∷ 9 whenever not (goesUp (unpackOf bytes))
     ∷ []
 
 -- 01's answer: the messages sent, or refused 3, 'spoiled', 4, 'nobody there', or 9, 'misprint'; a refusal
 -- leaves the memory as it was
 abbrev pub decided : List ℕ → ℕ → Option Refusal → Unpacked → Became
-decided memory d (some r) u = became (refusal r) memory
+decided memory d (some why) unpacked = became (refusal why) memory
 decided memory d none (Good message) = servedIn memory d message
-decided memory d none (Refused r) = became (refusal r) memory
+decided memory d none (Refused why) = became (refusal why) memory
 
 -- bytes of sender d served, or refused
 unfoldable pub bytesServed : List ℕ → ℕ → List ℕ → Became

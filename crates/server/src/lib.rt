@@ -7,7 +7,7 @@ ghost use Prim.Native.Nat.{ℕ, _≤_};
 ghost use lib.ListN.{length};
 ghost use Rattle.register.specs.Server.{stored};
 ghost use Rattle.register.specs.Settings.{mostClients};
-ghost use Rattle.server.specs.Memory.{words, loaded, numbersOf, isSound};
+ghost use Rattle.server.specs.Memory.{serverLength, loaded, numbersOf, isSound};
 ghost use Rattle.server.specs.State.{sound};
 ghost use Rattle.server.specs.Serving.{sentBy, afterOf, servedOf, servedIn, messages};
 ghost use Rattle.server.specs.Serving.{resultOf, became, bytesServed};
@@ -48,19 +48,19 @@ pub const PAIR_AT: usize = 0;
 
 pub const READERS_AT: usize = 1;
 
-pub const WORDS: usize = 2;
+pub const LENGTH: usize = 2;
 
-// The clients from 1 on.
-const MOST_CLIENTS: u32 = 6;
+// The highest number of a client.
+const MOST_CLIENTS: u32 = register::MOST_CLIENTS as u32;
 
-// The set of all clients, and the first number that is no set of clients.
-const ALL_CLIENTS: u8 = 63;
+// The first number that is no set of clients, and the set of all clients.
+const OVER_SETS: u64 = 1 << MOST_CLIENTS;
 
-const OVER_SETS: u64 = 64;
+const ALL_CLIENTS: u8 = (OVER_SETS - 1) as u8;
 
 // The server that stands in memory.
 pub fn load(memory: &[u64]) -> Server
-    requires { ⌜ length (now memory) ≡ words ⌝ }
+    requires { ⌜ length (now memory) ≡ serverLength ⌝ }
     ensures { λ s. ⌜ s ≡ loaded (now (memory .entry)) ⌝ }
 {
     Server {
@@ -71,7 +71,7 @@ pub fn load(memory: &[u64]) -> Server
 
 // Puts it back.
 pub fn store(memory: &mut [u64], server: Server)
-    requires { ⌜ length (now memory) ≡ words ⌝ }
+    requires { ⌜ length (now memory) ≡ serverLength ⌝ }
     ensures { λ r. ⌜ now (memory .exit) ≡ numbersOf server ⌝ }
 {
     let pair = server.pair;
@@ -161,7 +161,7 @@ pub fn after(server: Server, d: u8, message: Message) -> Served
 fn is_sound(memory: &[u64]) -> bool
     ensures { λ r. ⌜ r ≡ isSound (now (memory .entry)) ⌝ }
 {
-    if memory.len() != WORDS {
+    if memory.len() != LENGTH {
         return false;
     }
     memory[READERS_AT] < OVER_SETS

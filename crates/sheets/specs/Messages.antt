@@ -5,7 +5,7 @@
 -- bytes.
 -- A reader of the public contracts needs none of it.
 -- Assumes nothing.
-use Prim.Native.Nat.{ℕ, _+_, _*_, _/_, _%_}
+use Prim.Native.Nat.{ℕ, _+_, _-_, _*_, _/_, _%_, _^_}
 use mathlib.Core.List.{List, [], _∷_}
 use mathlib.Core.Bool.{cond}
 use lib.Dec.{eqb}
@@ -19,8 +19,8 @@ use Rattle.message.specs.declared.Packed.{Packed}
 use Rattle.message.specs.declared.Pair.{Pair}
 use Rattle.message.specs.declared.Unpacked.{Unpacked}
 use Rattle.message.specs.declared.Words.{Words}
-use Rattle.message.specs.Pair.{counter, client, entry}
-use Rattle.message.specs.Layout.{wordsNumber, unpackOf}
+use Rattle.message.specs.Pair.{clientBits, entryBits, pairBits, clientAt, counterAt, counter, client, entry}
+use Rattle.message.specs.Layout.{tagBits, lastRead, lastCounter, messageBytes, wordsNumber, unpackOf}
 use Rattle.message.specs.Packing.{packAnswer, packLeaves}
 use Rattle.sheets.specs.Digest.{mixed, inTurn}
 
@@ -58,8 +58,9 @@ withPacked message bytes digest =
 -- ten, eleven and twelve bytes that begin with a number's
 abbrev pub withLengths : Words → ℕ → ℕ
 withLengths number digest =
-    let bytes = sets (replicate 12 0) 0 (bigEndian 11 (wordsNumber number)) in
-    withUnpacked bytes (withUnpacked (take 11 bytes) (withUnpacked (take 10 bytes) digest))
+    let bytes = sets (replicate (messageBytes + 1) 0) 0 (bigEndian messageBytes (wordsNumber number)) in
+    withUnpacked bytes
+    (withUnpacked (take messageBytes bytes) (withUnpacked (take (messageBytes - 1) bytes) digest))
 
 -- the lowest of a field, one more, and the highest
 abbrev pub edgeOf : ℕ → ℕ → ℕ
@@ -69,9 +70,9 @@ edgeOf highest i = cond (eqb i 0) 0 (cond (eqb i 1) 1 highest)
 abbrev pub patternOf : ℕ → ℕ → Words
 patternOf kind i =
     record {
-      0 = kind * 0x100000 + edgeOf 0xFFFFF (i / 27);
-      1 = edgeOf 0xFFFFF (i / 9 % 3) * 0x100000000000 + edgeOf 0xF (i / 3 % 3) * 0x10000000000
-          + edgeOf 0xFFFFFFFFFF (i % 3);
+      0 = kind * 2 ^ tagBits + edgeOf lastRead (i / 27);
+      1 = edgeOf lastCounter (i / 9 % 3) * 2 ^ counterAt
+          + edgeOf (2 ^ clientBits - 1) (i / 3 % 3) * 2 ^ clientAt + edgeOf (2 ^ entryBits - 1) (i % 3);
     }
 
 abbrev pub kindDigest : ℕ → ℕ
@@ -86,17 +87,23 @@ sampleOf kind number pair =
     (cond (eqb kind 4) (WriteInfo (record { 0 = pair }))
     (cond (eqb kind 5) (Fwd (record { 0 = pair })) (WriteAck (record { 0 = number }))))))
 
+-- the bytes of the longest buffer: two more than a message has
+abbrev pub mostBytes : ℕ
+mostBytes = messageBytes + 2
+
 -- a message packed into buffers of 0 to 13 bytes
 unfoldable pub withBuffers : Message → ℕ → ℕ
-withBuffers message digest = inTurn (λ (n : ℕ). withPacked message (take n (replicate 13 0xA5))) 14 digest
+withBuffers message digest =
+    inTurn (λ (n : ℕ). withPacked message (take n (replicate mostBytes 0xA5))) (mostBytes + 1) digest
 
 -- tags and counters, two of them over their width
 abbrev pub numberAt : ℕ → ℕ
-numberAt i = getD (0 ∷ 1 ∷ 0xFFFFF ∷ 0x100000 ∷ 0xFFFFFFFF ∷ []) i 0
+numberAt i = getD (0 ∷ 1 ∷ lastRead ∷ (lastRead + 1) ∷ (2 ^ 32 - 1) ∷ []) i 0
 
 -- pairs, each at an edge of a field
 abbrev pub pairAt : ℕ → ℕ
-pairAt i = getD (0 ∷ 1 ∷ 0xFFFFFFFFFF ∷ 0x10000000000 ∷ 0x100000000000 ∷ 0xFFFFFFFFFFFFFFFF ∷ []) i 0
+pairAt i =
+    getD (0 ∷ 1 ∷ (2 ^ entryBits - 1) ∷ 2 ^ clientAt ∷ 2 ^ counterAt ∷ (2 ^ pairBits - 1) ∷ []) i 0
 
 abbrev pub packDigest : ℕ → ℕ
 packDigest kind = inTurn (λ (i : ℕ). withBuffers (sampleOf kind (numberAt (i / 6)) (pairAt (i % 6)))) 30 0

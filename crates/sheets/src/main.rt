@@ -2,7 +2,8 @@
 // prints digests.
 //
 // `tests/sheets_oracle.py` computes the same lines another way, and `stdout` is what it wrote.
-ghost use Prim.Native.Nat.{_<_};
+ghost use Prim.Native.Nat.{_<_, _^_};
+ghost use Rattle.message.specs.Layout.{kindBits};
 
 mod dates;
 mod digest;
@@ -16,7 +17,7 @@ const FIRST_YEAR: u16 = 1898;
 const END_YEAR: u16 = 2203;
 
 // All that four bits can say.
-const KINDS: u64 = 16;
+const KINDS: u64 = 1 << message::KIND_BITS;
 
 fn print_line(year: u16, digests: Digests) {
     io::print_decimal(1, year as u64);
@@ -30,7 +31,7 @@ fn print_line(year: u16, digests: Digests) {
 }
 
 fn print_kind(kind: u64)
-    requires { ⌜ kind < 16 ⌝ }
+    requires { ⌜ kind < 2 ^ kindBits ⌝ }
 {
     io::write_all(1, b"kind ");
     io::print_decimal(1, kind);

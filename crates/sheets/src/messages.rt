@@ -1,11 +1,13 @@
 // Digests of packing and unpacking messages at the edges of every field.
 ghost use mathlib.Core.Path.{_≡_};
-ghost use Prim.Native.Nat.{_≤_, _<_};
+ghost use Prim.Native.Nat.{_≤_, _<_, _^_};
+ghost use Rattle.message.specs.Layout.{kindBits};
 ghost use Rattle.message.specs.Packing.{packLeaves};
 ghost use Rattle.sheets.specs.Messages.{withPair, withMessage, withBytes, withUnpacked, withPacked};
 ghost use Rattle.sheets.specs.Messages.{withLengths, edgeOf, patternOf, kindDigest};
 ghost use Rattle.sheets.specs.Messages.{sampleOf, withBuffers, packDigest};
 use crate::digest::mix;
+use message::MESSAGE_BYTES;
 use message::Message;
 use message::Packed;
 use message::Pair;
@@ -13,11 +15,13 @@ use message::Unpacked;
 use message::Words;
 
 // The highest of each width.
-const TWENTY_BITS: u64 = 0xF_FFFF;
+const HIGHEST_TAG: u64 = (1 << message::TAG_BITS) - 1;
 
-const FOUR_BITS: u64 = 0xF;
+const HIGHEST_COUNTER: u64 = (1 << message::COUNTER_BITS) - 1;
 
-const FORTY_BITS: u64 = 0xFF_FFFF_FFFF;
+const HIGHEST_CLIENT: u64 = (1 << message::CLIENT_BITS) - 1;
+
+const HIGHEST_ENTRY: u64 = (1 << message::ENTRY_BITS) - 1;
 
 const PATTERNS: u64 = 81;
 
@@ -35,7 +39,15 @@ const PAIRS: [u64; 6] = [
 
 const SAMPLES: usize = 30;
 
-const LENGTHS: usize = 14;
+// One byte fewer than a message has, and one more.
+const SHORT: usize = MESSAGE_BYTES - 1;
+
+const LONG: usize = MESSAGE_BYTES + 1;
+
+// The bytes of the longest buffer, and how many lengths there are up to it.
+const MOST_BYTES: usize = MESSAGE_BYTES + 2;
+
+const LENGTHS: usize = MOST_BYTES + 1;
 
 fn with_pair(digest: u64, pair: Pair) -> u64
     ensures { λ r. ⌜ r ≡ withPair pair digest ⌝ }
@@ -102,10 +114,10 @@ fn with_packed(digest: u64, message: Message, out: &mut [u8]) -> u64
 fn with_lengths(digest: u64, number: Words) -> u64
     ensures { λ r. ⌜ r ≡ withLengths number digest ⌝ }
 {
-    let mut space = [0u8; 12];
+    let mut space = [0u8; LONG];
     message::store(number, &mut space, 0);
-    let of_ten = with_unpacked(digest, &space[..10]);
-    let of_eleven = with_unpacked(of_ten, &space[..11]);
+    let of_ten = with_unpacked(digest, &space[..SHORT]);
+    let of_eleven = with_unpacked(of_ten, &space[..MESSAGE_BYTES]);
     with_unpacked(of_eleven, &space)
 }
 
@@ -126,13 +138,13 @@ fn edge(highest: u64, i: u64) -> u64
 
 // The i-th pattern of a kind: each field at each of its edges.
 fn pattern(kind: u64, i: u64) -> Words
-    requires { ⌜ kind < 16 ⌝ }
+    requires { ⌜ kind < 2 ^ kindBits ⌝ }
     ensures { λ r. ⌜ r ≡ patternOf kind i ⌝ }
 {
-    let tag = edge(TWENTY_BITS, i / 27);
-    let counter = edge(TWENTY_BITS, i / 9 % 3);
-    let client = edge(FOUR_BITS, i / 3 % 3);
-    let entry = edge(FORTY_BITS, i % 3);
+    let tag = edge(HIGHEST_TAG, i / 27);
+    let counter = edge(HIGHEST_COUNTER, i / 9 % 3);
+    let client = edge(HIGHEST_CLIENT, i / 3 % 3);
+    let entry = edge(HIGHEST_ENTRY, i % 3);
     Words(
         (kind * 0x10_0000 + tag) as u32,
         counter * 0x1000_0000_0000 + client * 0x100_0000_0000 + entry,
@@ -141,7 +153,7 @@ fn pattern(kind: u64, i: u64) -> Words
 
 // What the patterns of a kind are unpacked to.
 pub fn of_kind(kind: u64) -> u64
-    requires { ⌜ kind < 16 ⌝ }
+    requires { ⌜ kind < 2 ^ kindBits ⌝ }
     ensures { λ r. ⌜ r ≡ kindDigest kind ⌝ }
 {
     let mut digest: u64 = 0;
@@ -174,7 +186,7 @@ fn with_buffers(start: u64, message: Message) -> u64
     let mut digest = start;
     let mut n: usize = 0;
     while n < LENGTHS {
-        let mut space = [0xA5u8; 13];
+        let mut space = [0xA5u8; MOST_BYTES];
         digest = with_packed(digest, message, &mut space[..n]);
         n += 1;
     }

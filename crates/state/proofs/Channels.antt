@@ -5,23 +5,19 @@
 -- (`place-is`), so the laws of the channels' memory hold entry by entry. All is for clients 1 to 6 and
 -- servers 1 to 13.
 -- Assumes nothing.
+use Rattle.register.proofs.Vocabulary.{update, Message, Good, wellFormed, wordsOf, mostServers, capacity}
+use Rattle.register.proofs.Vocabulary.{World}
 use Rattle.basics.proofs.Prelude.{_≡_, refl, ap, _∙_, true, cond, _&&_, List, [], _∷_, _++_, length, ℕ, suc}
 use Rattle.basics.proofs.Prelude.{_+_, _-_, _*_, _/_, _%_, _≤_, _<_, arith, eqb, ltb, eqb-true, eqb-false}
 use Rattle.basics.proofs.Prelude.{eq-eqb, ne-eqb, ltb-true, ltb-false, lt-ltb, le-ltb}
-use Rattle.basics.specs.Update.{update}
 use Rattle.basics.proofs.Cases.{by-test}
-use Rattle.message.specs.declared.Message.{Message}
-use Rattle.message.specs.declared.Unpacked.the-variants.{Good}
-use Rattle.message.specs.Layout.{wellFormed, wordsOf}
+use Rattle.basics.proofs.UpTo.{back-one, same-place}
 use Rattle.message.proofs.RoundTrip.{of-words-of}
-use Rattle.channel.specs.Memory.{upward, channels, capacity, countAt, putOn, taken, cleared}
+use Rattle.channel.specs.Memory.{upward, channels, countAt, putOn, removed, cleared}
 use Rattle.channel.specs.Layout.{Fitting, layout}
-use Rattle.channel.proofs.Laws.{layout-same, layout-count, layout-put, layout-take, layout-clear}
+use Rattle.channel.proofs.Laws.{layout-same, layout-count, layout-put, layout-remove, layout-clear}
 use Rattle.channel.proofs.Laws.{layout-oldest}
-use Rattle.register.specs.Settings.{mostServers}
-use Rattle.register.specs.World.{World}
 use Rattle.state.specs.State.{upIndex, downIndex, tableAt, channelOf, storeSlots, messageAt}
-use Rattle.state.proofs.Ranges.{back-one, same-place}
 pub use Rattle.state.proofs.Ranges.{Inside}
 
 -- the messages between each client and each server
@@ -32,17 +28,17 @@ Table = ℕ → ℕ → List Message
 unfoldable pub slotsOf : Table → Table → List ℕ
 slotsOf up down = layout (tableAt up down)
 
-pub store-slots : (w : World) → storeSlots w ≡ slotsOf (w .up) (w .down)
+pub store-slots : (world : World) → storeSlots world ≡ slotsOf (world .up) (world .down)
 unfolding storeSlots channelOf slotsOf
-store-slots w = refl
+store-slots world = refl
 
-pub slots-same : (u v n o : Table) → ((d k : ℕ) → u d k ≡ v d k) → ((d k : ℕ) → n d k ≡ o d k)
-    → slotsOf u n ≡ slotsOf v o
-slots-same u v n o p q = λ i. slotsOf (λ d k. p d k i) (λ d k. q d k i)
+pub slots-same : (up up′ down down′ : Table) → ((d k : ℕ) → up d k ≡ up′ d k)
+    → ((d k : ℕ) → down d k ≡ down′ d k) → slotsOf up down ≡ slotsOf up′ down′
+slots-same up up′ down down′ same-up same-down = λ i. slotsOf (λ d k. same-up d k i) (λ d k. same-down d k i)
 
 -- one entry changed
 unfoldable pub changed : Table → ℕ → ℕ → List Message → Table
-changed table d k l e j = cond (eqb k j && eqb d e) l (table e j)
+changed table d k l other j = cond (eqb k j && eqb d other) l (table other j)
 
 -- no entry is longer than a channel
 abbrev pub Short : Table → Type 0
@@ -51,10 +47,11 @@ Short table = (d k : ℕ) → length (table d k) ≤ capacity
 pub short-changed : (table : Table) (d k : ℕ) (l : List Message) → Short table → length l ≤ capacity
     → Short (changed table d k l)
 unfolding changed
-short-changed table d k l h g e j = by-test (eqb k j && eqb d e) (λ q. rw q g) (λ q. rw q (h e j))
+short-changed table d k l h g other j = by-test (eqb k j && eqb d other) (λ q. rw q g) (λ q. rw q (h other j))
 
 pub fitting : (up down : Table) → Short up → Short down → Fitting (tableAt up down)
-fitting up down hu hd i less = by-test (ltb i upward) (λ e. rw e (hu _ _)) (λ e. rw e (hd _ _))
+fitting up down up-fits down-fits i less = by-test (ltb i upward) (λ e. rw e (up-fits _ _))
+    (λ e. rw e (down-fits _ _))
 
 -- ---- indices
 
@@ -86,7 +83,7 @@ behind x c h =
 
 -- ---- the two channels of client d and server k
 
-module _ (up down : Table) (d k : ℕ) (i : Inside d k) where
+module _ (up down : Table) (d k : ℕ) (named : Inside d k) where
   abbrev upAt : ℕ
   upAt = upIndex (d - 1) (k - 1)
 
@@ -94,10 +91,11 @@ module _ (up down : Table) (d k : ℕ) (i : Inside d k) where
   downAt = downIndex (d - 1) (k - 1)
 
   up-less : upAt < upward
-  up-less = let l = i .low in let h = i .high in let f = i .first in let t = i .last in omega arith
+  up-less = let l = named .low in let h = named .high in let f = named .first in let t =
+      named .last in omega arith
 
-  inner : k - 1 < mostServers
-  inner = let t = i .last in omega arith
+  inside-row : k - 1 < mostServers
+  inside-row = let t = named .last in omega arith
 
   pub up-inside : upAt < channels
   up-inside = omega (arith, up-less)
@@ -109,10 +107,10 @@ module _ (up down : Table) (d k : ℕ) (i : Inside d k) where
   entry : (table : Table) → table (suc (upAt / mostServers)) (suc (upAt % mostServers)) ≡ table d k
   entry table =
       rw (
-        place-div (d - 1) (k - 1) inner,
-        place-mod (d - 1) (k - 1) inner,
-        back-one d (i .low),
-        back-one k (i .first),
+        place-div (d - 1) (k - 1) inside-row,
+        place-mod (d - 1) (k - 1) inside-row,
+        back-one d (named .low),
+        back-one k (named .first),
       )
 
   pub up-entry : tableAt up down upAt ≡ up d k
@@ -125,8 +123,8 @@ module _ (up down : Table) (d k : ℕ) (i : Inside d k) where
 
   here : (c : ℕ) → eqb upAt c ≡ eqb k (suc (c % mostServers)) && eqb d (suc (c / mostServers))
   here c =
-      rw (same-place k (c % mostServers) (i .first), same-place d (c / mostServers) (i .low))
-      (place-is (d - 1) (k - 1) c inner)
+      rw (same-place k (c % mostServers) (named .first), same-place d (c / mostServers) (named .low))
+      (place-is (d - 1) (k - 1) c inside-row)
 
   up-changed : (l : List Message) → layout (update (tableAt up down) upAt l) ≡ slotsOf (changed up d k l) down
   unfolding slotsOf changed update
@@ -144,9 +142,9 @@ module _ (up down : Table) (d k : ℕ) (i : Inside d k) where
       (λ e. rw (e, ne-eqb downAt c (λ z. omega (arith, ltb-true c upward e))))
       (λ e. rw (e, behind upAt c (ltb-false c upward e), here (c - upward))))
 
-  module _ (hu : Short up) (hd : Short down) where
+  module _ (up-fits : Short up) (down-fits : Short down) where
     fits : Fitting (tableAt up down)
-    fits = fitting up down hu hd
+    fits = fitting up down up-fits down-fits
 
     -- how many messages wait
     pub up-count : countAt (slotsOf up down) upAt ≡ length (up d k)
@@ -158,44 +156,53 @@ module _ (up down : Table) (d k : ℕ) (i : Inside d k) where
     down-count = layout-count (tableAt up down) fits downAt down-inside ∙ ap length down-entry
 
     -- a message put behind them
-    pub up-put : (m : Message) → length (up d k) < capacity
-        → putOn (slotsOf up down) upAt (wordsOf m) ≡ slotsOf (changed up d k (up d k ++ m ∷ [])) down
+    pub up-put : (message : Message) → length (up d k) < capacity
+        → putOn (slotsOf up down) upAt (wordsOf message)
+        ≡ slotsOf (changed up d k (up d k ++ message ∷ [])) down
     unfolding slotsOf
-    up-put m room =
-        layout-put (tableAt up down) fits upAt up-inside m (rw up-entry room)
-        ∙ rw up-entry (up-changed (up d k ++ m ∷ []))
+    up-put message room =
+        layout-put (tableAt up down) fits upAt up-inside message (rw up-entry room)
+        ∙ rw up-entry (up-changed (up d k ++ message ∷ []))
 
-    pub down-put : (m : Message) → length (down d k) < capacity
-        → putOn (slotsOf up down) downAt (wordsOf m) ≡ slotsOf up (changed down d k (down d k ++ m ∷ []))
+    pub down-put : (message : Message) → length (down d k) < capacity
+        → putOn (slotsOf up down) downAt (wordsOf message)
+        ≡ slotsOf up (changed down d k (down d k ++ message ∷ []))
     unfolding slotsOf
-    down-put m room =
-        layout-put (tableAt up down) fits downAt down-inside m (rw down-entry room)
-        ∙ rw down-entry (down-changed (down d k ++ m ∷ []))
+    down-put message room =
+        layout-put (tableAt up down) fits downAt down-inside message (rw down-entry room)
+        ∙ rw down-entry (down-changed (down d k ++ message ∷ []))
 
     -- all of them gone
     pub down-clear : cleared (slotsOf up down) downAt ≡ slotsOf up (changed down d k [])
     unfolding slotsOf
     down-clear = layout-clear (tableAt up down) fits downAt down-inside ∙ down-changed []
 
-    module _ (m : Message) (ms : List Message) where
+    module _ (message : Message) (rest : List Message) where
       -- the oldest taken
-      pub up-take : up d k ≡ m ∷ ms → taken (slotsOf up down) upAt ≡ slotsOf (changed up d k ms) down
+      pub up-remove : up d k ≡ message ∷ rest → removed (slotsOf up down) upAt
+          ≡ slotsOf (changed up d k rest) down
       unfolding slotsOf
-      up-take e = layout-take (tableAt up down) fits upAt up-inside m ms (up-entry ∙ e) ∙ up-changed ms
+      up-remove e = layout-remove (tableAt up down) fits upAt up-inside message rest (up-entry ∙ e)
+          ∙ up-changed rest
 
-      pub down-take : down d k ≡ m ∷ ms → taken (slotsOf up down) downAt ≡ slotsOf up (changed down d k ms)
+      pub down-remove : down d k ≡ message ∷ rest
+          → removed (slotsOf up down) downAt ≡ slotsOf up (changed down d k rest)
       unfolding slotsOf
-      down-take e =
-          layout-take (tableAt up down) fits downAt down-inside m ms (down-entry ∙ e) ∙ down-changed ms
+      down-remove e =
+          layout-remove (tableAt up down) fits downAt down-inside message rest (down-entry ∙ e)
+          ∙ down-changed rest
 
       -- the oldest read
-      oldest-at : (c : ℕ) → c < channels → tableAt up down c ≡ m ∷ ms → wellFormed m ≡ true
-          → messageAt (slotsOf up down) c ≡ Good m
+      oldest-at : (c : ℕ) → c < channels → tableAt up down c ≡ message ∷ rest → wellFormed message ≡ true
+          → messageAt (slotsOf up down) c ≡ Good message
       unfolding slotsOf
-      oldest-at c less e well = rw (layout-oldest (tableAt up down) fits c less m ms e) (of-words-of m well)
+      oldest-at c less e well = rw (layout-oldest (tableAt up down) fits c less message rest e)
+          (of-words-of message well)
 
-      pub up-oldest : up d k ≡ m ∷ ms → wellFormed m ≡ true → messageAt (slotsOf up down) upAt ≡ Good m
+      pub up-oldest : up d k ≡ message ∷ rest → wellFormed message ≡ true → messageAt (slotsOf up down) upAt
+          ≡ Good message
       up-oldest e = oldest-at upAt up-inside (up-entry ∙ e)
 
-      pub down-oldest : down d k ≡ m ∷ ms → wellFormed m ≡ true → messageAt (slotsOf up down) downAt ≡ Good m
+      pub down-oldest : down d k ≡ message ∷ rest → wellFormed message ≡ true
+          → messageAt (slotsOf up down) downAt ≡ Good message
       down-oldest e = oldest-at downAt down-inside (down-entry ∙ e)

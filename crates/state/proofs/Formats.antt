@@ -5,57 +5,59 @@
 -- Assumes nothing.
 use Rattle.basics.proofs.Prelude.{_≡_, refl, true, false, _&&_, _^_, ltb, ltb-true, lt-ltb}
 use Rattle.basics.proofs.Cases.{both, true-or-false}
-use Rattle.message.specs.declared.Message.{Message}
-use Rattle.message.specs.declared.Message.the-variants.{GetInfo, Info, Done, WriteInfo, Fwd, WriteAck}
-use Rattle.message.specs.declared.Unpacked.the-variants.{Good}
-use Rattle.message.specs.Layout.{wellFormed}
-use Rattle.message.specs.Layout.{goes}
-use Rattle.register.specs.WellFormed.{FromClient, FromServer}
+use Rattle.register.proofs.Vocabulary.{Message, GetInfo, Info, Done, WriteInfo, Fwd, WriteAck, Good}
+use Rattle.register.proofs.Vocabulary.{wellFormed, goes, tagBits, pairBits, FromClient, FromServer}
+use Rattle.message.specs.Pair.{counterBits}
 
 -- ---- from clients
 
-pub client-suits : (m : Message) → FromClient m → wellFormed m && goes false (Good m) ≡ true
+pub client-suits : (message : Message) → FromClient message → wellFormed message && goes false (Good message)
+    ≡ true
 unfolding wellFormed goes
-client-suits (GetInfo t) h = rw (lt-ltb (t .0) (2 ^ 20) h)
-client-suits (Info t p) h = absurd h
+client-suits (GetInfo number) h = rw (lt-ltb (number .0) (2 ^ tagBits) h)
+client-suits (Info number pair) h = absurd h
 client-suits Done h = refl
-client-suits (WriteInfo p) h = rw (lt-ltb (p .0) (2 ^ 64) h)
-client-suits (Fwd p) h = absurd h
-client-suits (WriteAck c) h = absurd h
+client-suits (WriteInfo pair) h = rw (lt-ltb (pair .0) (2 ^ pairBits) h)
+client-suits (Fwd pair) h = absurd h
+client-suits (WriteAck counter) h = absurd h
 
-pub client-message : (m : Message) → FromClient m → wellFormed m ≡ true
-client-message m h = both (wellFormed m) (goes false (Good m)) (client-suits m h) .0
+pub client-message : (message : Message) → FromClient message → wellFormed message ≡ true
+client-message message h = both (wellFormed message) (goes false (Good message)) (client-suits message h) .0
 
-pub goes-up : (m : Message) → wellFormed m ≡ true → goes false (Good m) ≡ true → FromClient m
+pub goes-up : (message : Message) → wellFormed message ≡ true → goes false (Good message) ≡ true
+    → FromClient message
 unfolding wellFormed goes
-goes-up (GetInfo t) w g = ltb-true (t .0) (2 ^ 20) w
-goes-up (Info t p) w g = absurd (true-or-false false g refl)
-goes-up Done w g = tt
-goes-up (WriteInfo p) w g = ltb-true (p .0) (2 ^ 64) w
-goes-up (Fwd p) w g = absurd (true-or-false false g refl)
-goes-up (WriteAck c) w g = absurd (true-or-false false g refl)
+goes-up (GetInfo number) well way = ltb-true (number .0) (2 ^ tagBits) well
+goes-up (Info number pair) well way = absurd (true-or-false false way refl)
+goes-up Done well way = tt
+goes-up (WriteInfo pair) well way = ltb-true (pair .0) (2 ^ pairBits) well
+goes-up (Fwd pair) well way = absurd (true-or-false false way refl)
+goes-up (WriteAck counter) well way = absurd (true-or-false false way refl)
 
 -- ---- from servers
 
-pub server-suits : (m : Message) → FromServer m → wellFormed m && goes true (Good m) ≡ true
+pub server-suits : (message : Message) → FromServer message → wellFormed message && goes true (Good message)
+    ≡ true
 unfolding wellFormed goes
-server-suits (GetInfo t) h = absurd h
-server-suits (Info t p) h = rw (lt-ltb (t .0) (2 ^ 20) (h .0), lt-ltb (p .0) (2 ^ 64) (h .1))
+server-suits (GetInfo number) h = absurd h
+server-suits (Info number pair) h =
+    rw (lt-ltb (number .0) (2 ^ tagBits) (h .0), lt-ltb (pair .0) (2 ^ pairBits) (h .1))
 server-suits Done h = absurd h
-server-suits (WriteInfo p) h = absurd h
-server-suits (Fwd p) h = rw (lt-ltb (p .0) (2 ^ 64) h)
-server-suits (WriteAck c) h = rw (lt-ltb (c .0) (2 ^ 20) h)
+server-suits (WriteInfo pair) h = absurd h
+server-suits (Fwd pair) h = rw (lt-ltb (pair .0) (2 ^ pairBits) h)
+server-suits (WriteAck counter) h = rw (lt-ltb (counter .0) (2 ^ counterBits) h)
 
-pub server-message : (m : Message) → FromServer m → wellFormed m ≡ true
-server-message m h = both (wellFormed m) (goes true (Good m)) (server-suits m h) .0
+pub server-message : (message : Message) → FromServer message → wellFormed message ≡ true
+server-message message h = both (wellFormed message) (goes true (Good message)) (server-suits message h) .0
 
-pub goes-down : (m : Message) → wellFormed m ≡ true → goes true (Good m) ≡ true → FromServer m
+pub goes-down : (message : Message) → wellFormed message ≡ true → goes true (Good message) ≡ true
+    → FromServer message
 unfolding wellFormed goes
-goes-down (GetInfo t) w g = absurd (true-or-false false g refl)
-goes-down (Info t p) w g =
-    let b = both (ltb (t .0) (2 ^ 20)) (ltb (p .0) (2 ^ 64)) w in
-    (ltb-true (t .0) (2 ^ 20) (b .0), ltb-true (p .0) (2 ^ 64) (b .1))
-goes-down Done w g = absurd (true-or-false false g refl)
-goes-down (WriteInfo p) w g = absurd (true-or-false false g refl)
-goes-down (Fwd p) w g = ltb-true (p .0) (2 ^ 64) w
-goes-down (WriteAck c) w g = ltb-true (c .0) (2 ^ 20) w
+goes-down (GetInfo number) well way = absurd (true-or-false false way refl)
+goes-down (Info number pair) well way =
+    let b = both (ltb (number .0) (2 ^ tagBits)) (ltb (pair .0) (2 ^ pairBits)) well in
+    (ltb-true (number .0) (2 ^ tagBits) (b .0), ltb-true (pair .0) (2 ^ pairBits) (b .1))
+goes-down Done well way = absurd (true-or-false false way refl)
+goes-down (WriteInfo pair) well way = absurd (true-or-false false way refl)
+goes-down (Fwd pair) well way = ltb-true (pair .0) (2 ^ pairBits) well
+goes-down (WriteAck counter) well way = ltb-true (counter .0) (2 ^ counterBits) well

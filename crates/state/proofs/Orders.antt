@@ -5,9 +5,8 @@ use Rattle.basics.proofs.Prelude.{_≡_, refl, true, inl, inr, List, [], _∷_,
 use Rattle.basics.proofs.Prelude.{_<_, not-suc-le-zero, arith, ltb-true, lt-ltb}
 use native.Mathlib.Nat.{lt-trans}
 use Rattle.basics.proofs.Cases.{both, both-of}
-use Rattle.basics.specs.Members.{Member}
+use Rattle.register.proofs.Vocabulary.{Member, Pair}
 use Rattle.basics.proofs.Members.{Every}
-use Rattle.message.specs.declared.Pair.{Pair}
 use Rattle.register.specs.PairSet.{Ordered}
 use Rattle.replies.specs.Sound.{isFirst, isRising}
 

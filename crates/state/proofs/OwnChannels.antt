@@ -14,12 +14,12 @@ module _ (i j : ℕ) (client : i < mostClients) (server : j < mostServers) where
   down-inside = omega arith
 
   -- another client, another server
-  module _ (c k : ℕ) (client′ : c < mostClients) (server′ : k < mostServers) where
-    pub up-own : upIndex i j ≡ upIndex c k → (i ≡ c) × (j ≡ k)
+  module _ (i′ j′ : ℕ) (client′ : i′ < mostClients) (server′ : j′ < mostServers) where
+    pub up-own : upIndex i j ≡ upIndex i′ j′ → (i ≡ i′) × (j ≡ j′)
     up-own e = (omega arith, omega arith)
 
-    pub down-own : downIndex i j ≡ downIndex c k → (i ≡ c) × (j ≡ k)
+    pub down-own : downIndex i j ≡ downIndex i′ j′ → (i ≡ i′) × (j ≡ j′)
     down-own e = (omega arith, omega arith)
 
-    pub ways-differ : upIndex i j ≡ downIndex c k → ⊥
+    pub ways-differ : upIndex i j ≡ downIndex i′ j′ → ⊥
     ways-differ e = omega arith

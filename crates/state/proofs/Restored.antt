@@ -7,28 +7,28 @@ use Rattle.basics.proofs.Prelude.{_≡_, sym, ap, _∙_, cond, _&&_, List, [], 
 use Rattle.basics.proofs.Prelude.{length-drop, length-take-le, ℕ, suc, _+_, _-_, _/_, _%_, _≤_, _<_, arith}
 use Rattle.basics.proofs.Prelude.{ltb, ltb-true, ltb-false}
 use lib.Seq.{take-suc}
-use Rattle.basics.specs.Tables.{tabled, partAt}
+use Rattle.register.proofs.Vocabulary.{tabled, partAt, isUpTo, mostServers, mostClients, World}
 use Rattle.basics.proofs.Tables.{tabled-same, tabled-back, tabled-back-alone}
-use Rattle.register.specs.Settings.{mostServers, mostClients}
-use Rattle.register.specs.World.{World}
+use Rattle.basics.proofs.BitSets.{set-back}
+use Rattle.basics.proofs.UpTo.{of-range, pick, less-one}
 use Rattle.channel.specs.Memory.{upward, channels}
 use Rattle.channel.specs.Sound.{messages}
 use Rattle.channel.proofs.Laws.{layout-same}
 use Rattle.channel.proofs.Messages.{layout-messages}
 use Rattle.server.specs.Memory as server
-use Rattle.server.proofs.Sets.{set-back}
+use Rattle.server.specs.Memory.{serverLength}
 use Rattle.client.specs.Memory as client
+use Rattle.client.specs.Memory.{clientLength}
 use Rattle.state.specs.declared.Settings.{Settings}
-use Rattle.state.specs.State.{serverStart, serverAt, stoppedIn, clientAt, isOf, channelOf}
+use Rattle.state.specs.State.{serverStart, serverAt, stoppedIn, clientAt, channelOf}
 use Rattle.state.specs.State.{storeServers, storeStopped, storeClients, storeSlots, view}
-use Rattle.state.proofs.Ranges.{pick, of-range, less-one}
 use Rattle.state.proofs.SoundFacts.{Facts, most-six}
 use Rattle.state.proofs.SoundServer.{below-six, server-back}
 use Rattle.state.proofs.SoundClient.{client-back}
 
 -- a part of a list that is long enough
-part-length : (l : List ℕ) (at w : ℕ) → at + w ≤ length l → length (partAt at w l) ≡ w
-part-length l at w h = length-take-le w (drop at l) (rw (length-drop at l) (omega arith))
+part-length : (l : List ℕ) (at width : ℕ) → at + width ≤ length l → length (partAt at width l) ≡ width
+part-length l at width h = length-take-le width (drop at l) (rw (length-drop at l) (omega arith))
 
 module _ (settings : Settings) (servers clients slots : List ℕ)
     (facts : Facts settings servers clients slots) where
@@ -43,8 +43,8 @@ module _ (settings : Settings) (servers clients slots : List ℕ)
   server-same : (j : ℕ) → j < mostServers → server.store (shown .servers (suc j)) ≡ serverAt servers j
   unfolding view
   server-same j less =
-      let all = facts .servers in
-      let long = part-length servers (serverStart j) server.words (omega arith) in
+      let all = facts .serversLong in
+      let long = part-length servers (serverStart j) serverLength (omega arith) in
       rw (of-range mostServers (suc j) (omega arith) less, less-one j)
       (server-back settings six j (serverAt servers j) (facts .server j less) long)
 
@@ -52,7 +52,7 @@ module _ (settings : Settings) (servers clients slots : List ℕ)
   unfolding storeServers
   servers-back =
       tabled-same (λ j. server.store (shown .servers (suc j))) (serverAt servers) mostServers server-same
-      ∙ tabled-back-alone server.words servers mostServers (facts .servers)
+      ∙ tabled-back-alone serverLength servers mostServers (facts .serversLong)
 
   -- ---- clients
 
@@ -71,20 +71,21 @@ module _ (settings : Settings) (servers clients slots : List ℕ)
   pub clients-back : storeClients (view servers clients slots) ≡ clients
   unfolding storeClients
   clients-back =
-      let long = facts .clients in
+      let long = facts .clientsLong in
       let first : take 1 clients ≡ stoppedIn clients ∷ [] = take-suc clients 0 0 (omega arith) in
       rw (
         stopped-back,
         tabled-same (λ i. client.store (shown .clients (suc i))) (clientAt clients) mostClients client-same,
       )
       (ap (λ (l : List ℕ). l ++ tabled (clientAt clients) mostClients) (sym first)
-      ∙ tabled-back client.words clients 1 mostClients long)
+      ∙ tabled-back clientLength clients 1 mostClients long)
 
   -- ---- slots
 
   -- the messages at an index, where the two are there
   link-back : (i j x y : ℕ) → i < mostClients → j < mostServers → x ≡ y
-      → cond (isOf mostClients (suc i) && isOf mostServers (suc j)) (messages slots x) [] ≡ messages slots y
+      → cond (isUpTo mostClients (suc i) && isUpTo mostServers (suc j)) (messages slots x) []
+      ≡ messages slots y
   link-back i j x y client server e =
       rw (
         of-range mostClients (suc i) (omega arith) client,
@@ -93,18 +94,18 @@ module _ (settings : Settings) (servers clients slots : List ℕ)
         e,
       )
 
-  channel-back : (x : ℕ) → x < channels → channelOf shown x ≡ messages slots x
+  channel-back : (channel : ℕ) → channel < channels → channelOf shown channel ≡ messages slots channel
   unfolding channelOf view
-  channel-back x less =
-      pick (λ l. l ≡ messages slots x) (ltb x upward) _ _
-      (λ e. let low = ltb-true x upward e in
-      link-back (x / mostServers) (x % mostServers) _ x (omega arith) (omega arith) (omega arith))
-      (λ e. let high = ltb-false x upward e in
-      link-back ((x - upward) / mostServers) ((x - upward) % mostServers) _ x (omega arith)
+  channel-back channel less =
+      pick (λ l. l ≡ messages slots channel) (ltb channel upward) _ _
+      (λ e. let low = ltb-true channel upward e in
+      link-back (channel / mostServers) (channel % mostServers) _ channel (omega arith) (omega arith)
+      (omega arith)) (λ e. let high = ltb-false channel upward e in
+      link-back ((channel - upward) / mostServers) ((channel - upward) % mostServers) _ channel (omega arith)
       (omega arith) (omega arith))
 
   pub slots-back : storeSlots (view servers clients slots) ≡ slots
   unfolding storeSlots
   slots-back =
       layout-same (channelOf shown) (messages slots) channel-back
-      ∙ layout-messages slots (facts .channels) (facts .slots)
+      ∙ layout-messages slots (facts .channels) (facts .slotsLong)

@@ -7,18 +7,13 @@
 use Rattle.basics.proofs.Prelude.{_≡_, refl, ap, _∙_, Bool, true, inl, inr, List, [], _∷_, ℕ, _≤_, _<_}
 use Rattle.basics.proofs.Prelude.{le-leb, lt-leb}
 use mathlib.Core.List.{map}
-use Rattle.basics.specs.Members.{Member}
-use Rattle.basics.specs.Tables.{listed}
-use Rattle.basics.specs.Tests.{allPass}
+use Rattle.register.proofs.Vocabulary.{Member, listed, allPass, Message, Good, wellFormed, goes, FromClient}
+use Rattle.register.proofs.Vocabulary.{FromServer}
 use Rattle.basics.proofs.Cases.{both, both-of}
-use Rattle.message.specs.declared.Message.{Message}
-use Rattle.message.specs.declared.Unpacked.the-variants.{Good}
-use Rattle.message.specs.Layout.{wellFormed}
 use Rattle.channel.specs.Memory.{upward, channels, countAt}
-use Rattle.message.specs.Layout.{goes}
 use Rattle.channel.specs.Sound.{isDown, sound, messages}
 use Rattle.channel.proofs.Messages.{suits, messages-fit, messages-suit}
-use Rattle.register.specs.WellFormed.{FromClient, FromServer, WellChannel}
+use Rattle.register.specs.WellFormed.{WellChannel}
 use Rattle.state.proofs.Formats.{client-suits, server-suits, goes-up, goes-down}
 
 -- ---- a test of all elements, member by member
@@ -38,21 +33,24 @@ member-all p (x ∷ xs) h =
 
 module _ (slots : List ℕ) (h : sound slots ≡ true) (i : ℕ) (inside : i < channels) where
   well-by : (Kind : Message → Type 0)
-      → ((m : Message) → wellFormed m ≡ true → goes (isDown i) (Good m) ≡ true → Kind m)
+      → ((message : Message) → wellFormed message ≡ true → goes (isDown i) (Good message) ≡ true
+      → Kind message)
       → WellChannel Kind (messages slots i)
   well-by Kind from =
       record {
         few = messages-fit slots h i inside;
-        kinds = λ m n. let q = both (wellFormed m) (goes (isDown i) (Good m))
-            (all-member (suits i) (messages slots i) (messages-suit slots h i inside) m n) in
-            from m (q .0) (q .1);
+        kinds = λ message member. let both-pass = both (wellFormed message) (goes (isDown i) (Good message))
+            (all-member (suits i) (messages slots i) (messages-suit slots h i inside) message member) in
+            from message (both-pass .0) (both-pass .1);
       }
 
   pub well-up : i < upward → WellChannel FromClient (messages slots i)
-  well-up low = well-by FromClient (λ m w g. goes-up m w (rw (lt-leb upward i low) at g))
+  well-up low = well-by FromClient
+      (λ message well way. goes-up message well (rw (lt-leb upward i low) at way))
 
   pub well-down : upward ≤ i → WellChannel FromServer (messages slots i)
-  well-down high = well-by FromServer (λ m w g. goes-down m w (rw (le-leb upward i high) at g))
+  well-down high = well-by FromServer
+      (λ message well way. goes-down message well (rw (le-leb upward i high) at way))
 
 -- no message waits where the count is 0
 pub no-messages : (slots : List ℕ) (i : ℕ) → countAt slots i ≡ 0 → messages slots i ≡ []
@@ -63,8 +61,10 @@ no-messages slots i e = rw e
 
 module _ (i : ℕ) (l : List Message) where
   pub suits-up : i < upward → WellChannel FromClient l → allPass (map (suits i) l) ≡ true
-  suits-up low w = member-all (suits i) l (λ m n. rw (lt-leb upward i low) (client-suits m (w .kinds m n)))
+  suits-up low well = member-all (suits i) l
+      (λ message member. rw (lt-leb upward i low) (client-suits message (well .kinds message member)))
 
   pub suits-down : upward ≤ i → WellChannel FromServer l → allPass (map (suits i) l) ≡ true
-  suits-down high w =
-      member-all (suits i) l (λ m n. rw (le-leb upward i high) (server-suits m (w .kinds m n)))
+  suits-down high well =
+      member-all (suits i) l
+      (λ message member. rw (le-leb upward i high) (server-suits message (well .kinds message member)))

@@ -6,29 +6,27 @@
 -- Assumes nothing.
 use Rattle.basics.proofs.Prelude.{_≡_, refl, _∙_, Bool, true, false, List, length, getD, ℕ, zero, suc, _%_}
 use Rattle.basics.proofs.Prelude.{_^_, _≤_, _<_, add-zero, arith, eqb, ltb, eqb-true, eqb-false, eq-eqb}
-use Rattle.basics.proofs.Prelude.{le-leb, ltb-true, ltb-false, lt-ltb, le-ltb}
+use Rattle.basics.proofs.Prelude.{le-leb, ltb-true, lt-ltb, le-ltb}
 use mathlib.Core.Path.{fun-ext}
 use native.Mathlib.Nat.{lt-of-lt-of-le, zero-mul, mod-eq-of-lt}
 use lib.Pow.{pow-pos, pow-mono}
-use Rattle.basics.proofs.Cases.{by-test, both, true-or-false}
+use Rattle.register.proofs.Vocabulary.{contains, setOf, isUpTo, pairBits, mostClients, isClient, isHonest}
+use Rattle.register.proofs.Vocabulary.{WellServer}
+use Rattle.basics.proofs.Cases.{by-test, both}
+use Rattle.basics.proofs.BitSets.{set-lt, set-above}
+use Rattle.basics.proofs.UpTo.{out-of-range, range-none}
 use Rattle.register.specs.Server as model
 use Rattle.register.specs.Settings as register
-use Rattle.register.specs.Settings.{mostClients, isClient, isHonest}
-use Rattle.register.specs.WellFormed.{WellServer}
-use Rattle.server.specs.State.{contains, setOf}
 use Rattle.server.specs.State as value
-use Rattle.server.specs.Memory as server
-use Rattle.server.specs.Memory.{pairAt, readersAt, loaded, numbersOf, view, store, isSound}
-use Rattle.server.proofs.Sets.{set-lt, set-above}
+use Rattle.server.specs.Memory.{pairAt, readersAt, loaded, numbersOf, view, store, isSound, serverLength}
 use Rattle.server.proofs.Memory.{store-view}
 use Rattle.state.specs.declared.Settings.{Settings}
-use Rattle.state.specs.State.{settingsOf, isOf}
+use Rattle.state.specs.State.{settingsOf}
 use Rattle.state.specs.Sound.{isServerSound}
-use Rattle.state.proofs.Ranges.{out-of-range, range-none}
 
 -- ---- sets
 
-pub outside : (n set : ℕ) → set < 2 ^ n → (d : ℕ) → isOf n d ≡ false → contains set d ≡ false
+pub outside : (n set : ℕ) → set < 2 ^ n → (d : ℕ) → isUpTo n d ≡ false → contains set d ≡ false
 unfolding contains
 outside n set small zero e = refl
 outside n set small (suc i) e = set-above set n i small (out-of-range n i e)
@@ -78,17 +76,17 @@ module _ (settings : Settings) where
         let q = both (eqb pair 0) (eqb readers 0) (rw e at h) in
         (eqb-true pair 0 (q .0), eqb-true readers 0 (q .1))
 
-    held : (pair < 2 ^ 64) × (readers < 2 ^ settings .clients)
+    held : (pair < 2 ^ pairBits) × (readers < 2 ^ settings .clients)
     unfolding isServerSound
     held =
         by-test (isHonest S (suc j))
-        (λ e. let q = both (ltb pair (2 ^ 64)) (ltb readers (2 ^ settings .clients)) (rw e at h) in
-        (ltb-true pair (2 ^ 64) (q .0), ltb-true readers (2 ^ settings .clients) (q .1)))
+        (λ e. let q = both (ltb pair (2 ^ pairBits)) (ltb readers (2 ^ settings .clients)) (rw e at h) in
+        (ltb-true pair (2 ^ pairBits) (q .0), ltb-true readers (2 ^ settings .clients) (q .1)))
         (λ e. let q = unused e in
         let positive : 0 < 2 ^ settings .clients = pow-pos (settings .clients) in
         (omega (arith, q .0), omega (arith, q .1, positive)))
 
-    small : readers < 64
+    small : readers < 2 ^ mostClients
     small = below-six (settings .clients) readers six (held .1)
 
     low-byte : readers % 2 ^ 8 ≡ readers
@@ -107,20 +105,21 @@ module _ (settings : Settings) where
         fun-ext (λ d. outside 0 (readers % 2 ^ 8) empty d (range-none d)) in
         λ i. record { pair = record { 0 = q .0 i }; readers = nobody i }
 
-    pub server-back : length memory ≡ server.words → store (view memory) ≡ memory
+    pub server-back : length memory ≡ serverLength → store (view memory) ≡ memory
     unfolding isSound
-    server-back long = store-view memory (rw (eq-eqb _ server.words long) (lt-ltb readers 64 small))
+    server-back long = store-view memory
+        (rw (eq-eqb _ serverLength long) (lt-ltb readers (2 ^ mostClients) small))
 
   -- ---- a stored server
 
-  pub stored-server : (j : ℕ) (x : model.Server) → settings .clients ≤ mostClients → WellServer S x
-      → (isHonest S (suc j) ≡ false → x ≡ model.newServer)
-      → isServerSound settings j (getD (store x) pairAt 0) (getD (store x) readersAt 0) ≡ true
+  pub stored-server : (j : ℕ) (kept : model.Server) → settings .clients ≤ mostClients → WellServer S kept
+      → (isHonest S (suc j) ≡ false → kept ≡ model.newServer)
+      → isServerSound settings j (getD (store kept) pairAt 0) (getD (store kept) readersAt 0) ≡ true
   unfolding isServerSound store numbersOf value.store setOf
-  stored-server j x six well empty =
+  stored-server j kept six well empty =
       by-test (isHonest S (suc j))
-      (λ e. rw (e, lt-ltb (x .pair .0) (2 ^ 64) (well .pair))
-      (lt-ltb (setOf (x .readers) mostClients) (2 ^ settings .clients)
-      (set-fits (x .readers) (settings .clients) mostClients six
+      (λ e. rw (e, lt-ltb (kept .pair .0) (2 ^ pairBits) (well .pair))
+      (lt-ltb (setOf (kept .readers) mostClients) (2 ^ settings .clients)
+      (set-fits (kept .readers) (settings .clients) mostClients six
       (λ i more. well .readers (suc i) (client-place i ∙ le-ltb i (settings .clients) more)))))
       (λ e. rw (e, empty e))

@@ -7,57 +7,53 @@
 -- Assumes nothing.
 use Rattle.basics.proofs.Prelude.{_≡_, refl, sym, ap, _∙_, Bool, true, false, not, List, [], _++_}
 use Rattle.basics.proofs.Prelude.{append-assoc, append-nil, Option, none, some, length, getD, length-append}
-use Rattle.basics.proofs.Prelude.{ℕ, zero, suc, _+_, _*_, _/_, _%_, _^_, _≤_, _<_, arith, eqb, ltb, ltb-true}
+use Rattle.basics.proofs.Prelude.{ℕ, suc, _+_, _*_, _/_, _%_, _^_, _≤_, _<_, arith, eqb, ltb}
 use Rattle.basics.proofs.Prelude.{ltb-false, lt-ltb}
-use mathlib.Core.Path.{fun-ext}
 use native.Mathlib.Nat.{add-assoc}
 use lib.ListN.{List·getD-append}
 use lib.Seq.{ext-getD}
 use mir.Val.{boolByte}
-use Rattle.basics.proofs.Cases.{by-test, both-of}
-use Rattle.licence.specs.Entry.{isLicence}
-use Rattle.message.specs.Pair.{initial}
-use Rattle.channel.proofs.Filled.{get-between}
+use Rattle.register.proofs.Vocabulary.{isUpTo, initial, Client, setLimit, formats, mostServers, WellPhase}
 use Rattle.register.specs.declared.Phase.{Phase}
 use Rattle.register.specs.declared.Phase.the-variants.{Idle, Reading, ReadingForWrite, Storing}
-use Rattle.register.specs.Client.{Client, setLimit}
-use Rattle.register.specs.Formats.{formats}
-use Rattle.register.specs.Settings.{mostServers}
-use Rattle.register.specs.WellFormed.{WellPhase}
+use Rattle.basics.proofs.Cases.{both-of}
+use Rattle.basics.proofs.UpTo.{over-range, by-places}
+use Rattle.licence.specs.Entry.{isLicence}
+use Rattle.message.specs.Pair.{counterBits}
+use Rattle.channel.proofs.Filled.{get-between}
 use Rattle.replies.specs.Replies.{sizesAt, acksAt, pairsAt, noteOf, noteWord, pairWord, notedIn, setIn, ackIn}
 use Rattle.replies.specs.Replies.{held, row, storeReplies}
 use Rattle.replies.proofs.Places.{noted-at, ack-at, size-below, pair-at}
 use Rattle.replies.proofs.Placing.{pair-word}
 use Rattle.replies.proofs.Stores.{row-length, row-at}
 use Rattle.client.specs.Sound.{isSoundPhase}
-use Rattle.state.specs.State.{isOf}
-use Rattle.state.proofs.Ranges.{over-range, by-places}
 
 -- a number of a row that stands between others
-at-row : (s t : List ℕ) (g : ℕ → ℕ) (n i at : ℕ) → length s ≡ at → i < n
-    → getD (s ++ row g n ++ t) (at + i) 0 ≡ g i
-at-row s t g n i at e less =
-    get-between s at e (row g n) t i (rw (row-length g n) less) ∙ row-at g n i less
+at-row : (before behind : List ℕ) (g : ℕ → ℕ) (n i at : ℕ) → length before ≡ at → i < n
+    → getD (before ++ row g n ++ behind) (at + i) 0 ≡ g i
+at-row before behind g n i at e less =
+    get-between before at e (row g n) behind i (rw (row-length g n) less) ∙ row-at g n i less
 
-pub sound-phase : (p : Phase) → WellPhase formats p → isSoundPhase p ≡ true
+pub sound-phase : (phase : Phase) → WellPhase formats phase → isSoundPhase phase ≡ true
 unfolding isSoundPhase
 sound-phase Idle h = refl
 sound-phase Reading h = refl
-sound-phase (ReadingForWrite e) h = h
-sound-phase (Storing e c) h =
-    both-of (isLicence (e .0)) (ltb (c .0) (2 ^ 20)) (h .0) (lt-ltb (c .0) (2 ^ 20) (h .1))
+sound-phase (ReadingForWrite entry) h = h
+sound-phase (Storing entry counter) h =
+    both-of (isLicence (entry .0)) (ltb (counter .0) (2 ^ counterBits)) (h .0)
+    (lt-ltb (counter .0) (2 ^ counterBits) (h .1))
 
 -- what it holds is of servers 1 to 13, and no set is longer than its place
 pub record Placed (client : Client) : Type 0 where
   pub few : (k : ℕ) → length (client .sets k) ≤ setLimit
-  pub noted : (k : ℕ) → isOf mostServers k ≡ false → client .noted k ≡ none
-  pub sets : (k : ℕ) → isOf mostServers k ≡ false → client .sets k ≡ []
-  pub acks : (k : ℕ) → isOf mostServers k ≡ false → client .acks k ≡ false
+  pub noted : (k : ℕ) → isUpTo mostServers k ≡ false → client .noted k ≡ none
+  pub sets : (k : ℕ) → isUpTo mostServers k ≡ false → client .sets k ≡ []
+  pub acks : (k : ℕ) → isUpTo mostServers k ≡ false → client .acks k ≡ false
 
-note-found : (o : Option ℕ) → noteOf (noteWord o) ≡ o
+note-found : (note : Option ℕ) → noteOf (noteWord note) ≡ note
 unfolding noteOf noteWord
 note-found none = refl
-note-found (some t) = refl
+note-found (some stamp) = refl
 
 ack-found : (b : Bool) → not (eqb (boolByte b) 0) ≡ b
 ack-found true = refl
@@ -131,29 +127,29 @@ module _ (client : Client) where
         (λ j h. pair-at (storeReplies client) i stored-length less j initial h
         ∙ ap (λ (n : ℕ). record { 0 = n }) (word-at j (omega arith) ∙ pair-word (client .sets (suc i)) j))
 
-  module _ (p : Placed client) where
-    over : (i : ℕ) → ltb i mostServers ≡ false → isOf mostServers (suc i) ≡ false
+  module _ (placed : Placed client) where
+    over : (i : ℕ) → ltb i mostServers ≡ false → isUpTo mostServers (suc i) ≡ false
     over i h = let g = ltb-false i mostServers h in over-range mostServers (suc i) (omega arith)
 
     noted-is : notedIn (storeReplies client) ≡ client .noted
     unfolding notedIn
     noted-is =
-        by-places mostServers (notedIn (storeReplies client)) (client .noted) (sym (p .noted 0 refl))
+        by-places mostServers (notedIn (storeReplies client)) (client .noted) (sym (placed .noted 0 refl))
         noted-found
-        (λ i h. rw (h, p .noted (suc i) (over i h)))
+        (λ i h. rw (h, placed .noted (suc i) (over i h)))
 
     sets-is : setIn (storeReplies client) ≡ client .sets
     unfolding setIn
     sets-is =
-        by-places mostServers (setIn (storeReplies client)) (client .sets) (sym (p .sets 0 refl))
-        (λ i less. set-found i less (p .few (suc i)))
-        (λ i h. rw (h, p .sets (suc i) (over i h)))
+        by-places mostServers (setIn (storeReplies client)) (client .sets) (sym (placed .sets 0 refl))
+        (λ i less. set-found i less (placed .few (suc i)))
+        (λ i h. rw (h, placed .sets (suc i) (over i h)))
 
     acks-is : ackIn (storeReplies client) ≡ client .acks
     unfolding ackIn
     acks-is =
-        by-places mostServers (ackIn (storeReplies client)) (client .acks) (sym (p .acks 0 refl)) acks-found
-        (λ i h. rw (h, p .acks (suc i) (over i h)))
+        by-places mostServers (ackIn (storeReplies client)) (client .acks)
+        (sym (placed .acks 0 refl)) acks-found (λ i h. rw (h, placed .acks (suc i) (over i h)))
 
     pub held-client : held (client .phase) (client .reads) (storeReplies client) ≡ client
     held-client =

@@ -10,37 +10,33 @@ use lib.ListN.{List·getD-eq-default}
 use mir.Val.{boolByte}
 use Rattle.basics.proofs.Cases.{by-test, by-either, one-fails, true-or-false}
 use Rattle.basics.proofs.Members.{Every, every-of}
-use Rattle.message.specs.declared.Entry.{Entry}
-use Rattle.message.specs.declared.Pair.{Pair}
-use Rattle.message.specs.declared.WriteCounter.{WriteCounter}
-use Rattle.message.specs.Pair.{initial}
+use Rattle.register.proofs.Vocabulary.{Entry, Pair, WriteCounter, initial, stampBits, Client, setLimit}
+use Rattle.register.proofs.Vocabulary.{isReading, mostServers, isServer, size, formats, WellClient}
 use Rattle.register.specs.declared.Phase.{Phase}
 use Rattle.register.specs.declared.Phase.the-variants.{Storing}
-use Rattle.register.specs.Client.{Client, setLimit, isReading}
-use Rattle.register.specs.Settings.{mostServers, isServer}
-use Rattle.register.specs.Thresholds.{size}
 use Rattle.replies.specs.Replies.{noteWord, pairWord, row, storeReplies}
 use Rattle.replies.proofs.Placing.{pair-word}
 use Rattle.replies.proofs.Steps.{bool-le}
 use Rattle.replies.proofs.Soundness.{Sound}
 use Rattle.client.specs.Sound.{stores}
 use Rattle.state.specs.declared.Settings.{Settings}
-use Rattle.register.specs.Formats.{formats}
-use Rattle.register.specs.WellFormed.{WellSet, WellClient}
+use Rattle.register.specs.WellFormed.{WellSet}
 use Rattle.state.specs.State.{settingsOf}
 use Rattle.state.proofs.Orders.{ordered-rising, place-every, every-join}
 use Rattle.state.proofs.Tested.{server-place}
 use Rattle.state.proofs.StoredClient.{stored-length, note-word, size-word, ack-word, word-at}
 use Rattle.state.proofs.StoredClient.{set-found}
 
-not-storing : (p : Phase) → stores p ≡ false → (e : Entry) (c : WriteCounter) → p ≡ Storing e c → ⊥
+not-storing : (phase : Phase) → stores phase ≡ false → (entry : Entry) (counter : WriteCounter) → phase
+    ≡ Storing entry counter → ⊥
 unfolding stores
-not-storing p h e c q = true-or-false true refl (ap stores (sym q) ∙ h)
+not-storing phase h entry counter q = true-or-false true refl (ap stores (sym q) ∙ h)
 
-note-most : (o : Option ℕ) → ((t : ℕ) → o ≡ some t → t < 2 ^ 24) → noteWord o ≤ 2 ^ 24
+note-most : (note : Option ℕ) → ((stamp : ℕ) → note ≡ some stamp → stamp < 2 ^ stampBits)
+    → noteWord note ≤ 2 ^ stampBits
 unfolding noteWord
 note-most none h = omega arith
-note-most (some t) h = h t refl
+note-most (some stamp) h = h stamp refl
 
 past-last : (l : List Pair) (k : ℕ) → length l ≤ k → pairWord l k ≡ 0
 past-last l k h = pair-word l k ∙ ap (λ (p : Pair). p .0) (List·getD-eq-default l initial {n = k} h)
@@ -57,7 +53,7 @@ module _ (settings : Settings) (client : Client)
       → isServer (settingsOf settings) (suc j) && isReading (client .phase) ≡ false
   not-read j e = rw (server-place settings j) e
 
-  noted : (j : ℕ) → noteWord (client .noted (suc j)) ≤ cond (reading j) (2 ^ 24) 0
+  noted : (j : ℕ) → noteWord (client .noted (suc j)) ≤ cond (reading j) (2 ^ stampBits) 0
   unfolding noteWord
   noted j =
       by-test (reading j) (λ e. rw e (note-most (client .noted (suc j)) (well .noted (suc j))))
@@ -103,10 +99,10 @@ module _ (settings : Settings) (client : Client)
   Small y = y < 2 ^ 64
 
   pair-small : (l : List Pair) (k : ℕ) → WellSet l → Small (pairWord l k)
-  pair-small l k w =
+  pair-small l k well-set =
       by-test (ltb k (length l))
       (λ e. rw (pair-word l k)
-      (place-every (λ p. Small (p .0)) initial l k (every-of (λ p. Small (p .0)) l (w .pairs))
+      (place-every (λ p. Small (p .0)) initial l k (every-of (λ p. Small (p .0)) l (well-set .pairs))
       (ltb-true k (length l) e)))
       (λ e. rw (past-last l k (ltb-false k (length l) e)) (omega arith))
 
@@ -118,17 +114,16 @@ module _ (settings : Settings) (client : Client)
   pub stored-small : Every (λ y. y < 2 ^ 64) (storeReplies client)
   unfolding storeReplies
   stored-small =
-      let a : ℕ → ℕ = λ i. noteWord (client .noted (suc i)) in
-      let b : ℕ → ℕ = λ i. length (client .sets (suc i)) in
-      let c : ℕ → ℕ = λ i. boolByte (client .acks (suc i)) in
-      let d : ℕ → ℕ = λ i. pairWord (client .sets (suc (i / setLimit))) (i % setLimit) in
-      every-join Small 0 (row a mostServers ++ row b mostServers ++ row c mostServers)
-      (row d (mostServers * setLimit))
-      (every-join Small 0 (row a mostServers ++ row b mostServers) (row c mostServers)
-      (every-join Small 0 (row a mostServers) (row b mostServers)
-      (every-row a mostServers
+      let note : ℕ → ℕ = λ i. noteWord (client .noted (suc i)) in
+      let count : ℕ → ℕ = λ i. length (client .sets (suc i)) in
+      let tick : ℕ → ℕ = λ i. boolByte (client .acks (suc i)) in
+      let pair : ℕ → ℕ = λ i. pairWord (client .sets (suc (i / setLimit))) (i % setLimit) in
+      every-join Small 0 (row note mostServers ++ row count mostServers ++ row tick mostServers)
+      (row pair (mostServers * setLimit))
+      (every-join Small 0 (row note mostServers ++ row count mostServers) (row tick mostServers)
+      (every-join Small 0 (row note mostServers) (row count mostServers) (every-row note mostServers
       (λ i. let h = note-most (client .noted (suc i)) (well .noted (suc i)) in omega arith))
-      (every-row b mostServers (λ i. let h = well .sets (suc i) .few in omega arith)))
-      (every-row c mostServers (λ i. let h = bool-le (client .acks (suc i)) in omega arith)))
-      (every-row d (mostServers * setLimit)
+      (every-row count mostServers (λ i. let h = well .sets (suc i) .few in omega arith)))
+      (every-row tick mostServers (λ i. let h = bool-le (client .acks (suc i)) in omega arith)))
+      (every-row pair (mostServers * setLimit)
       (λ i. pair-small _ (i % setLimit) (well .sets (suc (i / setLimit)))))

@@ -3,25 +3,20 @@
 -- A set of clients 1 to 6 is its bits (`set-is`), so the stopped clients are, and a server's readers: a
 -- stored server is shown again by its memory (`server-is`).
 -- Assumes nothing.
-use Rattle.basics.proofs.Prelude.{_≡_, refl, sym, ap, _∙_, Bool, false, ℕ, zero, suc, _≤_, arith, ltb}
-use Rattle.basics.proofs.Prelude.{ltb-true, ltb-false}
-use mathlib.Core.Path.{fun-ext}
-use Rattle.basics.proofs.Cases.{by-test, true-or-false}
-use Rattle.register.specs.Server.{Server}
-use Rattle.register.specs.Settings.{Settings, mostClients, Accepted, isClient}
-use Rattle.register.specs.Steps.{Formats}
-use Rattle.register.specs.World.{World}
-use Rattle.register.specs.WellFormed.{WellServer, WellFormed}
+use Rattle.basics.proofs.Prelude.{_≡_, refl, sym, ap, _∙_, Bool, false, ℕ, suc, _≤_, arith}
+use Rattle.basics.proofs.Prelude.{ltb-false}
+use Rattle.register.proofs.Vocabulary.{contains, setOf, isUpTo, Server, Settings, mostClients, Accepted}
+use Rattle.register.proofs.Vocabulary.{isClient, Formats, World, WellServer, WellFormed}
+use Rattle.basics.proofs.Cases.{true-or-false}
+use Rattle.basics.proofs.BitSets.{set-lt, set-of, set-above}
+use Rattle.basics.proofs.UpTo.{never, of-range, over-range, by-places}
 use Rattle.register.proofs.Bounds.{client-small}
-use Rattle.server.specs.State.{contains, setOf}
 use Rattle.server.specs.State as value
 use Rattle.server.specs.Memory.{loaded, view, store}
-use Rattle.server.proofs.Sets.{set-lt, set-of, set-above}
 use Rattle.server.proofs.Memory.{loaded-numbers}
-use Rattle.state.specs.State.{isOf, storeStopped}
-use Rattle.state.proofs.Ranges.{never, of-range, over-range, by-places}
+use Rattle.state.specs.State.{storeStopped}
 
-pub set-is : (p : ℕ → Bool) → ((d : ℕ) → isOf mostClients d ≡ false → p d ≡ false)
+pub set-is : (p : ℕ → Bool) → ((d : ℕ) → isUpTo mostClients d ≡ false → p d ≡ false)
     → contains (setOf p mostClients) ≡ p
 unfolding contains
 set-is p none-else =
@@ -38,15 +33,16 @@ loaded-is server =
 
 module _ (S : Settings) (accepted : Accepted S) where
   -- clients are among 1 to 6
-  pub no-client : (d : ℕ) → isOf mostClients d ≡ false → isClient S d ≡ false
+  pub no-client : (d : ℕ) → isUpTo mostClients d ≡ false → isClient S d ≡ false
   no-client d h =
       never (isClient S d)
       (λ e. let r = client-small S accepted d e in
-      true-or-false (isOf mostClients d) (of-range mostClients d (r .0) (r .1)) h)
+      true-or-false (isUpTo mostClients d) (of-range mostClients d (r .0) (r .1)) h)
 
-  pub stopped-is : (F : Formats) (w : World) → WellFormed S F w → contains (storeStopped w) ≡ w .stopped
+  pub stopped-is : (F : Formats) (world : World) → WellFormed S F world → contains (storeStopped world)
+      ≡ world .stopped
   unfolding storeStopped
-  stopped-is F w well = set-is (w .stopped) (λ d h. well .stoppedUnused d (no-client d h))
+  stopped-is F world well = set-is (world .stopped) (λ d h. well .stoppedUnused d (no-client d h))
 
   module _ (server : Server) (well : WellServer S server) where
     readers-is : contains (setOf (server .readers) mostClients) ≡ server .readers

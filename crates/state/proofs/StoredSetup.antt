@@ -3,37 +3,35 @@
 -- Why: at setup every pair is the initial one, no one reads, every client is idle at read number 0, and every
 -- channel is empty. Each of these is stored as zero.
 -- Assumes nothing.
+use Rattle.register.proofs.Vocabulary.{setOf, newClient, newServer, mostServers, mostClients, newWorld}
 use Rattle.basics.proofs.Prelude.{_≡_, refl, ap, _∙_, List, [], _∷_, replicate, ℕ, ltb}
 use Rattle.basics.proofs.Tables.{tabled-same}
+use Rattle.basics.proofs.UpTo.{pick}
 use Rattle.channel.specs.Memory.{upward, slotsLength}
 use Rattle.channel.proofs.Laws.{zero-rows, layout-same, layout-empty}
-use Rattle.register.specs.Client.{newClient}
-use Rattle.register.specs.Server.{newServer}
-use Rattle.register.specs.Settings.{mostServers, mostClients}
-use Rattle.register.specs.World.{newWorld}
-use Rattle.server.specs.State.{setOf}
 use Rattle.server.specs.Memory as server
+use Rattle.server.specs.Memory.{serverLength}
 use Rattle.server.proofs.Memory as servers
 use Rattle.client.specs.Memory as client
+use Rattle.client.specs.Memory.{clientLength}
 use Rattle.client.proofs.Memory as clients
 use Rattle.state.specs.State.{serversLength, clientsLength, channelOf}
 use Rattle.state.specs.State.{storeServers, storeStopped, storeClients, storeSlots}
-use Rattle.state.proofs.Ranges.{pick}
 
 pub servers-new : storeServers newWorld ≡ replicate serversLength 0
 unfolding storeServers
 servers-new =
-    tabled-same (λ j. server.store newServer) (λ j. replicate server.words 0) mostServers
+    tabled-same (λ j. server.store newServer) (λ j. replicate serverLength 0) mostServers
     (λ j less. servers.store-new)
-    ∙ zero-rows server.words mostServers
+    ∙ zero-rows serverLength mostServers
 
 pub clients-new : storeClients newWorld ≡ replicate clientsLength 0
 unfolding storeClients storeStopped setOf
 clients-new =
     ap (λ (l : List ℕ). 0 ∷ l)
-    (tabled-same (λ i. client.store newClient) (λ i. replicate client.words 0) mostClients
+    (tabled-same (λ i. client.store newClient) (λ i. replicate clientLength 0) mostClients
     (λ i less. clients.store-new)
-    ∙ zero-rows client.words mostClients)
+    ∙ zero-rows clientLength mostClients)
 
 pub slots-new : storeSlots newWorld ≡ replicate slotsLength 0
 unfolding storeSlots channelOf

@@ -4,12 +4,9 @@
 -- all that the laws of the layout ask.
 -- Assumes nothing.
 use Rattle.basics.proofs.Prelude.{_≡_, true, length, ℕ, _<_, ltb, ltb-true, ltb-false}
+use Rattle.basics.proofs.UpTo.{pick}
 use mathlib.Core.List.{map}
-use Rattle.basics.specs.Tests.{allPass}
-use Rattle.register.specs.Settings.{Settings}
-use Rattle.register.specs.Steps.{Formats}
-use Rattle.register.specs.World.{World}
-use Rattle.register.specs.WellFormed.{WellFormed}
+use Rattle.register.proofs.Vocabulary.{allPass, Settings, Formats, World, WellFormed}
 use Rattle.channel.specs.Memory.{upward, channels, slotsLength}
 use Rattle.channel.specs.Layout.{Fitting}
 use Rattle.channel.specs.Sound.{sound, messages}
@@ -17,29 +14,28 @@ use Rattle.channel.proofs.Laws.{layout-length}
 use Rattle.channel.proofs.Messages.{Suiting, suits, messages-layout, sound-messages}
 use Rattle.state.specs.State.{channelOf, storeSlots}
 use Rattle.state.proofs.Channels.{fitting}
-use Rattle.state.proofs.Ranges.{pick}
 use Rattle.state.proofs.SoundChannels.{suits-up, suits-down}
 
-module _ (S : Settings) (F : Formats) (w : World) (well : WellFormed S F w) where
-  fits : Fitting (channelOf w)
+module _ (S : Settings) (F : Formats) (world : World) (well : WellFormed S F world) where
+  fits : Fitting (channelOf world)
   unfolding channelOf
-  fits = fitting (w .up) (w .down) (λ d k. well .up d k .few) (λ d k. well .down d k .few)
+  fits = fitting (world .up) (world .down) (λ d k. well .up d k .few) (λ d k. well .down d k .few)
 
-  suit : Suiting (channelOf w)
+  suit : Suiting (channelOf world)
   unfolding channelOf
   suit c less =
       pick (λ l. allPass (map (suits c) l) ≡ true) (ltb c upward) _ _
       (λ e. suits-up c _ (ltb-true c upward e) (well .up _ _))
       (λ e. suits-down c _ (ltb-false c upward e) (well .down _ _))
 
-  pub slots-long : length (storeSlots w) ≡ slotsLength
+  pub slots-long : length (storeSlots world) ≡ slotsLength
   unfolding storeSlots
-  slots-long = layout-length (channelOf w) fits
+  slots-long = layout-length (channelOf world) fits
 
-  pub slots-sound : sound (storeSlots w) ≡ true
+  pub slots-sound : sound (storeSlots world) ≡ true
   unfolding storeSlots
-  slots-sound = sound-messages (channelOf w) fits suit
+  slots-sound = sound-messages (channelOf world) fits suit
 
-  pub channel-found : (c : ℕ) → c < channels → messages (storeSlots w) c ≡ channelOf w c
+  pub channel-found : (c : ℕ) → c < channels → messages (storeSlots world) c ≡ channelOf world c
   unfolding storeSlots
-  channel-found = messages-layout (channelOf w) fits suit
+  channel-found = messages-layout (channelOf world) fits suit

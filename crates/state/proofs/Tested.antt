@@ -1,24 +1,20 @@
 -- What the tests of soundness stand on: a bit of a set; what the code finds of a number or of a channel; who
 -- is there, by places; allowed settings have at most six clients; the lengths.
 -- Assumes nothing.
-use Rattle.basics.proofs.Prelude.{_≡_, refl, Bool, true, false, not, _&&_, List, [], _∷_, Option, none, some}
-use Rattle.basics.proofs.Prelude.{length, getD, ℕ, zero, suc, _+_, _*_, _%_, _^_, _≤_, _<_, arith, ltb}
+use Rattle.basics.proofs.Prelude.{_≡_, refl, Bool, true, false, not, _&&_, List, Option, none, some}
+use Rattle.basics.proofs.Prelude.{length, ℕ, suc, _+_, _*_, _%_, _^_, _≤_, _<_, arith, ltb}
 use Rattle.basics.proofs.Prelude.{eqb-true, ne-eqb, le-leb, lt-ltb, le-ltb}
-use mathlib.Core.Bool.{and-true}
 use native.Mathlib.Nat.{mod-eq-of-lt}
 use lib.Pow.{pow-mono}
-use Rattle.basics.specs.Tests.{allPass}
+use Rattle.register.proofs.Vocabulary.{contains, Refusal, mostServers, mostClients, isServer, isHonest}
+use Rattle.register.proofs.Vocabulary.{setupRefusal}
 use Rattle.basics.proofs.Cases.{both, true-or-false}
 use Rattle.basics.proofs.Tests.{each}
-use Rattle.channel.specs.Memory.{slotsLength, countAt}
-use Rattle.refusal.specs.declared.Refusal.{Refusal}
-use Rattle.register.specs.Settings.{mostServers, mostClients, isServer, isHonest, setupRefusal}
 use Rattle.register.proofs.Bounds.{bounds}
-use Rattle.server.specs.State.{contains}
+use Rattle.channel.specs.Memory.{slotsLength, countAt}
 use Rattle.state.specs.declared.Settings.{Settings}
 use Rattle.state.specs.State.{settingsOf, serversLength, clientsLength}
 use Rattle.state.specs.Sound.{isNone, areAllowed, lengthTests, areLong, emptyOr}
-use Rattle.state.proofs.Ranges.{and-false}
 
 -- a bit of the code does not wrap
 pub bit-is : (n : ℕ) → n ≤ mostClients → 1 * 2 ^ n % 2 ^ 64 ≡ 2 ^ n
@@ -56,9 +52,9 @@ module _ (settings : Settings) (j : ℕ) where
 
 -- ---- allowed settings
 
-pub none-is : (o : Option Refusal) → isNone o ≡ true → o ≡ none
+pub none-is : (refusal : Option Refusal) → isNone refusal ≡ true → refusal ≡ none
 none-is none h = refl
-none-is (some r) h = absurd (true-or-false false h refl)
+none-is (some why) h = absurd (true-or-false false h refl)
 
 pub few-clients : (settings : Settings) → areAllowed settings ≡ true → settings .clients ≤ mostClients
 unfolding areAllowed settingsOf

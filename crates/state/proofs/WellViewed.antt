@@ -6,23 +6,21 @@
 use Rattle.basics.proofs.Prelude.{_≡_, refl, sym, ap, _∙_, Bool, true, false, not, _&&_, List, [], ℕ, _+_}
 use Rattle.basics.proofs.Prelude.{_-_, _≤_, arith, eqb-true}
 use mathlib.Core.Bool.{or-false}
+use Rattle.register.proofs.Vocabulary.{contains, newClient, formats, newServer, mostServers, mostClients}
+use Rattle.register.proofs.Vocabulary.{isClient, isServer, isHonest, newWorld, FromClient, FromServer}
+use Rattle.register.proofs.Vocabulary.{WellServer, WellClient, WellFormed}
 use Rattle.basics.proofs.Cases.{both}
-use Rattle.register.specs.Client.{newClient}
-use Rattle.register.specs.Formats.{formats}
-use Rattle.register.specs.Server.{newServer}
+use Rattle.basics.proofs.UpTo.{and-false, at-place, back-one}
 use Rattle.register.specs.Settings as register
-use Rattle.register.specs.Settings.{mostServers, mostClients, isClient, isServer, isHonest}
-use Rattle.register.specs.World.{newWorld}
-use Rattle.register.specs.WellFormed.{FromClient, FromServer, WellChannel, WellServer, WellClient, WellFormed}
+use Rattle.register.specs.WellFormed.{WellChannel}
 use Rattle.register.proofs.Reachable.{well-new}
 use Rattle.channel.specs.Sound.{messages}
-use Rattle.server.specs.State.{contains}
-use Rattle.client.specs.Memory as client
+use Rattle.client.specs.Memory.{clientLength}
 use Rattle.state.specs.declared.Settings.{Settings}
 use Rattle.state.specs.State.{settingsOf, serverAt, stoppedIn, clientStart, clientAt}
 use Rattle.state.specs.State.{upIndex, downIndex, view}
 use Rattle.state.specs.Sound.{usesUp, usesDown, emptyOr, isLinkSound}
-use Rattle.state.proofs.Ranges.{Inside, at-place, at-link, and-false, back-one}
+use Rattle.state.proofs.Ranges.{Inside, at-link}
 use Rattle.state.proofs.StoredParts.{part-get}
 use Rattle.state.proofs.SoundFacts.{Facts, most-six}
 use Rattle.state.proofs.SoundServer.{client-place, no-client, well-server, unused-server}
@@ -67,7 +65,7 @@ module _ (settings : Settings) (servers clients slots : List ℕ)
       at-place (WellClient S formats) mostClients d _ newClient
       (λ low high. let h = facts .client (d - 1) (omega arith) in
       well-client settings (d - 1) (clientAt clients (d - 1)) h
-      (λ x less. rw (part-get clients (clientStart (d - 1)) client.words x less)
+      (λ x less. rw (part-get clients (clientStart (d - 1)) clientLength x less)
       (facts .small (clientStart (d - 1) + x) (omega arith))))
       (λ e. new .client d)
 

@@ -10,12 +10,13 @@ use mathlib.Core.Option.{Option, none, some}
 use lib.Dec.{eqb, leb, ltb}
 use lib.ListN.{length, getD}
 use Rattle.basics.specs.Tests.{allPass, allBelow}
+use Rattle.basics.specs.BitSets.{contains}
 use Rattle.refusal.specs.declared.Refusal.{Refusal}
+use Rattle.message.specs.Pair.{pairBits}
 use Rattle.register.specs.Settings.{mostServers, mostClients, isServer, isHonest, setupRefusal}
 use Rattle.register.specs.Thresholds.{size}
 use Rattle.channel.specs.Memory.{slotsLength, countAt}
 use Rattle.channel.specs.Sound.{sound}
-use Rattle.server.specs.State.{contains}
 use Rattle.server.specs.Memory as server
 use Rattle.client.specs.Memory as client
 use Rattle.client.specs.Sound.{isSoundMemory}
@@ -57,7 +58,8 @@ isStoppedSound settings clients = ltb (stoppedIn clients) (2 ^ settings .clients
 
 unfoldable pub isServerSound : Settings → ℕ → ℕ → ℕ → Bool
 isServerSound settings j pair readers =
-    cond (isHonest (settingsOf settings) (suc j)) (ltb pair (2 ^ 64) && ltb readers (2 ^ settings .clients))
+    cond (isHonest (settingsOf settings) (suc j))
+    (ltb pair (2 ^ pairBits) && ltb readers (2 ^ settings .clients))
     (eqb pair 0 && eqb readers 0)
 
 -- the one whose memory begins at `at`

@@ -8,19 +8,18 @@
 -- In order: settings and steps; where each part stands; a world stored; the world of a state.
 -- Assumes nothing.
 use Prim.Native.Nat.{ℕ, suc, _+_, _-_, _*_, _/_, _%_, _^_}
-use mathlib.Core.Bool.{Bool, cond, _&&_}
+use mathlib.Core.Bool.{cond, _&&_}
 use mathlib.Core.List.{List, [], _∷_}
-use lib.Dec.{leb, ltb}
+use lib.Dec.{ltb}
 use lib.ListN.{getD, set}
 use Rattle.basics.specs.Bytes.{bigEndian}
 use Rattle.basics.specs.Tables.{tabled, partAt, putPart}
+use Rattle.basics.specs.BitSets.{contains, setOf}
+use Rattle.basics.specs.Tests.{isUpTo}
 use Rattle.message.specs.declared.Message.{Message}
 use Rattle.message.specs.declared.Unpacked.{Unpacked}
 use Rattle.message.specs.declared.Words.{Words}
-use Rattle.message.specs.Layout.{messageBytes, messageOf, wordsNumber}
-use Rattle.channel.specs.Memory.{upward, oldestOn}
-use Rattle.channel.specs.Layout.{layout}
-use Rattle.channel.specs.Sound.{messages}
+use Rattle.message.specs.Layout.{messageBytes, messageOf, wordsNumber, headBits}
 use Rattle.register.specs.declared.Step.{Step}
 use Rattle.register.specs.declared.Step.the-variants as code
 use Rattle.register.specs.Client.{newClient}
@@ -29,9 +28,13 @@ use Rattle.register.specs.Settings.{mostServers, mostClients}
 use Rattle.register.specs.Settings as model
 use Rattle.register.specs.Steps as steps
 use Rattle.register.specs.World.{World}
-use Rattle.server.specs.State.{contains, setOf}
+use Rattle.channel.specs.Memory.{upward, oldestOn}
+use Rattle.channel.specs.Layout.{layout}
+use Rattle.channel.specs.Sound.{messages}
 use Rattle.server.specs.Memory as server
+use Rattle.server.specs.Memory.{serverLength}
 use Rattle.client.specs.Memory as client
+use Rattle.client.specs.Memory.{clientLength}
 use Rattle.state.specs.declared.Settings.{Settings}
 
 -- ---- settings and steps
@@ -43,12 +46,12 @@ settingsOf settings =
 
 -- the bytes that two words stand for: eleven, or none where the first has more than 24 bits
 unfoldable pub bytesIn : Words → List ℕ
-bytesIn words = cond (ltb (words .0) (2 ^ 24)) (bigEndian messageBytes (wordsNumber words)) []
+bytesIn words = cond (ltb (words .0) (2 ^ headBits)) (bigEndian messageBytes (wordsNumber words)) []
 
 -- the step that a step of the code is
 unfoldable pub stepOf : Step → steps.Step
 stepOf (code.R d) = steps.R d
-stepOf (code.W d e) = steps.W d e
+stepOf (code.W d entry) = steps.W d entry
 stepOf (code.K k d) = steps.K k d
 stepOf (code.D d k) = steps.D d k
 stepOf (code.C d) = steps.C d
@@ -58,38 +61,45 @@ stepOf (code.L k d words) = steps.L k d (bytesIn words)
 
 -- the memory of the server at place j
 abbrev pub serverStart : ℕ → ℕ
-serverStart j = j * server.words
+serverStart j = j * serverLength
 
 -- numbers of all servers
 abbrev pub serversLength : ℕ
 serversLength = serverStart mostServers
 
 abbrev pub serverAt : List ℕ → ℕ → List ℕ
-serverAt servers j = partAt (serverStart j) server.words servers
+serverAt servers j = partAt (serverStart j) serverLength servers
 
 abbrev pub putServer : List ℕ → ℕ → List ℕ → List ℕ
-putServer servers j memory = putPart (serverStart j) server.words servers memory
+putServer servers j memory = putPart (serverStart j) serverLength servers memory
+
+-- the place of the stopped clients, and behind it where the memory of the clients begins
+abbrev pub stoppedAt : ℕ
+stoppedAt = 0
+
+abbrev pub firstClient : ℕ
+firstClient = stoppedAt + 1
 
 -- the stopped clients, as bits
 abbrev pub stoppedIn : List ℕ → ℕ
-stoppedIn clients = getD clients 0 0
+stoppedIn clients = getD clients stoppedAt 0
 
 abbrev pub putStopped : List ℕ → ℕ → List ℕ
-putStopped clients stopped = set clients 0 stopped
+putStopped clients stopped = set clients stoppedAt stopped
 
 -- the memory of the client at place i
 abbrev pub clientStart : ℕ → ℕ
-clientStart i = 1 + i * client.words
+clientStart i = firstClient + i * clientLength
 
 -- numbers of all clients, with the stopped ones
 abbrev pub clientsLength : ℕ
 clientsLength = clientStart mostClients
 
 abbrev pub clientAt : List ℕ → ℕ → List ℕ
-clientAt clients i = partAt (clientStart i) client.words clients
+clientAt clients i = partAt (clientStart i) clientLength clients
 
 abbrev pub putClient : List ℕ → ℕ → List ℕ → List ℕ
-putClient clients i memory = putPart (clientStart i) client.words clients memory
+putClient clients i memory = putPart (clientStart i) clientLength clients memory
 
 -- the channel from the client at place i to the server at place j, and the one back
 abbrev pub upIndex : ℕ → ℕ → ℕ
@@ -105,14 +115,14 @@ messageAt slots c = messageOf (wordsNumber (oldestOn slots c))
 -- ---- a world stored
 
 unfoldable pub storeServers : World → List ℕ
-storeServers w = tabled (λ j. server.store (w .servers (suc j))) mostServers
+storeServers world = tabled (λ j. server.store (world .servers (suc j))) mostServers
 
 unfoldable pub storeStopped : World → ℕ
-storeStopped w = setOf (w .stopped) mostClients
+storeStopped world = setOf (world .stopped) mostClients
 
 unfoldable pub storeClients : World → List ℕ
 unfolding storeStopped
-storeClients w = storeStopped w ∷ tabled (λ i. client.store (w .clients (suc i))) mostClients
+storeClients world = storeStopped world ∷ tabled (λ i. client.store (world .clients (suc i))) mostClients
 
 -- the messages of channel c, of those up and those down
 abbrev pub tableAt : (ℕ → ℕ → List Message) → (ℕ → ℕ → List Message) → ℕ → List Message
@@ -121,27 +131,23 @@ tableAt up down c =
     (down (suc ((c - upward) / mostServers)) (suc ((c - upward) % mostServers)))
 
 unfoldable pub channelOf : World → ℕ → List Message
-channelOf w c = tableAt (w .up) (w .down) c
+channelOf world c = tableAt (world .up) (world .down) c
 
 unfoldable pub storeSlots : World → List ℕ
 unfolding channelOf
-storeSlots w = layout (channelOf w)
+storeSlots world = layout (channelOf world)
 
 -- ---- the world of a state
-
--- a number from 1 to n
-abbrev pub isOf : ℕ → ℕ → Bool
-isOf n d = leb 1 d && leb d n
 
 -- what stands at a place that there is, and otherwise what stands there at setup
 unfoldable pub view : List ℕ → List ℕ → List ℕ → World
 view servers clients slots =
     record {
-      servers = λ k. cond (isOf mostServers k) (server.view (serverAt servers (k - 1))) newServer;
-      clients = λ d. cond (isOf mostClients d) (client.view (clientAt clients (d - 1))) newClient;
+      servers = λ k. cond (isUpTo mostServers k) (server.view (serverAt servers (k - 1))) newServer;
+      clients = λ d. cond (isUpTo mostClients d) (client.view (clientAt clients (d - 1))) newClient;
       stopped = contains (stoppedIn clients);
-      up = λ d k. cond (isOf mostClients d && isOf mostServers k)
+      up = λ d k. cond (isUpTo mostClients d && isUpTo mostServers k)
           (messages slots (upIndex (d - 1) (k - 1))) [];
-      down = λ d k. cond (isOf mostClients d && isOf mostServers k)
+      down = λ d k. cond (isUpTo mostClients d && isUpTo mostServers k)
           (messages slots (downIndex (d - 1) (k - 1))) [];
     }

@@ -2,8 +2,8 @@
 // numbers. All zero is the setup. What stands where is in specs/State.
 ghost use mathlib.Core.Path.{_≡_};
 ghost use Prim.Native.Nat.{suc, _<_};
+ghost use Rattle.basics.specs.BitSets.{contains};
 ghost use Rattle.register.specs.Settings.{mostServers, mostClients};
-ghost use Rattle.server.specs.State.{contains};
 ghost use Rattle.state.specs.State as state;
 
 pub mod sound;
@@ -21,31 +21,34 @@ pub const SERVERS: usize = channel::SERVERS;
 pub const CLIENTS: usize = channel::CLIENTS;
 
 // The memory of the servers, one behind the other.
-pub const SERVERS_LENGTH: usize = SERVERS * server::WORDS;
+pub const SERVERS_LENGTH: usize = SERVERS * server::LENGTH;
 
 pub type Servers = [u64; SERVERS_LENGTH];
 
-// The set of stopped clients, bit d - 1 for client d, and behind it the memory of the clients.
-pub const CLIENTS_LENGTH: usize = 1 + CLIENTS * client::WORDS;
+// Where the set of stopped clients stands, bit d - 1 for client d, and where the memory of the first client
+// begins.
+pub const STOPPED: usize = 0;
+
+const FIRST_CLIENT: usize = STOPPED + 1;
+
+// The stopped clients, and the memory of the clients, one behind the other.
+pub const CLIENTS_LENGTH: usize = FIRST_CLIENT + CLIENTS * client::LENGTH;
 
 pub type Clients = [u64; CLIENTS_LENGTH];
-
-// Where the stopped clients stand.
-pub const STOPPED: usize = 0;
 
 // Where the memory of the server at place j begins, and of the client at place i. Places count from 0.
 pub fn server_start(j: usize) -> usize
     requires { ⌜ j < mostServers ⌝ }
     ensures { λ r. ⌜ r ≡ state.serverStart j ⌝ }
 {
-    j * server::WORDS
+    j * server::LENGTH
 }
 
 pub fn client_start(i: usize) -> usize
     requires { ⌜ i < mostClients ⌝ }
     ensures { λ r. ⌜ r ≡ state.clientStart i ⌝ }
 {
-    1 + i * client::WORDS
+    FIRST_CLIENT + i * client::LENGTH
 }
 
 // The channel from the client at place i to the server at place j, and the one back.

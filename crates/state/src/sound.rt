@@ -5,10 +5,11 @@ ghost use Prim.Native.Nat.{suc, _≤_, _<_, _^_};
 ghost use lib.Dec.{ltb};
 ghost use lib.ListN.{length};
 ghost use Rattle.basics.specs.Tests.{allBelow};
-ghost use Rattle.client.specs.Memory as client;
+ghost use Rattle.basics.specs.BitSets.{contains};
 ghost use Rattle.register.specs.Settings.{mostServers, mostClients, inRange, isHonest};
 ghost use Rattle.register.specs.Thresholds.{counted};
-ghost use Rattle.server.specs.State.{contains};
+ghost use Rattle.client.specs.Memory as client;
+ghost use Rattle.client.specs.Memory.{clientLength};
 ghost use Rattle.state.specs.State.{settingsOf, serversLength, clientsLength, upIndex, downIndex};
 ghost use Rattle.state.specs.Sound.{areAllowed, isMarkFine, areLong, isServerSound, areServersSound};
 ghost use Rattle.state.specs.Sound.{isClientSound, areClientsSound, usesUp, usesDown, emptyOr};
@@ -28,10 +29,8 @@ use crate::server_start;
 use crate::up;
 use channel::SLOTS_LENGTH;
 use channel::Slots;
-
-const MOST_FAULTY: u8 = 4;
-
-const MOST_CLIENTS: u8 = CLIENTS as u8;
+use register::MOST_CLIENTS;
+use register::MOST_FAULTY;
 
 // The first number with a mark beyond the last server's.
 const OVER_MARKS: u16 = 1 << SERVERS;
@@ -165,7 +164,7 @@ fn are_servers_sound(settings: Settings, servers: &[u64]) -> bool
 
 // Whether the client at place i is sound; where there is none, it is as at setup.
 fn is_client_sound(settings: Settings, i: usize, memory: &[u64]) -> bool
-    requires { ⌜ length (now memory) ≡ client.words ⌝ }
+    requires { ⌜ length (now memory) ≡ clientLength ⌝ }
     ensures { λ r. ⌜ r ≡ isClientSound settings i (now (memory .entry)) ⌝ }
 {
     if !client::is_sound(settings.f, memory) {
@@ -187,7 +186,7 @@ fn are_clients_sound(settings: Settings, clients: &[u64]) -> bool
     let mut i = 0;
     while i < CLIENTS {
         let at = client_start(i);
-        let end = at + client::WORDS;
+        let end = at + client::LENGTH;
         if !is_client_sound(settings, i, &clients[at..end]) {
             return false;
         }

@@ -1,47 +1,50 @@
 -- The channels to a client emptied, server after server: the slots of the table that is empty there.
 -- Assumes nothing.
+use Rattle.register.proofs.Vocabulary.{isUpTo, Message, mostClients, mostServers}
 use Rattle.basics.proofs.Prelude.{_≡_, refl, sym, ap, _∙_, Bool, true, false, cond, _&&_, _||_, List, [], ℕ}
 use Rattle.basics.proofs.Prelude.{zero, suc, _-_, _≤_, arith, eqb}
 use Rattle.basics.proofs.Cases.{by-test}
-use Rattle.message.specs.declared.Message.{Message}
+use Rattle.basics.proofs.UpTo.{range-none, range-more}
 use Rattle.channel.specs.Memory.{cleared}
-use Rattle.state.specs.State.{isOf, downIndex}
-use Rattle.steps.specs.InMemory.{emptied}
+use Rattle.state.specs.State.{downIndex}
 use Rattle.state.proofs.Channels.{Table, slotsOf, slots-same, changed, Short, down-clear}
-use Rattle.state.proofs.Ranges.{range-none, range-more}
+use Rattle.steps.specs.InMemory.{emptied}
 
 -- nothing from the servers 1 to n to client d
 unfoldable pub without : ℕ → ℕ → Table → Table
-without d n t e k = cond (eqb d e && isOf n k) [] (t e k)
+without d n table other k = cond (eqb d other && isUpTo n k) [] (table other k)
 
-short-without : (d n : ℕ) (t : Table) → Short t → Short (without d n t)
+short-without : (d n : ℕ) (table : Table) → Short table → Short (without d n table)
 unfolding without
-short-without d n t short e k = by-test (eqb d e && isOf n k) (λ c. rw c (omega arith))
-    (λ c. rw c (short e k))
+short-without d n table short other k = by-test (eqb d other && isUpTo n k) (λ yes. rw yes (omega arith))
+    (λ yes. rw yes (short other k))
 
--- one channel, by cases on the tests: a, it is the client's; b, it is the next server's; c, one before
-one-more : (a b c : Bool) (l : List Message)
-    → cond (b && a) [] (cond (a && c) [] l) ≡ cond (a && (b || c)) [] l
-one-more a false c l = refl
-one-more false true c l = refl
-one-more true true c l = refl
+-- one channel, by cases on the tests: `own`, it is the client's; `here`, it is the next server's; `earlier`,
+-- one before
+one-more : (own here earlier : Bool) (l : List Message)
+    → cond (here && own) [] (cond (own && earlier) [] l) ≡ cond (own && (here || earlier)) [] l
+one-more own false earlier l = refl
+one-more false true earlier l = refl
+one-more true true earlier l = refl
 
-none-yet : (a c : Bool) (l : List Message) → c ≡ false → l ≡ cond (a && c) [] l
-none-yet true c l h = rw h
-none-yet false c l h = refl
+none-yet : (own earlier : Bool) (l : List Message) → earlier ≡ false → l ≡ cond (own && earlier) [] l
+none-yet true earlier l h = rw h
+none-yet false earlier l h = refl
 
-module _ (d : ℕ) (low : 1 ≤ d) (high : d ≤ 6) (u n : Table) (hu : Short u) (hn : Short n) where
-  pub empty-all : (j : ℕ) → j ≤ 13 → emptied (slotsOf u n) (d - 1) j ≡ slotsOf u (without d j n)
+module _ (d : ℕ) (low : 1 ≤ d) (high : d ≤ mostClients) (up down : Table) (up-fits : Short up)
+    (down-fits : Short down) where
+  pub empty-all : (j : ℕ) → j ≤ mostServers → emptied (slotsOf up down) (d - 1) j
+      ≡ slotsOf up (without d j down)
   unfolding emptied without changed
   empty-all zero top =
-      slots-same u u n (without d zero n) (λ e k. refl)
-      (λ e k. none-yet (eqb d e) (isOf 0 k) (n e k) (range-none k))
+      slots-same up up down (without d zero down) (λ other k. refl)
+      (λ other k. none-yet (eqb d other) (isUpTo 0 k) (down other k) (range-none k))
   empty-all (suc j) top =
       let next : suc j - 1 ≡ j = omega arith in
-      let n′ : Table = without d j n in
+      let down′ : Table = without d j down in
       rw (empty-all j (omega arith))
-      (ap (λ (i : ℕ). cleared (slotsOf u n′) (downIndex (d - 1) i)) (sym next)
-      ∙ down-clear u n′ d (suc j) (record { low = low; high = high; first = omega arith; last = top }) hu
-      (short-without d j n hn)
-      ∙ slots-same u u (changed n′ d (suc j) []) (without d (suc j) n) (λ e k. refl)
-      (λ e k. rw (range-more j k) (one-more (eqb d e) (eqb (suc j) k) (isOf j k) (n e k))))
+      (ap (λ (i : ℕ). cleared (slotsOf up down′) (downIndex (d - 1) i)) (sym next)
+      ∙ down-clear up down′ d (suc j) (record { low = low; high = high; first = omega arith; last = top })
+      up-fits (short-without d j down down-fits)
+      ∙ slots-same up up (changed down′ d (suc j) []) (without d (suc j) down) (λ other k. refl)
+      (λ other k. rw (range-more j k) (one-more (eqb d other) (eqb (suc j) k) (isUpTo j k) (down other k))))

@@ -10,6 +10,8 @@ pub mod Stops
 pub mod Lies
 pub mod MemoryIsModel
 pub mod Named
+pub mod Rungs
+pub mod Making
 pub mod Lent
 pub mod ReplyLengths
 pub mod Fitting

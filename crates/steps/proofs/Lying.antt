@@ -3,16 +3,15 @@
 -- Words of which the first has more than 24 bits stand for no bytes, and their kind is above 15, so no
 -- message either way.
 -- Assumes nothing.
+use Rattle.basics.specs.Bytes.{bigEndian, spelt}
 use Rattle.basics.proofs.Prelude.{_≡_, sym, ap, _∙_, true, false, ℕ, _/_, _^_, _≤_, _<_, arith, ltb, ne-eqb}
 use Rattle.basics.proofs.Prelude.{ltb-true, ltb-false, lt-ltb}
-use Rattle.basics.specs.Bytes.{bigEndian, spelt}
 use Rattle.basics.proofs.Bytes.{bytes-length, bytes-are, spelt-is}
 use Rattle.basics.proofs.Cases.{by-test, true-or-false}
 use Rattle.message.specs.declared.Words.{Words}
-use Rattle.message.specs.Layout.{malformed, messageOf, unpackOf, words, wordsNumber}
+use Rattle.message.specs.Layout.{malformed, messageOf, unpackOf, words, wordsNumber, goesDown, goes, headBits}
 use Rattle.message.proofs.Numbers.{words-back}
 use Rattle.message.proofs.RoundTrip.{unpack-bytes}
-use Rattle.register.specs.Steps.{isReply}
 use Rattle.state.specs.State.{bytesIn}
 
 -- ---- words
@@ -30,36 +29,38 @@ over n h =
       ne-eqb (n / 2 ^ 84) 6 (λ e. omega arith),
     )
 
-no-bytes : (w : Words) → ltb (w .0) (2 ^ 24) ≡ false → unpackOf (bytesIn w) ≡ malformed
+no-bytes : (given : Words) → ltb (given .0) (2 ^ headBits) ≡ false → unpackOf (bytesIn given) ≡ malformed
 unfolding bytesIn unpackOf
-no-bytes w e = rw e
+no-bytes given e = rw e
 
-bytes-in : (w : Words) → w .0 < 2 ^ 24 → bytesIn w ≡ bigEndian 11 (wordsNumber w)
+bytes-in : (given : Words) → given .0 < 2 ^ headBits → bytesIn given ≡ bigEndian 11 (wordsNumber given)
 unfolding bytesIn
-bytes-in w h = rw (lt-ltb (w .0) (2 ^ 24) h)
+bytes-in given h = rw (lt-ltb (given .0) (2 ^ headBits) h)
 
-pub words-unpack : (w : Words) → w .1 < 2 ^ 64 → messageOf (wordsNumber w) ≡ unpackOf (bytesIn w)
-words-unpack w low =
-    by-test (ltb (w .0) (2 ^ 24))
-    (λ e. let h : w .0 < 2 ^ 24 = ltb-true (w .0) (2 ^ 24) e in
-    let n : ℕ = wordsNumber w in
-    let small : wordsNumber w < 256 ^ 11 = omega arith in
+pub words-unpack : (given : Words) → given .1 < 2 ^ 64 → messageOf (wordsNumber given)
+    ≡ unpackOf (bytesIn given)
+words-unpack given low =
+    by-test (ltb (given .0) (2 ^ headBits))
+    (λ e. let h : given .0 < 2 ^ headBits = ltb-true (given .0) (2 ^ headBits) e in
+    let n : ℕ = wordsNumber given in
+    let small : wordsNumber given < 256 ^ 11 = omega arith in
     ap messageOf (sym (spelt-is 11 n small))
     ∙ sym (unpack-bytes (bigEndian 11 n) (bytes-length 11 n) (bytes-are 11 n))
-    ∙ ap unpackOf (sym (bytes-in w h)))
-    (λ e. let h : 2 ^ 24 ≤ w .0 = ltb-false (w .0) (2 ^ 24) e in
-    over (wordsNumber w) (omega arith) ∙ sym (no-bytes w e))
+    ∙ ap unpackOf (sym (bytes-in given h)))
+    (λ e. let h : 2 ^ headBits ≤ given .0 = ltb-false (given .0) (2 ^ headBits) e in
+    over (wordsNumber given) (omega arith) ∙ sym (no-bytes given e))
 
 -- a reply's first word has 24 bits
-pub reply-small : (w : Words) → isReply (unpackOf (bytesIn w)) ≡ true → w .0 < 2 ^ 24
-unfolding isReply
-reply-small w h =
-    by-test (ltb (w .0) (2 ^ 24)) (λ e. ltb-true (w .0) (2 ^ 24) e)
-    (λ e. absurd (true-or-false (isReply (unpackOf (bytesIn w))) h (ap isReply (no-bytes w e))))
+pub reply-small : (given : Words) → goesDown (unpackOf (bytesIn given)) ≡ true → given .0 < 2 ^ headBits
+unfolding goes
+reply-small given h =
+    by-test (ltb (given .0) (2 ^ headBits)) (λ e. ltb-true (given .0) (2 ^ headBits) e)
+    (λ e. absurd (true-or-false (goesDown (unpackOf (bytesIn given))) h (ap goesDown (no-bytes given e))))
 
 -- such words are those of their bytes
-pub own-words : (w : Words) → w .0 < 2 ^ 24 → w .1 < 2 ^ 64 → w ≡ words (spelt 0 (bytesIn w))
-own-words w high low =
-    let small : wordsNumber w < 256 ^ 11 = omega arith in
-    words-back (w .0) (w .1) low
-    ∙ ap words (sym (spelt-is 11 (wordsNumber w) small) ∙ ap (spelt 0) (sym (bytes-in w high)))
+pub own-words : (given : Words) → given .0 < 2 ^ headBits → given .1 < 2 ^ 64
+    → given ≡ words (spelt 0 (bytesIn given))
+own-words given high low =
+    let small : wordsNumber given < 256 ^ 11 = omega arith in
+    words-back (given .0) (given .1) low
+    ∙ ap words (sym (spelt-is 11 (wordsNumber given) small) ∙ ap (spelt 0) (sym (bytes-in given high)))

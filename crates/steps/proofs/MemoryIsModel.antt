@@ -9,15 +9,12 @@ use Rattle.basics.proofs.Cases.{by-test, both}
 use Rattle.refusal.specs.declared.Refusal.the-variants.{NoSuchProcess}
 use Rattle.register.specs.declared.Step.{Step}
 use Rattle.register.specs.declared.Step.the-variants as code
-use Rattle.register.specs.Formats.{formats}
-use Rattle.register.specs.Settings.{Accepted, isServer, isClient}
-use Rattle.register.specs.Steps.{ladder, refusalOf, eventOf}
-use Rattle.register.specs.World.{World}
-use Rattle.register.specs.WellFormed.{WellFormed}
+use Rattle.register.proofs.Vocabulary.{formats, Accepted, isServer, isClient, ladder, refusalOf, eventOf}
+use Rattle.register.proofs.Vocabulary.{World, WellFormed}
 use Rattle.state.specs.declared.Settings.{Settings}
 use Rattle.state.specs.State.{settingsOf, stepOf}
 use Rattle.steps.specs.InMemory.{readStep, writeStep, serveStep, takeStep, stopStep, lieStep, inMemory}
-use Rattle.steps.proofs.Modelled.{innerAt, modelAt, refused}
+use Rattle.steps.proofs.Modelled.{memoryAt, modelAt, refused}
 use Rattle.steps.proofs.Rooms.{WellStored}
 use Rattle.steps.proofs.Starts.{read-law, write-law}
 use Rattle.steps.proofs.Serves.{serve-law}
@@ -27,40 +24,42 @@ use Rattle.steps.proofs.Lies.{lie-law}
 
 -- the client, or the client and the server, that a step names are there
 abbrev isThere : Settings → Step → Bool
-isThere t (code.R d) = isClient (settingsOf t) d
-isThere t (code.W d e) = isClient (settingsOf t) d
-isThere t (code.K k d) = isClient (settingsOf t) d && isServer (settingsOf t) k
-isThere t (code.D d k) = isClient (settingsOf t) d && isServer (settingsOf t) k
-isThere t (code.C d) = isClient (settingsOf t) d
-isThere t (code.L k d x) = isClient (settingsOf t) d && isServer (settingsOf t) k
+isThere settings (code.R d) = isClient (settingsOf settings) d
+isThere settings (code.W d entry) = isClient (settingsOf settings) d
+isThere settings (code.K k d) = isClient (settingsOf settings) d && isServer (settingsOf settings) k
+isThere settings (code.D d k) = isClient (settingsOf settings) d && isServer (settingsOf settings) k
+isThere settings (code.C d) = isClient (settingsOf settings) d
+isThere settings (code.L k d given) = isClient (settingsOf settings) d && isServer (settingsOf settings) k
 
-module _ (t : Settings) (accepted : Accepted (settingsOf t)) (w : World)
-    (well : WellFormed (settingsOf t) formats w) where
-  good : WellStored t w
+module _ (settings : Settings) (accepted : Accepted (settingsOf settings)) (world : World)
+    (well : WellFormed (settingsOf settings) formats world) where
+  good : WellStored settings world
   good = record { accepted = accepted; well = well }
 
-  absent : (x : Step) → isThere t x ≡ false → innerAt t w x ≡ modelAt t w x
+  absent : (asked : Step) → isThere settings asked ≡ false → memoryAt settings world asked
+      ≡ modelAt settings world asked
   unfolding inMemory readStep writeStep serveStep takeStep stopStep lieStep stepOf eventOf refusalOf ladder
-  absent (code.R d) e = rw e (refused (settingsOf t) formats w NoSuchProcess)
-  absent (code.W d n) e = rw e (refused (settingsOf t) formats w NoSuchProcess)
-  absent (code.K k d) e = rw e (refused (settingsOf t) formats w NoSuchProcess)
-  absent (code.D d k) e = rw e (refused (settingsOf t) formats w NoSuchProcess)
-  absent (code.C d) e = rw e (refused (settingsOf t) formats w NoSuchProcess)
-  absent (code.L k d x) e = rw e (refused (settingsOf t) formats w NoSuchProcess)
+  absent (code.R d) there = rw there (refused (settingsOf settings) formats world NoSuchProcess)
+  absent (code.W d entry) there = rw there (refused (settingsOf settings) formats world NoSuchProcess)
+  absent (code.K k d) there = rw there (refused (settingsOf settings) formats world NoSuchProcess)
+  absent (code.D d k) there = rw there (refused (settingsOf settings) formats world NoSuchProcess)
+  absent (code.C d) there = rw there (refused (settingsOf settings) formats world NoSuchProcess)
+  absent (code.L k d given) there = rw there (refused (settingsOf settings) formats world NoSuchProcess)
 
-  present : (x : Step) → isThere t x ≡ true → innerAt t w x ≡ modelAt t w x
-  present (code.R d) e = read-law t w good d e
-  present (code.W d i) e = write-law t w good d e i
-  present (code.K k d) e =
-      let b = both (isClient (settingsOf t) d) (isServer (settingsOf t) k) e in
-      serve-law t w good k d (b .0) (b .1)
-  present (code.D d k) e =
-      let b = both (isClient (settingsOf t) d) (isServer (settingsOf t) k) e in
-      take-law t w good d k (b .0) (b .1)
-  present (code.C d) e = stop-law t w good d e
-  present (code.L k d x) e =
-      let b = both (isClient (settingsOf t) d) (isServer (settingsOf t) k) e in
-      lie-law t w good k d (b .0) (b .1) x
+  present : (asked : Step) → isThere settings asked ≡ true → memoryAt settings world asked
+      ≡ modelAt settings world asked
+  present (code.R d) there = read-law settings world good d there
+  present (code.W d entry) there = write-law settings world good d there entry
+  present (code.K k d) there =
+      let named = both (isClient (settingsOf settings) d) (isServer (settingsOf settings) k) there in
+      serve-law settings world good k d (named .0) (named .1)
+  present (code.D d k) there =
+      let named = both (isClient (settingsOf settings) d) (isServer (settingsOf settings) k) there in
+      take-law settings world good d k (named .0) (named .1)
+  present (code.C d) there = stop-law settings world good d there
+  present (code.L k d given) there =
+      let named = both (isClient (settingsOf settings) d) (isServer (settingsOf settings) k) there in
+      lie-law settings world good k d (named .0) (named .1) given
 
-  pub memory-is-model : (x : Step) → innerAt t w x ≡ modelAt t w x
-  memory-is-model x = by-test (isThere t x) (present x) (absent x)
+  pub memory-is-model : (asked : Step) → memoryAt settings world asked ≡ modelAt settings world asked
+  memory-is-model asked = by-test (isThere settings asked) (present asked) (absent asked)

@@ -9,15 +9,12 @@ use Rattle.basics.proofs.Prelude.{_≡_, refl, sym, ap, _∙_, Bool, true, fals
 use Rattle.basics.proofs.Prelude.{_+_, _-_, _≤_, _<_, arith, leb, le-leb, not-true}
 use mathlib.Core.Bool.{and-true}
 use native.Mathlib.Numerals.{unary-clauses}
-use Rattle.basics.specs.Tests.{allBelow}
+use Rattle.register.proofs.Vocabulary.{allBelow, contains, servers, isServer, isHonest, capacity, mostClients}
+use Rattle.register.proofs.Vocabulary.{mostFaulty, mostServers, size}
 use Rattle.basics.proofs.Cases.{by-test, both, true-or-false}
-use Rattle.channel.specs.Memory.{countAt}
-use Rattle.register.specs.Settings as settings
-use Rattle.register.specs.Settings.{servers, isServer, isHonest}
-use Rattle.register.specs.Steps.{slots}
-use Rattle.register.specs.Thresholds.{size}
+use Rattle.register.specs.Settings as model
 use Rattle.register.proofs.Bounds.{server-range}
-use Rattle.server.specs.State.{contains}
+use Rattle.channel.specs.Memory.{countAt}
 use Rattle.state.specs.declared.Settings.{Settings}
 use Rattle.state.specs.State.{settingsOf, upIndex}
 use Rattle.steps.specs.InMemory.{roomUp}
@@ -26,7 +23,7 @@ use Rattle.steps.proofs.Rooms.{below-same}
 
 -- ---- who is not honest
 
-module _ (S : settings.Settings) (k : ℕ) where
+module _ (S : model.Settings) (k : ℕ) where
   faulty-not : S .faulty k ≡ true → isHonest S k ≡ false
   unfolding isHonest
   faulty-not marked =
@@ -56,29 +53,29 @@ below-more p n (suc k) h =
 
 -- ---- the channels of the client at place i
 
-module _ (t : Settings) (b : List ℕ) (i more : ℕ) (few : t .f ≤ 4) (client : i < 6) (most : more ≤ 8)
-    (spare : SpareEmpty t b) where
+module _ (settings : Settings) (slots : List ℕ) (i more : ℕ) (few : settings .f ≤ mostFaulty)
+    (client : i < mostClients) (most : more ≤ capacity) (spare : SpareEmpty settings slots) where
   abbrev fits : ℕ → Bool
-  fits j = leb (countAt b (upIndex i j) + more) slots
+  fits j = leb (countAt slots (upIndex i j) + more) capacity
 
-  empty-fits : (j : ℕ) → j < 13 → isHonest (settingsOf t) (suc j) ≡ false → fits j ≡ true
+  empty-fits : (j : ℕ) → j < mostServers → isHonest (settingsOf settings) (suc j) ≡ false → fits j ≡ true
   empty-fits j less other = let e = spare i j client less other in
-      le-leb (countAt b (upIndex i j) + more) slots (omega arith)
+      le-leb (countAt slots (upIndex i j) + more) capacity (omega arith)
 
   -- a channel to one of the n servers
-  one-fits : (j : ℕ) → j < size (t .f) → fits j ≡ contains (t .faulty) (suc j) || fits j
+  one-fits : (j : ℕ) → j < size (settings .f) → fits j ≡ contains (settings .faulty) (suc j) || fits j
   unfolding settingsOf
   one-fits j less =
-      by-test (contains (t .faulty) (suc j))
-      (λ marked. rw marked (empty-fits j (omega arith) (faulty-not (settingsOf t) (suc j) marked)))
+      by-test (contains (settings .faulty) (suc j))
+      (λ marked. rw marked (empty-fits j (omega arith) (faulty-not (settingsOf settings) (suc j) marked)))
       (λ not-marked. rw not-marked refl)
 
-  pub room-on-all : allBelow fits 13 ≡ roomUp t b i more
+  pub room-on-all : allBelow fits mostServers ≡ roomUp settings slots i more
   unfolding roomUp settingsOf
   room-on-all =
-      let n : ℕ = size (t .f) in
-      let all : n + (13 - n) ≡ 13 = omega arith in
+      let n : ℕ = size (settings .f) in
+      let all : n + (mostServers - n) ≡ mostServers = omega arith in
       ap (allBelow fits) (sym all)
-      ∙ below-more fits n (13 - n)
-      (λ j low less. empty-fits j (omega arith) (beyond-not (settingsOf t) (suc j) (omega arith)))
+      ∙ below-more fits n (mostServers - n)
+      (λ j low less. empty-fits j (omega arith) (beyond-not (settingsOf settings) (suc j) (omega arith)))
       ∙ below-same fits _ n one-fits

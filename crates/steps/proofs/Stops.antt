@@ -5,80 +5,78 @@
 -- Assumes nothing.
 use Rattle.basics.proofs.Prelude.{_≡_, refl, sym, ap, _∙_, Bool, true, false, cond, _&&_, _||_, List, [], ℕ}
 use Rattle.basics.proofs.Prelude.{_-_, eqb}
+use Rattle.basics.proofs.UpTo.{and-false}
 use mathlib.Core.Path.{fun-ext}
-use Rattle.basics.specs.Update.{update}
-use Rattle.message.specs.declared.Message.{Message}
-use Rattle.refusal.proofs.Ladders.{done, same}
+use Rattle.register.proofs.Vocabulary.{update, contains, setOf, isUpTo, Message, formats, isServer, isClient}
+use Rattle.register.proofs.Vocabulary.{mostClients, C, ladder, accepted, size, World, stops, apply, answerOf}
+use Rattle.register.proofs.Vocabulary.{nextServers, nextClients, nextStopped, nextUp, nextDown, leavesUp}
+use Rattle.register.proofs.Vocabulary.{leavesDown, putsUp, putsDown}
 use Rattle.register.specs.declared.Answer.the-variants.{Went}
+use Rattle.refusal.proofs.Ladders.{done, same}
 use Rattle.register.specs.declared.Step.the-variants as code
-use Rattle.register.specs.Formats.{formats}
-use Rattle.register.specs.Settings.{isServer, isClient}
-use Rattle.register.specs.Steps.{C, ladder, accepted}
-use Rattle.register.specs.Thresholds.{size}
-use Rattle.register.specs.World.{World, stops, apply, answerOf, nextServers, nextClients, nextStopped}
-use Rattle.register.specs.World.{nextUp, nextDown}
-use Rattle.register.specs.World.{leavesUp, leavesDown, putsUp, putsDown}
 use Rattle.register.proofs.Bounds.{client-small}
 use Rattle.register.proofs.Dropping.{nothing-put}
-use Rattle.server.specs.State.{contains, setOf}
 use Rattle.state.specs.declared.Settings.{Settings}
-use Rattle.state.specs.State.{settingsOf, stepOf, isOf, putStopped, storeStopped, storeServers}
+use Rattle.state.specs.State.{settingsOf, stepOf, putStopped, storeStopped, storeServers}
 use Rattle.state.specs.State.{storeClients, storeSlots}
-use Rattle.steps.specs.After.{after}
-use Rattle.steps.specs.InMemory.{keeping, onClients, emptied, stopResult, stopRungs, stopStep, inMemory}
-use Rattle.state.proofs.Ranges.{and-false}
 use Rattle.state.proofs.Channels.{store-slots, slots-same}
 use Rattle.state.proofs.StoredParts.{clientsOf}
+use Rattle.steps.specs.After.{after}
+use Rattle.steps.specs.InMemory.{keeping, onClients, emptied, stopResult, stopRungs, stopStep, inMemory}
 use Rattle.steps.proofs.Emptying.{without, empty-all}
 use Rattle.steps.proofs.Stopping.{either}
-use Rattle.steps.proofs.Modelled.{innerAt, modelAt, step-law}
+use Rattle.steps.proofs.Modelled.{memoryAt, modelAt, step-law}
 use Rattle.steps.proofs.Rooms.{WellStored, few-servers, up-short, down-short, stopped-same}
 
-emptied-all : (a c : Bool) (l : List Message) → (c ≡ false → l ≡ []) → cond (a && c) [] l ≡ cond a [] l
-emptied-all false c l h = refl
+emptied-all : (own there : Bool) (l : List Message) → (there ≡ false → l ≡ []) → cond (own && there) [] l
+    ≡ cond own [] l
+emptied-all false there l h = refl
 emptied-all true true l h = refl
 emptied-all true false l h = h refl
 
-module _ (t : Settings) (w : World) (good : WellStored t w) where
-  module _ (d : ℕ) (client : isClient (settingsOf t) d ≡ true) where
-    stopped-after : setOf (λ e. eqb d e || contains (storeStopped w) e) 6
-        ≡ storeStopped (apply (settingsOf t) w (stops d))
+module _ (settings : Settings) (world : World) (good : WellStored settings world) where
+  module _ (d : ℕ) (client : isClient (settingsOf settings) d ≡ true) where
+    stopped-after : setOf (λ other. eqb d other || contains (storeStopped world) other) mostClients
+        ≡ storeStopped (apply (settingsOf settings) world (stops d))
     unfolding storeStopped apply nextStopped update
     stopped-after =
-        ap (λ (p : ℕ → Bool). setOf p 6)
-        (fun-ext (λ e. ap (λ (b : Bool). eqb d e || b) (stopped-same t w good e)
-        ∙ either (eqb d e) (w .stopped e)))
+        ap (λ (p : ℕ → Bool). setOf p mostClients)
+        (fun-ext (λ other. ap (λ (b : Bool). eqb d other || b) (stopped-same settings world good other)
+        ∙ either (eqb d other) (world .stopped other)))
 
-    unused : (e k : ℕ) → isOf (size (t .f)) k ≡ false → w .down e k ≡ []
+    unused : (other k : ℕ) → isUpTo (size (settings .f)) k ≡ false → world .down other k ≡ []
     unfolding settingsOf isServer
-    unused e k h = good .well .downUnused e k (and-false (isClient (settingsOf t) e) _ h)
+    unused other k h = good .well .downUnused other k (and-false (isClient (settingsOf settings) other) _ h)
 
-    slots-after : emptied (storeSlots w) (d - 1) (size (t .f)) ≡ storeSlots (apply (settingsOf t) w (stops d))
+    slots-after : emptied (storeSlots world) (d - 1) (size (settings .f))
+        ≡ storeSlots (apply (settingsOf settings) world (stops d))
     unfolding without apply nextUp nextDown leavesUp leavesDown putsUp putsDown
     slots-after =
-        let c = client-small (settingsOf t) (good .accepted) d client in
-        let w′ = apply (settingsOf t) w (stops d) in
-        let n = without d (size (t .f)) (w .down) in
-        ap (λ (b : List ℕ). emptied b (d - 1) (size (t .f))) (store-slots w)
-        ∙ empty-all d (c .0) (c .1) (w .up) (w .down) (up-short t w good) (down-short t w good) (size (t .f))
-        (few-servers t w good)
-        ∙ slots-same (w .up) (w′ .up) n (w′ .down)
-        (λ e k. sym (nothing-put (settingsOf t .faulty k) (w .up e k)))
-        (λ e k. emptied-all (eqb d e) (isOf (size (t .f)) k) (w .down e k) (unused e k)
-        ∙ sym (nothing-put (w .stopped e) (cond (eqb d e) [] (w .down e k))))
-        ∙ sym (store-slots w′)
+        let range = client-small (settingsOf settings) (good .accepted) d client in
+        let next = apply (settingsOf settings) world (stops d) in
+        let down = without d (size (settings .f)) (world .down) in
+        ap (λ (b : List ℕ). emptied b (d - 1) (size (settings .f))) (store-slots world)
+        ∙ empty-all d (range .0) (range .1) (world .up) (world .down) (up-short settings world good)
+        (down-short settings world good) (size (settings .f)) (few-servers settings world good)
+        ∙ slots-same (world .up) (next .up) down (next .down)
+        (λ other k. sym (nothing-put (settingsOf settings .faulty k) (world .up other k)))
+        (λ other k. emptied-all (eqb d other) (isUpTo (size (settings .f)) k) (world .down other k)
+        (unused other k)
+        ∙ sym (nothing-put (world .stopped other) (cond (eqb d other) [] (world .down other k))))
+        ∙ sym (store-slots next)
 
-    clients-after : putStopped (storeClients w) (setOf (λ e. eqb d e || contains (storeStopped w) e) 6)
-        ≡ storeClients (apply (settingsOf t) w (stops d))
+    clients-after : putStopped (storeClients world)
+        (setOf (λ other. eqb d other || contains (storeStopped world) other) mostClients)
+        ≡ storeClients (apply (settingsOf settings) world (stops d))
     unfolding storeClients apply nextClients
-    clients-after = ap (λ (z : ℕ). clientsOf z (w .clients)) stopped-after
+    clients-after = ap (λ (z : ℕ). clientsOf z (world .clients)) stopped-after
 
-    pub stop-law : innerAt t w (code.C d) ≡ modelAt t w (code.C d)
+    pub stop-law : memoryAt settings world (code.C d) ≡ modelAt settings world (code.C d)
     unfolding inMemory stopStep stepOf ladder accepted answerOf apply nextServers storeServers storeClients
     stop-law =
-        step-law (settingsOf t) formats w (onClients (storeServers w))
-        (keeping (storeClients w) (storeSlots w)) (λ a. refl)
-        (C d) (stopRungs t (storeClients w) (storeSlots w) d)
-        (stopResult t (storeClients w) (storeSlots w) d)
-        (same refl (λ e. same (stopped-same t w good d) (λ e. done)))
-        (λ none en. λ i. after Went (storeServers w) (clients-after i) (slots-after i))
+        step-law (settingsOf settings) formats world (onClients (storeServers world))
+        (keeping (storeClients world) (storeSlots world)) (λ a. refl)
+        (C d) (stopRungs settings (storeClients world) (storeSlots world) d)
+        (stopResult settings (storeClients world) (storeSlots world) d)
+        (same refl (λ e. same (stopped-same settings world good d) (λ e. done)))
+        (λ none en. λ i. after Went (storeServers world) (clients-after i) (slots-after i))

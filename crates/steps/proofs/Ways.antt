@@ -4,14 +4,14 @@
 -- Assumes nothing.
 use Rattle.basics.proofs.Prelude.{_≡_, sym, ap, _∙_, Bool, true, false, List, ℕ, _-_, _≤_, arith, le-leb}
 use Rattle.basics.proofs.Prelude.{lt-leb}
-use Rattle.message.specs.Layout.{goes}
+use Rattle.register.proofs.Vocabulary.{goes, mostClients, mostServers}
 use Rattle.channel.specs.Memory.{upward, countAt}
 use Rattle.state.specs.State.{upIndex, downIndex, messageAt}
 use Rattle.steps.specs.InMemory.{requestAt, replyAt}
 use Rattle.steps.specs.Ready.{OldestGoes}
 
-module _ (slots : List ℕ) (ways : OldestGoes slots) (d k : ℕ) (d-low : 1 ≤ d) (d-high : d ≤ 6) (k-low : 1 ≤ k)
-    (k-high : k ≤ 13) where
+module _ (slots : List ℕ) (ways : OldestGoes slots) (d k : ℕ) (d-low : 1 ≤ d) (d-high : d ≤ mostClients)
+    (k-low : 1 ≤ k) (k-high : k ≤ mostServers) where
   pub request-goes : 1 ≤ countAt slots (upIndex (d - 1) (k - 1)) → goes false (requestAt slots k d) ≡ true
   request-goes some =
       let i = upIndex (d - 1) (k - 1) in

@@ -16,9 +16,10 @@ pub record After : Type 0 where
   pub slots : List ℕ
 
 abbrev pub after : Answer → List ℕ → List ℕ → List ℕ → After
-after a s c b = record { answer = a; servers = s; clients = c; slots = b }
+after answer servers clients slots =
+    record { answer = answer; servers = servers; clients = clients; slots = slots }
 
 -- 01's answer: WENT, READ, WROTE or SPENT as the step gives it, or REFUSED 3 to 12, in what was there, `kept`
 abbrev pub unless : {A : Type 0} → Option Refusal → (Answer → A) → A → A
-unless none kept x = x
-unless (some r) kept x = kept (Refused r)
+unless none kept result = result
+unless (some why) kept result = kept (Refused why)

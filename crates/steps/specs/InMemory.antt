@@ -14,6 +14,7 @@ use lib.Dec.{leb, eqb}
 use lib.ListN.{length}
 use Rattle.basics.specs.Bytes.{spelt}
 use Rattle.basics.specs.Tests.{allBelow}
+use Rattle.basics.specs.BitSets.{contains, setOf}
 use Rattle.refusal.specs.Ladder.{Rung, lowest}
 use Rattle.licence.specs.Entry.{isLicence}
 use Rattle.message.specs.declared.Entry.{Entry}
@@ -24,8 +25,7 @@ use Rattle.message.specs.declared.Unpacked.{Unpacked}
 use Rattle.message.specs.declared.Unpacked.the-variants as unpacked
 use Rattle.message.specs.declared.Unpacked.the-variants.{Good}
 use Rattle.message.specs.declared.Words.{Words}
-use Rattle.message.specs.Layout.{unpackOf, words, wordsOf, lastRead}
-use Rattle.channel.specs.Memory.{countAt, putOn, taken, cleared}
+use Rattle.message.specs.Layout.{unpackOf, words, wordsOf, lastRead, goesDown}
 use Rattle.register.specs.declared.Answer.{Answer}
 use Rattle.register.specs.declared.Answer.the-variants.{Went, Refused}
 use Rattle.register.specs.declared.Phase.{Phase}
@@ -35,11 +35,9 @@ use Rattle.register.specs.declared.Step.the-variants as step
 use Rattle.register.specs.Client as model
 use Rattle.register.specs.Ladders.{readLadder, writeLadder, serveLadder, takeLadder, stopLadder, lieLadder}
 use Rattle.register.specs.Server.{Server, Sent, sentTo, nextServer, serverSends}
-use Rattle.register.specs.Settings.{isClient, isServer, mostClients}
-use Rattle.register.specs.Steps as steps
-use Rattle.register.specs.Steps.{isReply}
+use Rattle.register.specs.Settings.{isClient, isServer, mostClients, capacity}
 use Rattle.register.specs.Thresholds.{size}
-use Rattle.server.specs.State.{contains, setOf}
+use Rattle.channel.specs.Memory.{countAt, putOn, removed, cleared}
 use Rattle.server.specs.Memory as server
 use Rattle.client.specs.Memory as client
 use Rattle.state.specs.declared.Settings.{Settings}
@@ -55,15 +53,15 @@ pub use Rattle.steps.specs.After.{After, after, unless}
 unfoldable pub roomUp : Settings → List ℕ → ℕ → ℕ → Bool
 roomUp settings slots i more =
     allBelow
-    (λ j. contains (settings .faulty) (suc j) || leb (countAt slots (upIndex i j) + more) steps.slots)
+    (λ j. contains (settings .faulty) (suc j) || leb (countAt slots (upIndex i j) + more) capacity)
     (size (settings .f))
 
 -- every channel from the server at place j to a working client has room for what is sent to it
 unfoldable pub roomDown : Settings → ℕ → List ℕ → ℕ → List Sent → Bool
-roomDown settings stopped slots j xs =
+roomDown settings stopped slots j sends =
     allBelow
     (λ i. contains stopped (suc i)
-    || leb (countAt slots (downIndex i j) + length (sentTo (suc i) xs)) steps.slots) (settings .clients)
+    || leb (countAt slots (downIndex i j) + length (sentTo (suc i) sends)) capacity) (settings .clients)
 
 -- ---- messages put on channels
 
@@ -85,19 +83,19 @@ sendUp settings slots i (message ∷ messages) = sendUp settings (toAll settings
 
 -- a message on the channel from the server at place j to a client, unless that has stopped
 unfoldable pub sendOne : ℕ → List ℕ → ℕ → Sent → List ℕ
-sendOne stopped slots j x = cond (contains stopped (x .to)) slots
-    (putOn slots (downIndex (x .to - 1) j) (wordsOf (x .message)))
+sendOne stopped slots j reply = cond (contains stopped (reply .to)) slots
+    (putOn slots (downIndex (reply .to - 1) j) (wordsOf (reply .message)))
 
 unfoldable pub sendDown : ℕ → List ℕ → ℕ → List Sent → List ℕ
 sendDown stopped slots j [] = slots
-sendDown stopped slots j (x ∷ xs) = sendDown stopped (sendOne stopped slots j x) j xs
+sendDown stopped slots j (reply ∷ sends) = sendDown stopped (sendOne stopped slots j reply) j sends
 
 -- what is sent for the oldest message from the client at place i: whether there is room for it, and the slots
 -- after it, without that message; where there is no room, as they were
 abbrev pub Delivered : Settings → ℕ → List ℕ → ℕ → ℕ → List Sent → Bool → List ℕ → Type 0
-Delivered settings stopped slots i j xs fits after =
-    (fits ≡ roomDown settings stopped slots j xs)
-    × (after ≡ cond fits (sendDown stopped (taken slots (upIndex i j)) j xs) slots)
+Delivered settings stopped slots i j sends fits after =
+    (fits ≡ roomDown settings stopped slots j sends)
+    × (after ≡ cond fits (sendDown stopped (removed slots (upIndex i j)) j sends) slots)
 
 -- the channels to the client at place i emptied, those of the first n servers
 unfoldable pub emptied : List ℕ → ℕ → ℕ → List ℕ
@@ -113,17 +111,17 @@ pub record Result : Type 0 where
   pub slots : List ℕ
 
 abbrev pub result : Answer → List ℕ → List ℕ → Result
-result a own slots = record { answer = a; own = own; slots = slots }
+result answer own slots = record { answer = answer; own = own; slots = slots }
 
 -- both arrays as they were
 abbrev pub keeping : List ℕ → List ℕ → Answer → Result
-keeping own slots a = result a own slots
+keeping own slots answer = result answer own slots
 
 abbrev pub onServers : List ℕ → Result → After
-onServers clients x = after (x .answer) (x .own) clients (x .slots)
+onServers clients given = after (given .answer) (given .own) clients (given .slots)
 
 abbrev pub onClients : List ℕ → Result → After
-onClients servers x = after (x .answer) servers (x .own) (x .slots)
+onClients servers given = after (given .answer) servers (given .own) (given .slots)
 
 -- ---- R and W: client d starts in a phase
 
@@ -168,11 +166,13 @@ module _ (settings : Settings) (clients slots : List ℕ) where
   readStep d = unless (lowest (readRungs d)) (keeping clients slots) (begun d Reading)
 
   abbrev pub writeRungs : ℕ → Entry → List Rung
-  writeRungs d e =
-      writeLadder (isAbsent d) (isStopped d) (isBusy d) (not (isLicence (e .0))) (isExhausted d) (isFull d 3)
+  writeRungs d entry =
+      writeLadder (isAbsent d) (isStopped d) (isBusy d) (not (isLicence (entry .0))) (isExhausted d)
+      (isFull d 3)
 
   unfoldable pub writeStep : ℕ → Entry → Result
-  writeStep d e = unless (lowest (writeRungs d e)) (keeping clients slots) (begun d (ReadingForWrite e))
+  writeStep d entry =
+      unless (lowest (writeRungs d entry)) (keeping clients slots) (begun d (ReadingForWrite entry))
 
   -- both, for any phase, entry and number of slots; and what remains to refuse once 4 to 8 are not
   abbrev pub startStep : ℕ → Phase → Bool → ℕ → Result
@@ -194,12 +194,12 @@ requestAt slots k d = messageAt slots (upIndex (d - 1) (k - 1))
 
 -- the server after it, and what it sends; what is no message is dropped
 abbrev pub servedBy : Server → ℕ → Unpacked → Server
-servedBy x d (Good message) = nextServer x d message
-servedBy x d (unpacked.Refused r) = x
+servedBy held d (Good message) = nextServer held d message
+servedBy held d (unpacked.Refused why) = held
 
 abbrev pub sentFor : Server → ℕ → Unpacked → List Sent
-sentFor x d (Good message) = serverSends x d message
-sentFor x d (unpacked.Refused r) = []
+sentFor held d (Good message) = serverSends held d message
+sentFor held d (unpacked.Refused why) = []
 
 module _ (settings : Settings) (stopped : ℕ) (servers slots : List ℕ) where
   -- the server as its memory shows it
@@ -213,7 +213,7 @@ module _ (settings : Settings) (stopped : ℕ) (servers slots : List ℕ) where
   served k d =
       result Went
       (putServer servers (k - 1) (server.store (servedBy (serverShown k) d (requestAt slots k d))))
-      (sendDown stopped (taken slots (upIndex (d - 1) (k - 1))) (k - 1) (replied k d))
+      (sendDown stopped (removed slots (upIndex (d - 1) (k - 1))) (k - 1) (replied k d))
 
   -- once 4, 5 and 10 are not refused
   abbrev pub serveOldest : ℕ → ℕ → Result
@@ -240,8 +240,8 @@ replyAt slots d k = messageAt slots (downIndex (d - 1) (k - 1))
 
 -- what the client makes of it, with n servers, of which f may be faulty; what is no message is dropped
 abbrev pub takenFor : ℕ → ℕ → ℕ → model.Client → ℕ → Unpacked → model.Response
-takenFor n f d x k (Good message) = model.clientTakes n f d x k message
-takenFor n f d x k (unpacked.Refused r) = model.sendsNothing x
+takenFor n f d held k (Good message) = model.clientTakes n f d held k message
+takenFor n f d held k (unpacked.Refused why) = model.sendsNothing held
 
 module _ (settings : Settings) (clients slots : List ℕ) where
   abbrev pub oldestTaken : ℕ → ℕ → model.Response
@@ -251,7 +251,7 @@ module _ (settings : Settings) (clients slots : List ℕ) where
   abbrev pub takeResult : ℕ → ℕ → Result
   takeResult d k =
       result (oldestTaken d k .answer) (putClient clients (d - 1) (client.store (oldestTaken d k .client)))
-      (sendUp settings (taken slots (downIndex (d - 1) (k - 1))) (d - 1) (oldestTaken d k .sends))
+      (sendUp settings (removed slots (downIndex (d - 1) (k - 1))) (d - 1) (oldestTaken d k .sends))
 
   -- once 4, 6 and 10 are not refused
   abbrev pub takeOldest : ℕ → ℕ → Result
@@ -275,7 +275,7 @@ module _ (settings : Settings) (clients slots : List ℕ) where
   abbrev pub stopResult : ℕ → Result
   stopResult d =
       result Went (putStopped clients
-      (setOf (λ e. eqb d e || contains (state.stoppedIn clients) e) mostClients))
+      (setOf (λ other. eqb d other || contains (state.stoppedIn clients) other) mostClients))
       (emptied slots (d - 1) (size (settings .f)))
 
   abbrev pub stopRungs : ℕ → List Rung
@@ -292,7 +292,7 @@ pub record Placed : Type 0 where
   pub slots : List ℕ
 
 abbrev pub placed : Answer → List ℕ → Placed
-placed a slots = record { answer = a; slots = slots }
+placed answer slots = record { answer = answer; slots = slots }
 
 module _ (stopped : ℕ) (slots : List ℕ) where
   -- the words of its bytes are put; to a stopped client they are dropped
@@ -302,32 +302,33 @@ module _ (stopped : ℕ) (slots : List ℕ) where
       (putOn slots (downIndex (d - 1) (k - 1)) (words (spelt 0 (bytesIn given)))))
 
   abbrev pub noRoomFor : ℕ → ℕ → Bool
-  noRoomFor k d = not (contains stopped d || leb (countAt slots (downIndex (d - 1) (k - 1)) + 1) steps.slots)
+  noRoomFor k d = not (contains stopped d || leb (countAt slots (downIndex (d - 1) (k - 1)) + 1) capacity)
 
   -- once 4, 5 and 9 are not refused
   abbrev pub lieWith : ℕ → ℕ → Words → Placed
-  lieWith k d given = unless (lowest (lieLadder false false false (noRoomFor k d))) (λ a. placed a slots)
+  lieWith k d given =
+      unless (lowest (lieLadder false false false (noRoomFor k d))) (λ answer. placed answer slots)
       (lied k d given)
 
 abbrev pub lieRungs : Settings → ℕ → List ℕ → ℕ → ℕ → Words → List Rung
 lieRungs settings stopped slots k d given =
     lieLadder (not (isClient (settingsOf settings) d && isServer (settingsOf settings) k))
     (not (contains (settings .faulty) k))
-    (not (isReply (unpackOf (bytesIn given)))) (noRoomFor stopped slots k d)
+    (not (goesDown (unpackOf (bytesIn given)))) (noRoomFor stopped slots k d)
 
 unfoldable pub lieStep : Settings → ℕ → List ℕ → ℕ → ℕ → Words → Placed
 lieStep settings stopped slots k d given = unless (lowest (lieRungs settings stopped slots k d given))
-    (λ a. placed a slots) (lied stopped slots k d given)
+    (λ answer. placed answer slots) (lied stopped slots k d given)
 
 abbrev pub onSlots : List ℕ → List ℕ → Placed → After
-onSlots servers clients x = after (x .answer) servers clients (x .slots)
+onSlots servers clients given = after (given .answer) servers clients (given .slots)
 
 -- ---- one step
 
 unfoldable pub inMemory : Settings → List ℕ → List ℕ → List ℕ → Step → After
 inMemory settings servers clients slots (step.R d) = onClients servers (readStep settings clients slots d)
-inMemory settings servers clients slots (step.W d e) = onClients servers
-    (writeStep settings clients slots d e)
+inMemory settings servers clients slots (step.W d entry) = onClients servers
+    (writeStep settings clients slots d entry)
 inMemory settings servers clients slots (step.K k d) = onServers clients
     (serveStep settings (state.stoppedIn clients) servers slots k d)
 inMemory settings servers clients slots (step.D d k) = onClients servers (takeStep settings clients slots d k)

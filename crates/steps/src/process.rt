@@ -2,8 +2,8 @@
 ghost use mathlib.Core.Bool.{_&&_};
 ghost use mathlib.Core.Path.{_≡_};
 ghost use Prim.Native.Nat.{_≤_};
+ghost use Rattle.basics.specs.BitSets.{contains};
 ghost use Rattle.register.specs.Settings.{isClient, isServer};
-ghost use Rattle.server.specs.State.{contains};
 ghost use Rattle.state.specs.State.{settingsOf};
 use state::Settings;
 use state::is_in;

@@ -4,19 +4,18 @@ ghost use mathlib.Core.Bool.{true, false, not, _||_};
 ghost use mathlib.Core.Path.{_≡_};
 ghost use lib.Dec.{eqb};
 ghost use lib.ListN.{length};
-ghost use Prim.Native.Nat.{ℕ, _-_, _<_, _≤_};
+ghost use Prim.Native.Nat.{ℕ, _-_, _<_, _≤_, _^_};
+ghost use Rattle.basics.specs.BitSets.{contains, setOf};
+ghost use Rattle.message.specs.Layout.{goes, unpackOf, goesDown, headBits};
+ghost use Rattle.register.specs.Settings.{mostClients, mostFaulty, mostServers, capacity};
+ghost use Rattle.register.specs.Thresholds.{size};
 ghost use Rattle.channel.specs.Sound.{CountsFit};
+ghost use Rattle.server.specs.Memory as serverMemory;
 ghost use Rattle.client.specs.Memory as clientMemory;
 ghost use Rattle.client.specs.Outcome.{takenOf};
 ghost use Rattle.client.specs.Sound.{isSoundMemory};
-ghost use Rattle.message.specs.Layout.{goes, unpackOf};
-ghost use Rattle.register.specs.Settings.{mostClients};
-ghost use Rattle.register.specs.Steps.{isReply};
-ghost use Rattle.register.specs.Thresholds.{size};
-ghost use Rattle.server.specs.Memory as serverMemory;
-ghost use Rattle.server.specs.State.{contains, setOf};
-ghost use Rattle.state.specs.State.{bytesIn, serverAt, stoppedIn, clientAt};
-ghost use Rattle.steps.specs.Ready.{OldestGoes, Ready, SpareEmpty, clientNumbers, serverNumbers};
+ghost use Rattle.state.specs.State.{bytesIn, serverAt, stoppedIn, clientAt, serversLength, clientsLength};
+ghost use Rattle.steps.specs.Ready.{OldestGoes, Ready, SpareEmpty};
 ghost use Rattle.steps.specs.InMemory as memory;
 use crate::process::both_exist;
 use crate::process::has;
@@ -70,7 +69,8 @@ fn begin(
     clients: &mut [u64],
     slots: &mut Slots,
 ) -> Answer
-    requires { ⌜ (settings .f ≤ 4) × (length (now clients) ≡ clientNumbers) × (1 ≤ d) × (d ≤ 6) × (more ≤ 8)
+    requires { ⌜ (settings .f ≤ mostFaulty) × (length (now clients) ≡ clientsLength) × (1 ≤ d)
+        × (d ≤ mostClients) × (more ≤ capacity)
         × (client ≡ clientMemory.loaded d (settings .f) (clientAt (now clients) (d - 1)))
         × CountsFit (now slots) × SpareEmpty settings (now slots) ⌝ }
     ensures { λ answer. ⌜ memory.result answer (now (clients .exit)) (now (slots .exit))
@@ -87,7 +87,7 @@ fn begin(
     let next = message::next_read(reads);
     broadcast(settings, slots, i, Message::GetInfo(next));
     let at = client_start(i);
-    let end = at + client::WORDS;
+    let end = at + client::LENGTH;
     let begun = Client {
         number: client.number,
         f: client.f,
@@ -109,8 +109,9 @@ fn start(
     clients: &mut [u64],
     slots: &mut Slots,
 ) -> Answer
-    requires { ⌜ (settings .f ≤ 4) × (settings .clients ≤ 6) × (length (now clients) ≡ clientNumbers)
-        × (more ≤ 8) × CountsFit (now slots) × SpareEmpty settings (now slots) ⌝ }
+    requires { ⌜ (settings .f ≤ mostFaulty) × (settings .clients ≤ mostClients)
+        × (length (now clients) ≡ clientsLength)
+        × (more ≤ capacity) × CountsFit (now slots) × SpareEmpty settings (now slots) ⌝ }
     ensures { λ answer. ⌜ memory.result answer (now (clients .exit)) (now (slots .exit))
         ≡ memory.startStep settings (now (clients .entry)) (now (slots .entry)) d phase
         (not «is_entry») more ⌝ }
@@ -119,7 +120,7 @@ fn start(
         return Answer::Refused(Refusal::NoSuchProcess);
     }
     let at = client_start((d - 1) as usize);
-    let end = at + client::WORDS;
+    let end = at + client::LENGTH;
     let client = client::load(&clients[at..end], d as u8, settings.f);
     let has_stopped = has(clients[STOPPED], d);
     let old = client.phase;
@@ -137,7 +138,8 @@ fn start(
 }
 
 fn read(settings: Settings, d: u32, clients: &mut [u64], slots: &mut Slots) -> Answer
-    requires { ⌜ (settings .f ≤ 4) × (settings .clients ≤ 6) × (length (now clients) ≡ clientNumbers)
+    requires { ⌜ (settings .f ≤ mostFaulty) × (settings .clients ≤ mostClients)
+        × (length (now clients) ≡ clientsLength)
         × CountsFit (now slots) × SpareEmpty settings (now slots) ⌝ }
     ensures { λ answer. ⌜ memory.result answer (now (clients .exit)) (now (slots .exit))
         ≡ memory.readStep settings (now (clients .entry)) (now (slots .entry)) d ⌝ }
@@ -154,7 +156,8 @@ fn read(settings: Settings, d: u32, clients: &mut [u64], slots: &mut Slots) -> A
 }
 
 fn write(settings: Settings, d: u32, entry: Entry, clients: &mut [u64], slots: &mut Slots) -> Answer
-    requires { ⌜ (settings .f ≤ 4) × (settings .clients ≤ 6) × (length (now clients) ≡ clientNumbers)
+    requires { ⌜ (settings .f ≤ mostFaulty) × (settings .clients ≤ mostClients)
+        × (length (now clients) ≡ clientsLength)
         × CountsFit (now slots) × SpareEmpty settings (now slots) ⌝ }
     ensures { λ answer. ⌜ memory.result answer (now (clients .exit)) (now (slots .exit))
         ≡ memory.writeStep settings (now (clients .entry)) (now (slots .entry)) d entry ⌝ }
@@ -182,8 +185,9 @@ fn serve_message(
     servers: &mut [u64],
     slots: &mut Slots,
 ) -> Answer
-    requires { ⌜ (settings .clients ≤ 6) × (1 ≤ d) × (d ≤ settings .clients) × (1 ≤ k) × (k ≤ 13)
-        × (length (now servers) ≡ serverNumbers)
+    requires { ⌜ (settings .clients ≤ mostClients) × (1 ≤ d) × (d ≤ settings .clients) × (1 ≤ k)
+        × (k ≤ mostServers)
+        × (length (now servers) ≡ serversLength)
         × (serverMemory.isSound (serverAt (now servers) (k - 1)) ≡ true)
         × (memory.requestAt (now slots) k d ≡ Unpacked.Good message) × CountsFit (now slots) ⌝ }
     ensures { λ answer. ⌜ memory.result answer (now (servers .exit)) (now (slots .exit))
@@ -192,7 +196,7 @@ fn serve_message(
     let i = (d - 1) as usize;
     let j = (k - 1) as usize;
     let at = server_start(j);
-    let end = at + server::WORDS;
+    let end = at + server::LENGTH;
     let served = server::after(server::load(&servers[at..end]), d as u8, message);
     let sends = served.sends;
     let next = served.server;
@@ -212,8 +216,9 @@ fn serve_oldest(
     servers: &mut [u64],
     slots: &mut Slots,
 ) -> Answer
-    requires { ⌜ (settings .clients ≤ 6) × (1 ≤ d) × (d ≤ settings .clients) × (1 ≤ k) × (k ≤ 13)
-        × (length (now servers) ≡ serverNumbers)
+    requires { ⌜ (settings .clients ≤ mostClients) × (1 ≤ d) × (d ≤ settings .clients) × (1 ≤ k)
+        × (k ≤ mostServers)
+        × (length (now servers) ≡ serversLength)
         × (serverMemory.isSound (serverAt (now servers) (k - 1)) ≡ true)
         × CountsFit (now slots) × (goes false (memory.requestAt (now slots) k d) ≡ true) ⌝ }
     ensures { λ answer. ⌜ memory.result answer (now (servers .exit)) (now (slots .exit))
@@ -221,7 +226,7 @@ fn serve_oldest(
 {
     let from = up((d - 1) as usize, (k - 1) as usize);
     let Unpacked::Good(message) = oldest_request(slots, from) else {
-        channel::take(slots, from);
+        channel::remove(slots, from);
         return Answer::Went;
     };
     serve_message(settings, stopped, k, d, message, servers, slots)
@@ -235,8 +240,9 @@ fn serve(
     servers: &mut [u64],
     slots: &mut Slots,
 ) -> Answer
-    requires { ⌜ (settings .f ≤ 4) × (settings .clients ≤ 6) × (length (now servers) ≡ serverNumbers)
-        × ((j : ℕ) → j < 13 → serverMemory.isSound (serverAt (now servers) j) ≡ true)
+    requires { ⌜ (settings .f ≤ mostFaulty) × (settings .clients ≤ mostClients)
+        × (length (now servers) ≡ serversLength)
+        × ((j : ℕ) → j < mostServers → serverMemory.isSound (serverAt (now servers) j) ≡ true)
         × CountsFit (now slots) × OldestGoes (now slots) ⌝ }
     ensures { λ answer. ⌜ memory.result answer (now (servers .exit)) (now (slots .exit))
         ≡ memory.serveStep settings stopped (now (servers .entry)) (now (slots .entry)) k d ⌝ }
@@ -266,8 +272,10 @@ fn has_room_for(
     message: Message,
     own: &[u64],
 ) -> bool
-    requires { ⌜ (settings .f ≤ 4) × (client ≡ clientMemory.loaded (client .number) (settings .f) (now own))
-        × (isSoundMemory (settings .f) (now own) ≡ true) × (1 ≤ client .number) × (client .number ≤ 6)
+    requires { ⌜ (settings .f ≤ mostFaulty)
+        × (client ≡ clientMemory.loaded (client .number) (settings .f) (now own))
+        × (isSoundMemory (settings .f) (now own) ≡ true) × (1 ≤ client .number)
+        × (client .number ≤ mostClients)
         × (1 ≤ k) × (k ≤ size (settings .f)) × CountsFit (now slots) × SpareEmpty settings (now slots) ⌝ }
     ensures { λ fits. ⌜ fits ≡ memory.roomUp settings (now (slots .entry)) (client .number - 1)
         (length (takenOf (client .number) (settings .f) (now (own .entry)) k message .sends)) ⌝ }
@@ -297,8 +305,8 @@ fn take_message(
     clients: &mut [u64],
     slots: &mut Slots,
 ) -> Answer
-    requires { ⌜ (settings .f ≤ 4) × (length (now clients) ≡ clientNumbers)
-        × (1 ≤ client .number) × (client .number ≤ 6) × (1 ≤ k) × (k ≤ size (settings .f))
+    requires { ⌜ (settings .f ≤ mostFaulty) × (length (now clients) ≡ clientsLength)
+        × (1 ≤ client .number) × (client .number ≤ mostClients) × (1 ≤ k) × (k ≤ size (settings .f))
         × (client ≡ clientMemory.loaded (client .number) (settings .f)
         (clientAt (now clients) (client .number - 1)))
         × (isSoundMemory (settings .f) (clientAt (now clients) (client .number - 1)) ≡ true)
@@ -309,12 +317,12 @@ fn take_message(
 {
     let i = (client.number - 1) as usize;
     let at = client_start(i);
-    let end = at + client::WORDS;
+    let end = at + client::LENGTH;
     if !has_room_for(settings, slots, client, k as u8, message, &clients[at..end]) {
         return Answer::Refused(Refusal::FullChannel);
     }
     let outcome = client::take_message(client, k as u8, message, &mut clients[at..end]);
-    channel::take(slots, down(i, (k - 1) as usize));
+    channel::remove(slots, down(i, (k - 1) as usize));
     let sends = outcome.sends;
     send_up(settings, slots, i, sends);
     outcome.answer
@@ -323,7 +331,8 @@ fn take_message(
 // The client takes the oldest message. What is none, or one that it does not take, is dropped, and nothing is
 // stored.
 fn take_oldest(settings: Settings, d: u32, k: u32, clients: &mut [u64], slots: &mut Slots) -> Answer
-    requires { ⌜ (settings .f ≤ 4) × (length (now clients) ≡ clientNumbers) × (1 ≤ d) × (d ≤ 6) × (1 ≤ k)
+    requires { ⌜ (settings .f ≤ mostFaulty) × (length (now clients) ≡ clientsLength) × (1 ≤ d)
+        × (d ≤ mostClients) × (1 ≤ k)
         × (k ≤ size (settings .f))
         × (isSoundMemory (settings .f) (clientAt (now clients) (d - 1)) ≡ true) × CountsFit (now slots)
         × SpareEmpty settings (now slots) × (goes true (memory.replyAt (now slots) d k) ≡ true) ⌝ }
@@ -333,22 +342,23 @@ fn take_oldest(settings: Settings, d: u32, k: u32, clients: &mut [u64], slots: &
     let i = (d - 1) as usize;
     let from = down(i, (k - 1) as usize);
     let Unpacked::Good(message) = oldest_reply(slots, from) else {
-        channel::take(slots, from);
+        channel::remove(slots, from);
         return Answer::Went;
     };
     let at = client_start(i);
-    let end = at + client::WORDS;
+    let end = at + client::LENGTH;
     let client = client::load(&clients[at..end], d as u8, settings.f);
     if !client::is_taken(client, k as u8, message, &clients[at..end]) {
-        channel::take(slots, from);
+        channel::remove(slots, from);
         return Answer::Went;
     }
     take_message(settings, client, k, message, clients, slots)
 }
 
 fn take(settings: Settings, d: u32, k: u32, clients: &mut [u64], slots: &mut Slots) -> Answer
-    requires { ⌜ (settings .f ≤ 4) × (settings .clients ≤ 6) × (length (now clients) ≡ clientNumbers)
-        × ((i : ℕ) → i < 6 → isSoundMemory (settings .f) (clientAt (now clients) i) ≡ true)
+    requires { ⌜ (settings .f ≤ mostFaulty) × (settings .clients ≤ mostClients)
+        × (length (now clients) ≡ clientsLength)
+        × ((i : ℕ) → i < mostClients → isSoundMemory (settings .f) (clientAt (now clients) i) ≡ true)
         × CountsFit (now slots) × SpareEmpty settings (now slots) × OldestGoes (now slots) ⌝ }
     ensures { λ answer. ⌜ memory.result answer (now (clients .exit)) (now (slots .exit))
         ≡ memory.takeStep settings (now (clients .entry)) (now (slots .entry)) d k ⌝ }
@@ -369,7 +379,7 @@ fn take(settings: Settings, d: u32, k: u32, clients: &mut [u64], slots: &mut Slo
 
 // The stopped clients and one more.
 fn with_stopped(stopped: u64, d: u32) -> u64
-    requires { ⌜ (stopped < 64) × (1 ≤ d) × (d ≤ 6) ⌝ }
+    requires { ⌜ (stopped < 2 ^ mostClients) × (1 ≤ d) × (d ≤ mostClients) ⌝ }
     ensures { λ set. ⌜ set ≡ setOf (λ e. eqb d e || contains stopped e) mostClients ⌝ }
 {
     let bit: u64 = 1 << (d - 1);
@@ -377,8 +387,9 @@ fn with_stopped(stopped: u64, d: u32) -> u64
 }
 
 fn stop(settings: Settings, d: u32, clients: &mut [u64], slots: &mut Slots) -> Answer
-    requires { ⌜ (settings .f ≤ 4) × (settings .clients ≤ 6) × (length (now clients) ≡ clientNumbers)
-        × (stoppedIn (now clients) < 64) ⌝ }
+    requires { ⌜ (settings .f ≤ mostFaulty) × (settings .clients ≤ mostClients)
+        × (length (now clients) ≡ clientsLength)
+        × (stoppedIn (now clients) < 2 ^ mostClients) ⌝ }
     ensures { λ answer. ⌜ memory.result answer (now (clients .exit)) (now (slots .exit))
         ≡ memory.stopStep settings (now (clients .entry)) (now (slots .entry)) d ⌝ }
 {
@@ -398,17 +409,17 @@ fn stop(settings: Settings, d: u32, clients: &mut [u64], slots: &mut Slots) -> A
 
 // Whether two words are a message that a server sends.
 fn is_reply(words: Words) -> bool
-    ensures { λ yes. ⌜ yes ≡ isReply (unpackOf (bytesIn words)) ⌝ }
+    ensures { λ yes. ⌜ yes ≡ goesDown (unpackOf (bytesIn words)) ⌝ }
 {
     let Unpacked::Good(message) = message::of_words(words) else {
         return false;
     };
-    client::is_reply(message)
+    message::is_reply(message)
 }
 
 // The message goes on its channel, unless there is no room for it (12); to a stopped client it is dropped.
 fn lie_with(stopped: u64, k: u32, d: u32, words: Words, slots: &mut Slots) -> Answer
-    requires { ⌜ (1 ≤ d) × (d ≤ 6) × (1 ≤ k) × (k ≤ 13) × (words .0 < 16777216) ⌝ }
+    requires { ⌜ (1 ≤ d) × (d ≤ mostClients) × (1 ≤ k) × (k ≤ mostServers) × (words .0 < 2 ^ headBits) ⌝ }
     ensures { λ answer. ⌜ memory.placed answer (now (slots .exit))
         ≡ memory.lieWith stopped (now (slots .entry)) k d words ⌝ }
 {
@@ -424,7 +435,7 @@ fn lie_with(stopped: u64, k: u32, d: u32, words: Words, slots: &mut Slots) -> An
 }
 
 fn lie(settings: Settings, stopped: u64, k: u32, d: u32, words: Words, slots: &mut Slots) -> Answer
-    requires { ⌜ (settings .f ≤ 4) × (settings .clients ≤ 6) ⌝ }
+    requires { ⌜ (settings .f ≤ mostFaulty) × (settings .clients ≤ mostClients) ⌝ }
     ensures { λ answer. ⌜ memory.placed answer (now (slots .exit)) ≡ memory.lieStep settings stopped
         (now (slots .entry)) k d words ⌝ }
 {
@@ -443,7 +454,7 @@ fn lie(settings: Settings, stopped: u64, k: u32, d: u32, words: Words, slots: &m
 // ---- one step
 
 // One step of a sound state. A refusal leaves the memory as it was.
-pub fn take_step(
+pub fn make_step(
     settings: Settings,
     step: Step,
     servers: &mut Servers,

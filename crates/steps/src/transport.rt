@@ -5,49 +5,51 @@ ghost use mathlib.Core.Path.{_≡_};
 ghost use lib.Dec.{leb};
 ghost use lib.ListN.{length};
 ghost use Prim.Native.Nat.{suc, _+_, _≤_, _<_};
+ghost use Rattle.basics.specs.BitSets.{contains};
 ghost use Rattle.message.specs.Layout.{goes};
-ghost use Rattle.channel.specs.Memory.{channels, countAt, taken};
-ghost use Rattle.channel.specs.Sound.{CountsFit};
-ghost use Rattle.client.specs.Outcome.{messagesOf};
 ghost use Rattle.register.specs.Server.{forwards, sent, sentTo};
 ghost use Rattle.register.specs.Thresholds.{size};
-ghost use Rattle.server.specs.State.{contains};
+ghost use Rattle.register.specs.Settings.{mostServers, mostFaulty, mostClients, capacity};
+ghost use Rattle.channel.specs.Memory.{channels, countAt, removed};
+ghost use Rattle.channel.specs.Sound.{CountsFit};
 ghost use Rattle.server.specs.Serving.{sentBy};
+ghost use Rattle.client.specs.Outcome.{messagesOf};
 ghost use Rattle.state.specs.State.{upIndex, downIndex, messageAt};
 ghost use Rattle.steps.specs.InMemory as memory;
 ghost use Rattle.steps.specs.Ready.{SpareEmpty};
+use channel::CAPACITY;
 use channel::Slots;
 use message::Message;
 use message::Pair;
 use message::Unpacked;
 use server::Sends;
+use state::CLIENTS;
 use state::SERVERS;
 use state::Settings;
 use state::down;
 use state::is_in;
 use state::up;
 
-// The slots of a channel, the power of 2 above them, and what is added so that a sum over SLOTS reaches it.
-const SLOTS: u64 = 8;
+// Twice the capacity of a channel, which is a power of 2 since the capacity is one, and what is added so that
+// a sum over the capacity reaches it.
+const OVER: u64 = 2 * CAPACITY;
 
-const OVER: u64 = 16;
-
-const UNDER: u64 = OVER - 1 - SLOTS;
+const UNDER: u64 = OVER - 1 - CAPACITY;
 
 // Whether a channel has room for more messages.
 pub fn has_room(slots: &Slots, channel: usize, more: u64) -> bool
-    requires { ⌜ (channel < channels) × (more ≤ 8) ⌝ }
-    ensures { λ fits. ⌜ fits ≡ leb (countAt (now (slots .entry)) channel + more) 8 ⌝ }
+    requires { ⌜ (channel < channels) × (more ≤ capacity) ⌝ }
+    ensures { λ fits. ⌜ fits ≡ leb (countAt (now (slots .entry)) channel + more) capacity ⌝ }
 {
-    channel::count(slots, channel) <= SLOTS - more
+    channel::count(slots, channel) <= CAPACITY - more
 }
 
-// Whether every channel from a client to an honest server has room for more messages. All 13 counts are
-// looked at, and no test branches: a channel that drops or is not used is empty, and which of the others are
-// full cannot be foreseen. A sum is at most SLOTS exactly if it is below OVER with UNDER added, and numbers
+// Whether every channel from a client to an honest server has room for more messages. All counts are looked
+// at, and no test branches: a channel that drops or is not used is empty, and which of the others are full
+// cannot be foreseen. A sum is at most CAPACITY exactly if it is below OVER with UNDER added, and numbers
 // joined by OR are below a power of 2 exactly if each is.
 pub fn has_room_up(settings: Settings, slots: &Slots, i: usize, more: u64) -> bool
-    requires { ⌜ (i < 6) × (settings .f ≤ 4) × (more ≤ 8) × CountsFit (now slots)
+    requires { ⌜ (i < mostClients) × (settings .f ≤ mostFaulty) × (more ≤ capacity) × CountsFit (now slots)
         × SpareEmpty settings (now slots) ⌝ }
     ensures { λ fits. ⌜ fits ≡ memory.roomUp settings (now (slots .entry)) i more ⌝ }
 {
@@ -62,7 +64,7 @@ pub fn has_room_up(settings: Settings, slots: &Slots, i: usize, more: u64) -> bo
 
 // A message on the channels from a client to all honest servers.
 pub fn broadcast(settings: Settings, slots: &mut Slots, i: usize, message: Message)
-    requires { ⌜ (i < 6) × (settings .f ≤ 4) ⌝ }
+    requires { ⌜ (i < mostClients) × (settings .f ≤ mostFaulty) ⌝ }
     ensures { λ r. ⌜ now (slots .exit) ≡ memory.toAll settings (now (slots .entry)) i message ⌝ }
 {
     let words = message::words_of(message);
@@ -91,7 +93,7 @@ pub fn count_sent(sends: client::Sends) -> u64
 
 // What a client sends, on the channels to all honest servers.
 pub fn send_up(settings: Settings, slots: &mut Slots, i: usize, sends: client::Sends)
-    requires { ⌜ (i < 6) × (settings .f ≤ 4) ⌝ }
+    requires { ⌜ (i < mostClients) × (settings .f ≤ mostFaulty) ⌝ }
     ensures { λ r. ⌜ now (slots .exit) ≡ memory.sendUp settings (now (slots .entry)) i (messagesOf sends) ⌝ }
 {
     match sends {
@@ -123,7 +125,7 @@ pub fn oldest_reply(slots: &Slots, channel: usize) -> Unpacked
 // How many messages go to the client at place `to` when a server forwards to a set and acknowledges to the
 // client at place i.
 fn count_to(set: u8, i: usize, to: usize) -> u64
-    requires { ⌜ (i < 6) × (to < 6) ⌝ }
+    requires { ⌜ (i < mostClients) × (to < mostClients) ⌝ }
     ensures { λ count. ⌜ ((pair : Pair)
         → count ≡ length (sentTo (suc to) (sentBy (suc i) (Sends.Forward set pair)))) × (count ≤ 2) ⌝ }
 {
@@ -132,9 +134,9 @@ fn count_to(set: u8, i: usize, to: usize) -> u64
 
 // Whether the channel from a server to a client drops, or has room for more messages.
 fn has_room_from(stopped: u64, slots: &Slots, i: usize, j: usize, more: u64) -> bool
-    requires { ⌜ (i < 6) × (j < 13) × (more ≤ 8) ⌝ }
+    requires { ⌜ (i < mostClients) × (j < mostServers) × (more ≤ capacity) ⌝ }
     ensures { λ fits. ⌜ fits ≡ (contains stopped (suc i)
-        || leb (countAt (now (slots .entry)) (downIndex i j) + more) 8) ⌝ }
+        || leb (countAt (now (slots .entry)) (downIndex i j) + more) capacity) ⌝ }
 {
     is_in(stopped, i) | has_room(slots, down(i, j), more)
 }
@@ -149,7 +151,7 @@ fn all_have_room(
     j: usize,
     set: u8,
 ) -> bool
-    requires { ⌜ (i < 6) × (j < 13) × (settings .clients ≤ 6) ⌝ }
+    requires { ⌜ (i < mostClients) × (j < mostServers) × (settings .clients ≤ mostClients) ⌝ }
     ensures { λ fits. ⌜ ((pair : Pair)
         → fits ≡ memory.roomDown settings stopped (now (slots .entry)) j
         (sentBy (suc i) (Sends.Forward set pair))) ⌝ }
@@ -166,7 +168,7 @@ fn all_have_room(
 
 // A message on the channel from a server to a client, unless the client has stopped.
 fn send_one(stopped: u64, slots: &mut Slots, i: usize, j: usize, message: Message)
-    requires { ⌜ (i < 6) × (j < 13) ⌝ }
+    requires { ⌜ (i < mostClients) × (j < mostServers) ⌝ }
     ensures { λ r. ⌜ now (slots .exit) ≡ memory.sendOne stopped (now (slots .entry)) j
         (sent (suc i) message) ⌝ }
 {
@@ -177,12 +179,12 @@ fn send_one(stopped: u64, slots: &mut Slots, i: usize, j: usize, message: Messag
 
 // FWD of a pair on the channels from a server to the working clients of a set, lowest first.
 fn forward(stopped: u64, slots: &mut Slots, j: usize, set: u8, pair: Pair)
-    requires { ⌜ j < 13 ⌝ }
+    requires { ⌜ j < mostServers ⌝ }
     ensures { λ r. ⌜ now (slots .exit) ≡ memory.sendDown stopped (now (slots .entry)) j
-        (forwards (contains set) pair 6) ⌝ }
+        (forwards (contains set) pair mostClients) ⌝ }
 {
     let mut i = 0;
-    while i < 6 {
+    while i < CLIENTS {
         if is_in(set as u64, i) {
             send_one(stopped, slots, i, j, Message::Fwd(pair));
         }
@@ -193,22 +195,22 @@ fn forward(stopped: u64, slots: &mut Slots, j: usize, set: u8, pair: Pair)
 // One message replied: the oldest message from the client at place i goes off its channel, and the reply on
 // the one back. Without room for it nothing changes, and the answer is false.
 fn reply_one(stopped: u64, slots: &mut Slots, i: usize, j: usize, message: Message) -> bool
-    requires { ⌜ (i < 6) × (j < 13) ⌝ }
+    requires { ⌜ (i < mostClients) × (j < mostServers) ⌝ }
     ensures { λ fits. ⌜ (fits ≡ (contains stopped (suc i)
-        || leb (countAt (now (slots .entry)) (downIndex i j) + 1) 8))
+        || leb (countAt (now (slots .entry)) (downIndex i j) + 1) capacity))
         × (now (slots .exit) ≡ cond fits
-        (memory.sendOne stopped (taken (now (slots .entry)) (upIndex i j)) j (sent (suc i) message))
+        (memory.sendOne stopped (removed (now (slots .entry)) (upIndex i j)) j (sent (suc i) message))
         (now (slots .entry))) ⌝ }
 {
     if is_in(stopped, i) {
-        channel::take(slots, up(i, j));
+        channel::remove(slots, up(i, j));
         return true;
     }
     let to = down(i, j);
     if !has_room(slots, to, 1) {
         return false;
     }
-    channel::take(slots, up(i, j));
+    channel::remove(slots, up(i, j));
     channel::put(slots, to, message::words_of(message));
     true
 }
@@ -223,14 +225,14 @@ fn reply_all(
     set: u8,
     pair: Pair,
 ) -> bool
-    requires { ⌜ (i < 6) × (settings .clients ≤ 6) × (j < 13) ⌝ }
+    requires { ⌜ (i < mostClients) × (settings .clients ≤ mostClients) × (j < mostServers) ⌝ }
     ensures { λ fits. ⌜ memory.Delivered settings stopped (now (slots .entry)) i j
         (sentBy (suc i) (Sends.Forward set pair)) fits (now (slots .exit)) ⌝ }
 {
     if !all_have_room(settings, stopped, slots, i, j, set) {
         return false;
     }
-    channel::take(slots, up(i, j));
+    channel::remove(slots, up(i, j));
     forward(stopped, slots, j, set, pair);
     send_one(
         stopped,
@@ -251,13 +253,14 @@ pub fn deliver(
     j: usize,
     reply: Sends,
 ) -> bool
-    requires { ⌜ (i < settings .clients) × (settings .clients ≤ 6) × (j < 13) × CountsFit (now slots) ⌝ }
+    requires { ⌜ (i < settings .clients) × (settings .clients ≤ mostClients) × (j < mostServers)
+        × CountsFit (now slots) ⌝ }
     ensures { λ fits. ⌜ memory.Delivered settings stopped (now (slots .entry)) i j (sentBy (suc i) reply) fits
         (now (slots .exit)) ⌝ }
 {
     match reply {
         Sends::Nothing => {
-            channel::take(slots, up(i, j));
+            channel::remove(slots, up(i, j));
             true
         }
         Sends::Info(number, pair) => reply_one(stopped, slots, i, j, Message::Info(number, pair)),
@@ -267,7 +270,7 @@ pub fn deliver(
 
 // The channels to a client emptied.
 pub fn empty_down(settings: Settings, slots: &mut Slots, i: usize)
-    requires { ⌜ (i < 6) × (settings .f ≤ 4) ⌝ }
+    requires { ⌜ (i < mostClients) × (settings .f ≤ mostFaulty) ⌝ }
     ensures { λ r. ⌜ now (slots .exit) ≡ memory.emptied (now (slots .entry)) i (size (settings .f)) ⌝ }
 {
     let n = register::servers(settings.f) as usize;

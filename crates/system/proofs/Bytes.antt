@@ -8,23 +8,26 @@ use lib.Pow.{areBytes}
 use Rattle.basics.specs.Bytes.{bigEndian, spelt}
 use Rattle.basics.proofs.Bytes.{spelt-lt, bytes-back}
 use Rattle.basics.proofs.Cases.{by-test}
-use Rattle.message.specs.Layout.{words, wordsNumber}
+use Rattle.message.specs.Layout.{words, wordsNumber, messageBytes, headBits}
 use Rattle.state.specs.State.{bytesIn}
 use Rattle.system.specs.Step.{wordsIn}
 
 words-read : (n : ℕ) → wordsNumber (words n) ≡ n
 words-read n = omega arith
 
-eleven : (l : List ℕ) → length l ≡ 11 → areBytes l ≡ true → bytesIn (words (spelt 0 l)) ≡ l
+eleven : (bytes : List ℕ) → length bytes ≡ messageBytes → areBytes bytes ≡ true
+    → bytesIn (words (spelt 0 bytes)) ≡ bytes
 unfolding bytesIn
-eleven l long fine =
-    let n = spelt 0 l in
-    let small : n < 256 ^ 11 = rw long at (spelt-lt l fine) in
-    let top : n / 2 ^ 64 < 2 ^ 24 = omega arith in
-    rw (lt-ltb (n / 2 ^ 64) (2 ^ 24) top)
-    (ap (bigEndian 11) (words-read n) ∙ (rw long at (bytes-back 0 l fine)))
+eleven bytes long fine =
+    let n = spelt 0 bytes in
+    let small : n < 256 ^ 11 = rw long at (spelt-lt bytes fine) in
+    let top : n / 2 ^ 64 < 2 ^ headBits = omega arith in
+    rw (lt-ltb (n / 2 ^ 64) (2 ^ headBits) top)
+    (ap (bigEndian 11) (words-read n) ∙ (rw long at (bytes-back 0 bytes fine)))
 
-pub bytes-found : (l : List ℕ) → areBytes l ≡ true → bytesIn (wordsIn l) ≡ cond (eqb (length l) 11) l []
+pub bytes-found : (bytes : List ℕ) → areBytes bytes ≡ true → bytesIn (wordsIn bytes)
+    ≡ cond (eqb (length bytes) messageBytes) bytes []
 unfolding wordsIn bytesIn
-bytes-found l fine =
-    by-test (eqb (length l) 11) (λ e. rw e (eleven l (eqb-true (length l) 11 e) fine)) (λ e. rw e)
+bytes-found bytes fine =
+    by-test (eqb (length bytes) messageBytes)
+    (λ e. rw e (eleven bytes (eqb-true (length bytes) messageBytes e) fine)) (λ e. rw e)

@@ -9,11 +9,9 @@
 use Rattle.basics.proofs.Prelude.{_≡_, refl, sym, ap, _∙_, subst, true, List, [], _∷_, getD, ℕ, zero, suc}
 use mathlib.Core.List.{map}
 use Rattle.register.specs.declared.Step.{Step}
-use Rattle.register.specs.Formats.{formats}
-use Rattle.register.specs.History.{worldAt, eventAt}
+use Rattle.register.proofs.Vocabulary.{formats, worldAt, World, newWorld, apply, WellFormed}
+use Rattle.register.specs.History.{eventAt}
 use Rattle.register.specs.Steps as model
-use Rattle.register.specs.World.{World, newWorld, apply}
-use Rattle.register.specs.WellFormed.{WellFormed}
 use Rattle.register.proofs.Formats.{lawful}
 use Rattle.register.proofs.Reachable.{well-step, well-formed}
 use Rattle.register.proofs.Theorem as theorem
@@ -36,63 +34,71 @@ use Rattle.system.proofs.Turn.{eventIn}
 
 -- ---- one step of a stored world
 
-module _ (t : Settings) (allowed : Allowed t) (w : World) (well : WellFormed (settingsOf t) formats w)
-    (x : Step) where
-  pub stored-stepped : stepped t (storeServers w) (storeClients w) (storeSlots w) x
-      ≡ storedBy t w (eventIn t w x)
+module _ (settings : Settings) (allowed : Allowed settings) (world : World)
+    (well : WellFormed (settingsOf settings) formats world) (asked : Step) where
+  pub stored-stepped : stepped settings (storeServers world) (storeClients world) (storeSlots world) asked
+      ≡ storedBy settings world (eventIn settings world asked)
   stored-stepped =
-      sound-step t (storeServers w) (storeClients w) (storeSlots w) (stored-state t allowed w well) x
-      ∙ ap (λ (v : World). storedBy t v (eventIn t v x)) (view-stored t (allowed .accepted) w well)
+      sound-step settings (storeServers world) (storeClients world) (storeSlots world)
+      (stored-state settings allowed world well) asked
+      ∙ ap (λ (other : World). storedBy settings other (eventIn settings other asked))
+      (view-stored settings (allowed .accepted) world well)
 
   abbrev pub next : World
-  next = apply (settingsOf t) w (eventIn t w x)
+  next = apply (settingsOf settings) world (eventIn settings world asked)
 
-  pub next-sound : isSound t (storeServers next) (storeClients next) (storeSlots next) ≡ true
+  pub next-sound : isSound settings (storeServers next) (storeClients next) (storeSlots next) ≡ true
   next-sound =
-      stored-state t allowed next
-      (well-step (settingsOf t) formats (allowed .accepted) lawful w well (stepOf x))
+      stored-state settings allowed next
+      (well-step (settingsOf settings) formats (allowed .accepted) lawful world well (stepOf asked))
 
 -- a sound state stays sound
-pub kept : (t : Settings) (s c b : List ℕ) (x : Step) → isSound t s c b ≡ true
-    → isSound t (stepped t s c b x .servers) (stepped t s c b x .clients) (stepped t s c b x .slots) ≡ true
-kept t s c b x sound =
-    let f = facts t s c b sound in
-    subst (λ (o : After). isSound t (o .servers) (o .clients) (o .slots) ≡ true)
-    (sym (sound-step t s c b sound x)) (next-sound t (f .allowed) (view s c b) (well-view t s c b f) x)
+pub kept : (settings : Settings) (servers clients slots : List ℕ) (asked : Step)
+    → isSound settings servers clients slots ≡ true
+    → isSound settings (stepped settings servers clients slots asked .servers)
+    (stepped settings servers clients slots asked .clients)
+    (stepped settings servers clients slots asked .slots) ≡ true
+kept settings servers clients slots asked sound =
+    let known = facts settings servers clients slots sound in
+    subst (λ (given : After). isSound settings (given .servers) (given .clients) (given .slots) ≡ true)
+    (sym (sound-step settings servers clients slots sound asked))
+    (next-sound settings (known .allowed) (view servers clients slots)
+    (well-view settings servers clients slots known) asked)
 
 -- ---- a list of steps
 
-same-step : (xs : List Step) (i : ℕ) → getD (map stepOf xs) i (model.R 0) ≡ stepOf (stepAt xs i)
+same-step : (list : List Step) (i : ℕ) → getD (map stepOf list) i (model.R 0) ≡ stepOf (stepAt list i)
 unfolding stepOf
 same-step [] zero = refl
 same-step [] (suc i) = refl
-same-step (x ∷ xs) zero = refl
-same-step (x ∷ xs) (suc i) = same-step xs i
+same-step (first ∷ list) zero = refl
+same-step (first ∷ list) (suc i) = same-step list i
 
-module _ (t : Settings) (allowed : Allowed t) (start : Memory) (xs : List Step) where
+module _ (settings : Settings) (allowed : Allowed settings) (start : Memory) (list : List Step) where
   -- the history
   abbrev steps : List model.Step
-  steps = map stepOf xs
+  steps = map stepOf list
 
   -- the world before step i, and the state
   abbrev before : ℕ → World
-  before i = worldAt (settingsOf t) formats steps i
+  before i = worldAt (settingsOf settings) formats steps i
 
   abbrev at : ℕ → Memory
-  at i = stateAt t start xs i
+  at i = stateAt settings start list i
 
   abbrev Stands : ℕ → Type 0
   Stands i = Stored (before i) (at i .servers) (at i .clients) (at i .slots)
 
   -- where they are the same, step i is the model's, stored
   gives : (i : ℕ) → Stands i
-      → stepFrom t (at i) (stepAt xs i) ≡ storedBy t (before i) (eventAt (settingsOf t) formats steps i)
-  gives i p =
-      (λ q. stepped t (p .servers q) (p .clients q) (p .slots q) (stepAt xs i))
-      ∙ stored-stepped t allowed (before i)
-      (well-formed (settingsOf t) formats (allowed .accepted) lawful steps i) (stepAt xs i)
-      ∙ ap (λ (y : model.Step). storedBy t (before i) (model.eventOf (settingsOf t) formats (before i) y))
-      (sym (same-step xs i))
+      → stepFrom settings (at i) (stepAt list i) ≡ storedBy settings (before i)
+      (eventAt (settingsOf settings) formats steps i)
+  gives i stored =
+      (λ q. stepped settings (stored .servers q) (stored .clients q) (stored .slots q) (stepAt list i))
+      ∙ stored-stepped settings allowed (before i)
+      (well-formed (settingsOf settings) formats (allowed .accepted) lawful steps i) (stepAt list i)
+      ∙ ap (λ (y : model.Step). storedBy settings (before i)
+      (model.eventOf (settingsOf settings) formats (before i) y)) (sym (same-step list i))
 
   module _ (new : Stored newWorld (start .servers) (start .clients) (start .slots)) where
     stands : (i : ℕ) → Stands i
@@ -101,22 +107,25 @@ module _ (t : Settings) (allowed : Allowed t) (start : Memory) (xs : List Step) 
     stands (suc i) =
         let e = gives i (stands i) in record { servers = cc; clients = cc; slots = cc }
 
-    from-new : AlongSteps t start xs
+    from-new : AlongSteps settings start list
     from-new =
         record {
           states = stands;
           answers = λ i. ap (λ (z : After). z .answer) (gives i (stands i));
-          demandThree = theorem.demand-three (settingsOf t) (allowed .accepted) steps;
+          demandThree = theorem.demand-three (settingsOf settings) (allowed .accepted) steps;
         }
 
 -- ---- from an accepted setup on
 
 -- whatever the memory held before: states and answers along any list are the history's, and demand 3 holds
-pub along-steps : (f clients faulty : ℕ) (t : Settings) → setupOf f clients faulty ≡ Set t
-    → (s c b : List ℕ) (xs : List Step) → AlongSteps t (startOf (setUpBy (setupOf f clients faulty) s c b)) xs
-along-steps f clients faulty t e s c b xs =
-    let a = setupOf f clients faulty in
-    let o = setUpBy a s c b in
-    let is = set-up-answer a s c b (o .answer) (o .servers) (o .clients) (o .slots) refl ∙ e in
-    from-new t (allowed-set f clients faulty t e) (startOf o) xs
-    (set-up-stored a s c b (o .answer) (o .servers) (o .clients) (o .slots) refl t is)
+pub along-steps : (f count faulty : ℕ) (settings : Settings) → setupOf f count faulty ≡ Set settings
+    → (servers clients slots : List ℕ) (list : List Step)
+    → AlongSteps settings (startOf (setUpBy (setupOf f count faulty) servers clients slots)) list
+along-steps f count faulty settings e servers clients slots list =
+    let setup = setupOf f count faulty in
+    let left = setUpBy setup servers clients slots in
+    let is = set-up-answer setup servers clients slots (left .answer) (left .servers) (left .clients)
+    (left .slots) refl ∙ e in
+    from-new settings (allowed-set f count faulty settings e) (startOf left) list
+    (set-up-stored setup servers clients slots (left .answer) (left .servers) (left .clients)
+    (left .slots) refl settings is)

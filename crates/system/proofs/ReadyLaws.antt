@@ -6,13 +6,11 @@
 use Rattle.basics.proofs.Prelude.{_≡_, sym, ap, _∙_, subst, true, _&&_, _||_, List, getD, ℕ, suc, _≤_, _<_}
 use Rattle.basics.proofs.Prelude.{eqb, ltb, eqb-true}
 use Rattle.basics.proofs.Cases.{by-test, both, true-or-false}
+use Rattle.register.proofs.Vocabulary.{formats, isHonest, mostServers, mostClients, mostFaulty, World}
+use Rattle.register.proofs.Vocabulary.{WellFormed}
+use Rattle.register.proofs.Bounds.{bounds}
 use Rattle.channel.specs.Memory.{countAt}
 use Rattle.channel.proofs.Messages.{counts-fit, oldest-goes}
-use Rattle.register.specs.Formats.{formats}
-use Rattle.register.specs.Settings.{isHonest}
-use Rattle.register.specs.World.{World}
-use Rattle.register.specs.WellFormed.{WellFormed}
-use Rattle.register.proofs.Bounds.{bounds}
 use Rattle.server.specs.Memory as server
 use Rattle.server.proofs.Memory.{store-sound}
 use Rattle.client.specs.Sound.{isSoundMemory}
@@ -26,57 +24,65 @@ use Rattle.state.proofs.StoredParts.{servers-are, server-there}
 use Rattle.state.proofs.StoredSound.{stored-facts}
 use Rattle.steps.specs.Ready.{Ready, SpareEmpty}
 use Rattle.system.specs.Stored.{Stored}
+use Rattle.client.specs.Memory.{readsAt, phaseAt}
 
-module _ (t : Settings) (s c b : List ℕ) (f : Facts t s c b) where
-  server-sound : (j : ℕ) → j < 13 → server.isSound (serverAt s j) ≡ true
+module _ (settings : Settings) (servers clients slots : List ℕ)
+    (known : Facts settings servers clients slots) where
+  server-sound : (j : ℕ) → j < mostServers → server.isSound (serverAt servers j) ≡ true
   server-sound j less =
-      let w = view s c b in
-      ap (λ (l : List ℕ). server.isSound (serverAt l j)) (sym (servers-back t s c b f) ∙ servers-are w)
-      ∙ ap server.isSound (server-there (w .servers) j less) ∙ store-sound (w .servers (suc j))
+      let world = view servers clients slots in
+      ap (λ (l : List ℕ). server.isSound (serverAt l j))
+      (sym (servers-back settings servers clients slots known) ∙ servers-are world)
+      ∙ ap server.isSound (server-there (world .servers) j less) ∙ store-sound (world .servers (suc j))
 
-  client-sound : (i : ℕ) → i < 6 → isSoundMemory (t .f) (clientAt c i) ≡ true
+  client-sound : (i : ℕ) → i < mostClients → isSoundMemory (settings .f) (clientAt clients i) ≡ true
   unfolding isClientSound
   client-sound i less =
-      let m = clientAt c i in
-      let unused = eqb (getD m 0 0) 0 && eqb (getD m 1 0) 0 in
-      both (isSoundMemory (t .f) m) (ltb i (t .clients) || unused) (f .client i less) .0
+      let memory = clientAt clients i in
+      let unused = eqb (getD memory readsAt 0) 0 && eqb (getD memory phaseAt 0) 0 in
+      both (isSoundMemory (settings .f) memory) (ltb i (settings .clients) || unused)
+      (known .client i less) .0
 
   -- a channel that is not used is empty
-  spare-empty : SpareEmpty t b
+  spare-empty : SpareEmpty settings slots
   unfolding isLinkSound
   spare-empty i j client server other =
-      let n : ℕ = countAt b (upIndex i j) in
-      let link = both (eqb n 0 || usesUp t i j) _ (f .link i j client server) .0 in
+      let n : ℕ = countAt slots (upIndex i j) in
+      let link = both (eqb n 0 || usesUp settings i j) _ (known .link i j client server) .0 in
       by-test (eqb n 0) (eqb-true n 0)
-      (λ no. let used : usesUp t i j ≡ true = rw no at link in
-      absurd (true-or-false _ (both (ltb i (t .clients)) (isHonest (settingsOf t) (suc j)) used .1) other))
+      (λ no. let used : usesUp settings i j ≡ true = rw no at link in
+      absurd (true-or-false _
+      (both (ltb i (settings .clients)) (isHonest (settingsOf settings) (suc j)) used .1) other))
 
-  few-faulty : t .f ≤ 4
+  few-faulty : settings .f ≤ mostFaulty
   unfolding settingsOf
-  few-faulty = bounds (settingsOf t) (f .allowed .accepted) .few
+  few-faulty = bounds (settingsOf settings) (known .allowed .accepted) .few
 
-  pub ready : Ready t s c b
+  pub ready : Ready settings servers clients slots
   ready =
       record {
-        few = few-faulty;
-        six = most-six t s c b f;
-        servers = f .servers;
-        clients = f .clients;
-        stopped = below-six (t .clients) _ (most-six t s c b f) (f .stopped);
+        fewFaulty = few-faulty;
+        fewClients = most-six settings servers clients slots known;
+        serversLong = known .serversLong;
+        clientsLong = known .clientsLong;
+        stopped = below-six (settings .clients) _ (most-six settings servers clients slots known)
+            (known .stopped);
         server = server-sound;
         client = client-sound;
-        counts = counts-fit b (f .channels);
+        counts = counts-fit slots (known .channels);
         spare = spare-empty;
-        ways = oldest-goes b (f .channels);
+        ways = oldest-goes slots (known .channels);
       }
 
 -- ---- the memory of a well-formed world
 
-module _ (t : Settings) (allowed : Allowed t) (w : World) (well : WellFormed (settingsOf t) formats w) where
-  pub ready-stored : (s c b : List ℕ) → Stored w s c b → Ready t s c b
-  ready-stored s c b st =
-      ready t s c b
-      (subst (λ (z : List ℕ). Facts t z c b) (sym (st .servers))
-      (subst (λ (z : List ℕ). Facts t (storeServers w) z b) (sym (st .clients))
-      (subst (λ (z : List ℕ). Facts t (storeServers w) (storeClients w) z) (sym (st .slots))
-      (stored-facts t allowed w well))))
+module _ (settings : Settings) (allowed : Allowed settings) (world : World)
+    (well : WellFormed (settingsOf settings) formats world) where
+  pub ready-stored : (servers clients slots : List ℕ) → Stored world servers clients slots
+      → Ready settings servers clients slots
+  ready-stored servers clients slots stored =
+      ready settings servers clients slots
+      (subst (λ (z : List ℕ). Facts settings z clients slots) (sym (stored .servers))
+      (subst (λ (z : List ℕ). Facts settings (storeServers world) z slots) (sym (stored .clients))
+      (subst (λ (z : List ℕ). Facts settings (storeServers world) (storeClients world) z)
+      (sym (stored .slots)) (stored-facts settings allowed world well))))

@@ -4,16 +4,13 @@
 -- in the settings, and for these the tests are the ladder's. What `set_up` leaves is one equation; here are
 -- its parts.
 -- Assumes nothing.
+use Rattle.register.proofs.Vocabulary.{contains, Refusal, mostServers, mostClients, mostFaulty, setupRefusal}
+use Rattle.register.proofs.Vocabulary.{inRange, counted, newWorld}
 use Rattle.basics.proofs.Prelude.{_≡_, refl, sym, ap, _∙_, subst, true, false, List, Option, none, some, ℕ}
-use Rattle.basics.proofs.Prelude.{_≤_, _<_, arith, leb, ltb, le-leb, lt-leb, ltb-true, lt-ltb, le-ltb}
+use Rattle.basics.proofs.Prelude.{_^_, _≤_, _<_, arith, leb, ltb, le-leb, lt-leb, ltb-true, lt-ltb, le-ltb}
 use Rattle.basics.proofs.Cases.{by-test, clash}
-use Rattle.refusal.specs.declared.Refusal.{Refusal}
 use Rattle.refusal.specs.declared.Refusal.the-variants.{BadSettings, TooManyFaulty}
-use Rattle.register.specs.Settings.{setupRefusal, inRange}
-use Rattle.register.specs.Settings as settings
-use Rattle.register.specs.Thresholds.{counted}
-use Rattle.register.specs.World.{newWorld}
-use Rattle.server.specs.State.{contains}
+use Rattle.register.specs.Settings as register
 use Rattle.state.specs.declared.Settings.{Settings}
 use Rattle.state.specs.State.{settingsOf}
 use Rattle.state.proofs.SoundFacts.{Allowed}
@@ -24,87 +21,97 @@ use Rattle.system.specs.Stored.{Stored}
 
 module _ (f clients faulty : ℕ) where
   -- the settings, as the model has them
-  abbrev S : settings.Settings
+  abbrev S : register.Settings
   S = settingsOf (settingsBy f clients faulty)
 
-  pub over-marks : 8192 ≤ faulty → setupOf f clients faulty ≡ Refused BadSettings
+  pub over-marks : 2 ^ mostServers ≤ faulty → setupOf f clients faulty ≡ Refused BadSettings
   unfolding setupOf
-  over-marks h = rw (le-ltb faulty 8192 h)
+  over-marks h = rw (le-ltb faulty (2 ^ mostServers) h)
 
-  module _ (marks : faulty < 8192) where
+  module _ (marks : faulty < 2 ^ mostServers) where
     pub out-of-range : inRange S ≡ false → setupOf f clients faulty ≡ Refused BadSettings
     unfolding setupOf setupRefusal
-    out-of-range e = rw (lt-ltb faulty 8192 marks, e)
+    out-of-range e = rw (lt-ltb faulty (2 ^ mostServers) marks, e)
 
     pub over-f : 255 < f → setupOf f clients faulty ≡ Refused BadSettings
     unfolding inRange settingsOf
-    over-f h = out-of-range (rw (lt-leb f 4 (omega arith)))
+    over-f h = out-of-range (rw (lt-leb f mostFaulty (omega arith)))
 
     pub over-clients : 255 < clients → setupOf f clients faulty ≡ Refused BadSettings
     unfolding inRange settingsOf
     over-clients h =
         out-of-range
-        (by-test (leb f 4) (λ e. rw (e, le-leb 1 clients (omega arith), lt-leb clients 6 (omega arith)))
+        (by-test (leb f mostFaulty)
+        (λ e. rw (e, le-leb 1 clients (omega arith), lt-leb clients mostClients (omega arith)))
         (λ e. rw e))
 
     module _ (fine : inRange S ≡ true) where
-      pub too-many : ltb f (counted (contains faulty) 13) ≡ true
+      pub too-many : ltb f (counted (contains faulty) mostServers) ≡ true
           → setupOf f clients faulty ≡ Refused TooManyFaulty
       unfolding setupOf setupRefusal settingsOf
-      too-many e = rw (lt-ltb faulty 8192 marks, fine, e)
+      too-many e = rw (lt-ltb faulty (2 ^ mostServers) marks, fine, e)
 
-      pub is-set : ltb f (counted (contains faulty) 13) ≡ false
+      pub is-set : ltb f (counted (contains faulty) mostServers) ≡ false
           → setupOf f clients faulty ≡ Set (settingsBy f clients faulty)
       unfolding setupOf setupRefusal settingsOf
-      is-set e = rw (lt-ltb faulty 8192 marks, fine, e)
+      is-set e = rw (lt-ltb faulty (2 ^ mostServers) marks, fine, e)
 
 -- ---- a setup that is accepted
 
-by-refusal : (o : Option Refusal) (s t : Settings) → unlessRefused o s ≡ Set t → (o ≡ none) × (s ≡ t)
-by-refusal none s t h = (refl, (let e : s ≡ t = cc in e))
-by-refusal (some n) s t h = clash (cc)
+by-refusal : (refusal : Option Refusal) (given settings : Settings) → unlessRefused refusal given
+    ≡ Set settings → (refusal ≡ none) × (given ≡ settings)
+by-refusal none given settings h = (refl, (let e : given ≡ settings = cc in e))
+by-refusal (some why) given settings h = clash (cc)
 
-pub allowed-set : (f clients faulty : ℕ) (t : Settings) → setupOf f clients faulty ≡ Set t → Allowed t
+pub allowed-set : (f clients faulty : ℕ) (settings : Settings) → setupOf f clients faulty ≡ Set settings
+    → Allowed settings
 unfolding setupOf
-allowed-set f clients faulty t h =
-    by-test (ltb faulty 8192)
+allowed-set f clients faulty settings h =
+    by-test (ltb faulty (2 ^ mostServers))
     (λ e. let p = by-refusal (setupRefusal (settingsOf (settingsBy f clients faulty)))
-    (settingsBy f clients faulty) t (rw e at h) in
-    subst Allowed (p .1) (record { accepted = p .0; marked = ltb-true faulty 8192 e }))
-    (λ e. let k = rw e at h in clash (cc))
+    (settingsBy f clients faulty) settings (rw e at h) in
+    subst Allowed (p .1) (record { accepted = p .0; marked = ltb-true faulty (2 ^ mostServers) e }))
+    (λ e. let no = rw e at h in clash (cc))
 
 -- ---- what `set_up` leaves
 
 -- the answer is the setup's
-answer-is : (a : Setup) (s c b : List ℕ) → setUpBy a s c b .answer ≡ a
+answer-is : (wanted : Setup) (servers clients slots : List ℕ) → setUpBy wanted servers clients slots .answer
+    ≡ wanted
 unfolding setUpBy
-answer-is (Set t) s c b = refl
-answer-is (Refused n) s c b = refl
+answer-is (Set settings) servers clients slots = refl
+answer-is (Refused why) servers clients slots = refl
 
 module _
-    (a : Setup) (s c b : List ℕ) (r : Setup) (s′ c′ b′ : List ℕ)
-    (e : setUp r s′ c′ b′ ≡ setUpBy a s c b) where
-  pub set-up-answer : r ≡ a
-  set-up-answer = ap (λ (z : SetUp). z .answer) e ∙ answer-is a s c b
+    (wanted : Setup) (servers clients slots : List ℕ) (answer : Setup) (servers′ clients′ slots′ : List ℕ)
+    (e : setUp answer servers′ clients′ slots′ ≡ setUpBy wanted servers clients slots) where
+  pub set-up-answer : answer ≡ wanted
+  set-up-answer = ap (λ (z : SetUp). z .answer) e ∙ answer-is wanted servers clients slots
 
   -- where the answer is known
-  known : (k : Setup) → r ≡ k → setUp r s′ c′ b′ ≡ setUpBy k s c b
-  known k is = e ∙ ap (λ (z : Setup). setUpBy z s c b) (sym set-up-answer ∙ is)
+  known : (told : Setup) → answer ≡ told → setUp answer servers′ clients′ slots′
+      ≡ setUpBy told servers clients slots
+  known told is = e ∙ ap (λ (z : Setup). setUpBy z servers clients slots) (sym set-up-answer ∙ is)
 
   -- accepted: the new world is stored
-  pub set-up-stored : (t : Settings) → r ≡ Set t → Stored newWorld s′ c′ b′
+  pub set-up-stored : (settings : Settings) → answer ≡ Set settings → Stored newWorld servers′ clients′ slots′
   unfolding setUpBy
-  set-up-stored t is =
-      let k = known (Set t) is in
+  set-up-stored settings is =
+      let left = known (Set settings) is in
       record {
-        servers = ap (λ (z : SetUp). z .servers) k;
-        clients = ap (λ (z : SetUp). z .clients) k;
-        slots = ap (λ (z : SetUp). z .slots) k;
+        servers = ap (λ (z : SetUp). z .servers) left;
+        clients = ap (λ (z : SetUp). z .clients) left;
+        slots = ap (λ (z : SetUp). z .slots) left;
       }
 
   -- refused: all is as it was
-  pub set-up-kept : (n : Refusal) → r ≡ Refused n → (s′ ≡ s) × (c′ ≡ c) × (b′ ≡ b)
+  pub set-up-kept : (why : Refusal) → answer ≡ Refused why → (servers′ ≡ servers) × (clients′ ≡ clients)
+      × (slots′ ≡ slots)
   unfolding setUpBy
-  set-up-kept n is =
-      let k = known (Refused n) is in
-      (ap (λ (z : SetUp). z .servers) k, ap (λ (z : SetUp). z .clients) k, ap (λ (z : SetUp). z .slots) k)
+  set-up-kept why is =
+      let left = known (Refused why) is in (
+        ap (λ (z : SetUp). z .servers) left,
+        ap (λ (z : SetUp). z .clients) left,
+        ap (λ (z : SetUp). z .slots)
+            left,
+      )

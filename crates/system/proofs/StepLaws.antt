@@ -18,20 +18,23 @@ use Rattle.system.specs.Stored.{Stored}
 use Rattle.system.proofs.Refusals.{sound-step}
 use Rattle.system.proofs.Turn.{is-stored}
 
-module _ (t : Settings) (s c b : List ℕ) (sound : isSound t s c b ≡ true) where
-  f : Facts t s c b
-  f = facts t s c b sound
+module _ (settings : Settings) (servers clients slots : List ℕ)
+    (sound : isSound settings servers clients slots ≡ true) where
+  known : Facts settings servers clients slots
+  known = facts settings servers clients slots sound
 
   -- a sound state is stored
-  pub sound-stored : Stored (view s c b) s c b
+  pub sound-stored : Stored (view servers clients slots) servers clients slots
   sound-stored =
       record {
-        servers = sym (servers-back t s c b f);
-        clients = sym (clients-back t s c b f);
-        slots = sym (slots-back t s c b f);
+        servers = sym (servers-back settings servers clients slots known);
+        clients = sym (clients-back settings servers clients slots known);
+        slots = sym (slots-back settings servers clients slots known);
       }
 
-  pub step-law : (x : Step) (o : After) → o ≡ inMemory t s c b x → o ≡ stepped t s c b x
-  step-law x o given =
-      is-stored t (f .allowed .accepted) (view s c b) (well-view t s c b f) s c b sound-stored x o given
-      ∙ sym (sound-step t s c b sound x)
+  pub step-law : (asked : Step) (given : After) → given ≡ inMemory settings servers clients slots asked
+      → given ≡ stepped settings servers clients slots asked
+  step-law asked given is =
+      is-stored settings (known .allowed .accepted) (view servers clients slots)
+      (well-view settings servers clients slots known) servers clients slots sound-stored asked given is
+      ∙ sym (sound-step settings servers clients slots sound asked)

@@ -5,11 +5,7 @@
 -- Assumes nothing.
 use Rattle.basics.proofs.Prelude.{_≡_, _∙_, List, ℕ}
 use Rattle.register.specs.declared.Step.{Step}
-use Rattle.register.specs.Formats.{formats}
-use Rattle.register.specs.Settings.{Accepted}
-use Rattle.register.specs.Steps.{eventOf}
-use Rattle.register.specs.World.{World, Event}
-use Rattle.register.specs.WellFormed.{WellFormed}
+use Rattle.register.proofs.Vocabulary.{formats, Accepted, eventOf, World, Event, WellFormed}
 use Rattle.state.specs.declared.Settings.{Settings}
 use Rattle.state.specs.State.{settingsOf, stepOf}
 use Rattle.steps.specs.InMemory.{After, inMemory}
@@ -19,11 +15,13 @@ use Rattle.system.specs.Stored.{Stored}
 
 -- the event of a step in a world
 abbrev pub eventIn : Settings → World → Step → Event
-eventIn t w x = eventOf (settingsOf t) formats w (stepOf x)
+eventIn settings world asked = eventOf (settingsOf settings) formats world (stepOf asked)
 
-module _ (t : Settings) (accepted : Accepted (settingsOf t)) (w : World)
-    (well : WellFormed (settingsOf t) formats w) (s c b : List ℕ) (st : Stored w s c b) where
-  pub is-stored : (x : Step) (o : After) → o ≡ inMemory t s c b x → o ≡ storedBy t w (eventIn t w x)
-  is-stored x o given =
-      given ∙ (λ i. inMemory t (st .servers i) (st .clients i) (st .slots i) x)
-      ∙ memory-is-model t accepted w well x
+module _ (settings : Settings) (accepted : Accepted (settingsOf settings)) (world : World)
+    (well : WellFormed (settingsOf settings) formats world) (servers clients slots : List ℕ)
+    (stored : Stored world servers clients slots) where
+  pub is-stored : (asked : Step) (given : After) → given ≡ inMemory settings servers clients slots asked
+      → given ≡ storedBy settings world (eventIn settings world asked)
+  is-stored asked given is =
+      is ∙ (λ i. inMemory settings (stored .servers i) (stored .clients i) (stored .slots i) asked)
+      ∙ memory-is-model settings accepted world well asked

@@ -24,7 +24,7 @@ use Rattle.system.specs.Stored.{Stored}
 
 -- step number i; past the end of the list stands a step that every state refuses
 abbrev pub stepAt : List Step → ℕ → Step
-stepAt xs i = getD xs i (R 0)
+stepAt steps i = getD steps i (R 0)
 
 -- the memory of a state
 pub record Memory : Type 0 where
@@ -34,32 +34,32 @@ pub record Memory : Type 0 where
 
 -- what `set_up` and `step` return behind their answers
 abbrev pub startOf : SetUp → Memory
-startOf o = record { servers = o .servers; clients = o .clients; slots = o .slots }
+startOf outcome = record { servers = outcome .servers; clients = outcome .clients; slots = outcome .slots }
 
 abbrev pub memoryOf : After → Memory
-memoryOf o = record { servers = o .servers; clients = o .clients; slots = o .slots }
+memoryOf outcome = record { servers = outcome .servers; clients = outcome .clients; slots = outcome .slots }
 
 -- `step`, given a state
 abbrev pub stepFrom : Settings → Memory → Step → After
-stepFrom t m x = stepped t (m .servers) (m .clients) (m .slots) x
+stepFrom settings memory asked = stepped settings (memory .servers) (memory .clients) (memory .slots) asked
 
-module _ (t : Settings) (start : Memory) (xs : List Step) where
+module _ (settings : Settings) (start : Memory) (steps : List Step) where
   -- the state that step i is given: first the setup's, then what the step before returned
   unfoldable pub stateAt : ℕ → Memory
   stateAt zero = start
-  stateAt (suc i) = memoryOf (stepFrom t (stateAt i) (stepAt xs i))
+  stateAt (suc i) = memoryOf (stepFrom settings (stateAt i) (stepAt steps i))
 
   -- what step i answers
   abbrev pub answeredAt : ℕ → Answer
-  answeredAt i = stepFrom t (stateAt i) (stepAt xs i) .answer
+  answeredAt i = stepFrom settings (stateAt i) (stepAt steps i) .answer
 
   -- the list's states and answers are those of its history
   pub record AlongSteps : Type 0 where
     -- the state that step i is given is the memory of the history's world before step i
     pub states : (i : ℕ)
-        → Stored (worldAt (settingsOf t) formats (map stepOf xs) i)
+        → Stored (worldAt (settingsOf settings) formats (map stepOf steps) i)
         (stateAt i .servers) (stateAt i .clients) (stateAt i .slots)
     -- step i answers as the history says
-    pub answers : (i : ℕ) → answeredAt i ≡ answerAt (settingsOf t) formats (map stepOf xs) i
+    pub answers : (i : ℕ) → answeredAt i ≡ answerAt (settingsOf settings) formats (map stepOf steps) i
     -- demand 3 holds of that history
-    pub demandThree : DemandThreeOf (settingsOf t) (map stepOf xs)
+    pub demandThree : DemandThreeOf (settingsOf settings) (map stepOf steps)

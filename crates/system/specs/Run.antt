@@ -20,10 +20,10 @@ use Rattle.register.specs.DemandThree.{DemandThreeOf}
 use Rattle.register.specs.Formats.{formats}
 use Rattle.register.specs.History.{worldAt, answerAt}
 use Rattle.register.specs.Steps as steps
-use Rattle.system.specs.declared.setup.Setup.{Setup}
-use Rattle.system.specs.declared.setup.Setup.the-variants as setup
 use Rattle.state.specs.declared.Settings.{Settings}
 use Rattle.state.specs.State.{settingsOf, stepOf}
+use Rattle.system.specs.declared.setup.Setup.{Setup}
+use Rattle.system.specs.declared.setup.Setup.the-variants as setup
 use Rattle.system.specs.Stored.{Stored}
 
 -- ---- a step in five numbers: its kind, 0 to 5 for R, W, K, D, C, L, and its arguments; a message is two of
@@ -52,53 +52,56 @@ stepBy kind first second high low =
 
 -- step i of the list
 abbrev pub stepIn : List ℕ → ℕ → Step
-stepIn xs i =
+stepIn list i =
     let at = i * stepNumbers in
-    stepBy (getD xs at 0) (getD xs (at + 1) 0) (getD xs (at + 2) 0) (getD xs (at + 3) 0) (getD xs (at + 4) 0)
+    stepBy (getD list at 0) (getD list (at + 1) 0) (getD list (at + 2) 0) (getD list (at + 3) 0)
+    (getD list (at + 4) 0)
 
 -- ---- an answer in two numbers: which it is, and the pair that READ or WROTE shows
 
 abbrev pub codeOf : Answer → ℕ
 codeOf Went = 0
-codeOf (Read p) = 1
-codeOf (Wrote p) = 2
+codeOf (Read pair) = 1
+codeOf (Wrote pair) = 2
 codeOf Spent = 3
-codeOf (Refused n) = 16 + numberOf n
+codeOf (Refused why) = 16 + numberOf why
 
 abbrev pub shownBy : Answer → ℕ
 shownBy Went = 0
-shownBy (Read p) = p .0
-shownBy (Wrote p) = p .0
+shownBy (Read pair) = pair .0
+shownBy (Wrote pair) = pair .0
 shownBy Spent = 0
-shownBy (Refused n) = 0
+shownBy (Refused why) = 0
 
 -- the answers of the first n steps, written over what memory held
 abbrev pub putAnswer : List ℕ → ℕ → Answer → List ℕ
-putAnswer out i a =
-    let at = i * answerNumbers in set (set out at (codeOf a)) (at + 1) (shownBy a)
+putAnswer out i answer =
+    let at = i * answerNumbers in set (set out at (codeOf answer)) (at + 1) (shownBy answer)
 
 unfoldable pub answered : (ℕ → Answer) → List ℕ → ℕ → List ℕ
-answered a out zero = out
-answered a out (suc n) = putAnswer (answered a out n) n (a n)
+answered answers out zero = out
+answered answers out (suc n) = putAnswer (answered answers out n) n (answers n)
 
 -- ---- a run
 
 -- as many steps as the list has whole, and as there is room for answers
 unfoldable pub howMany : List ℕ → List ℕ → ℕ
-howMany xs out = min (length xs / stepNumbers) (length out / answerNumbers)
+howMany list out = min (length list / stepNumbers) (length out / answerNumbers)
 
 -- the first n steps of the list
 unfoldable pub stepsIn : List ℕ → ℕ → List steps.Step
-stepsIn xs n = listed (λ i. stepOf (stepIn xs i)) n
+stepsIn list n = listed (λ i. stepOf (stepIn list i)) n
 
 -- after i of n steps the memory is that of the history's world, and the answers are the history's
-pub record Run (t : Settings) (xs out : List ℕ) (n i : ℕ) (s c b written : List ℕ) : Type 0 where
-  pub stored : Stored (worldAt (settingsOf t) formats (stepsIn xs n) i) s c b
-  pub answers : written ≡ answered (answerAt (settingsOf t) formats (stepsIn xs n)) out i
+pub record Run (settings : Settings) (list out : List ℕ) (n i : ℕ)
+    (servers clients slots written : List ℕ) : Type 0 where
+  pub stored : Stored (worldAt (settingsOf settings) formats (stepsIn list n) i) servers clients slots
+  pub answers : written ≡ answered (answerAt (settingsOf settings) formats (stepsIn list n)) out i
 
 -- an accepted setup: the whole run, and demand 3; a refused one leaves lent memory as it was
-abbrev pub Outcome : Setup → (xs out s c b s′ c′ b′ out′ : List ℕ) → Type 0
-Outcome (setup.Set t) xs out s c b s′ c′ b′ out′ =
-    Run t xs out (howMany xs out) (howMany xs out) s′ c′ b′ out′
-    × DemandThreeOf (settingsOf t) (stepsIn xs (howMany xs out))
-Outcome (setup.Refused n) xs out s c b s′ c′ b′ out′ = (s′ ≡ s) × (c′ ≡ c) × (b′ ≡ b) × (out′ ≡ out)
+abbrev pub Outcome : Setup → (list out servers clients slots servers′ clients′ slots′ out′ : List ℕ) → Type 0
+Outcome (setup.Set settings) list out servers clients slots servers′ clients′ slots′ out′ =
+    Run settings list out (howMany list out) (howMany list out) servers′ clients′ slots′ out′
+    × DemandThreeOf (settingsOf settings) (stepsIn list (howMany list out))
+Outcome (setup.Refused why) list out servers clients slots servers′ clients′ slots′ out′ =
+    (servers′ ≡ servers) × (clients′ ≡ clients) × (slots′ ≡ slots) × (out′ ≡ out)

@@ -11,10 +11,10 @@ use Rattle.refusal.specs.declared.Refusal.{Refusal}
 use Rattle.refusal.specs.Numbers.{numbered}
 use Rattle.register.specs.Settings.{mostServers, setupRefusal}
 use Rattle.register.specs.World.{newWorld}
-use Rattle.system.specs.declared.setup.Setup.{Setup}
-use Rattle.system.specs.declared.setup.Setup.the-variants.{Set, Refused}
 use Rattle.state.specs.declared.Settings.{Settings}
 use Rattle.state.specs.State.{settingsOf, storeServers, storeClients, storeSlots}
+use Rattle.system.specs.declared.setup.Setup.{Setup}
+use Rattle.system.specs.declared.setup.Setup.the-variants.{Set, Refused}
 
 -- f, the number of clients, and the marks as bits, server k's bit k - 1
 abbrev pub settingsBy : ℕ → ℕ → ℕ → Settings
@@ -22,8 +22,8 @@ settingsBy f clients faulty = record { f = f; clients = clients; faulty = faulty
 
 -- 01's answer: SET with the settings, or REFUSED 1, 'no such room', or 2, 'too many liars'
 abbrev pub unlessRefused : Option Refusal → Settings → Setup
-unlessRefused none t = Set t
-unlessRefused (some n) t = Refused n
+unlessRefused none settings = Set settings
+unlessRefused (some why) settings = Refused why
 
 -- a mark beyond the 13 is one beyond n
 unfoldable pub setupOf : ℕ → ℕ → ℕ → Setup
@@ -43,9 +43,11 @@ pub record SetUp : Type 0 where
   pub slots : List ℕ
 
 abbrev pub setUp : Setup → List ℕ → List ℕ → List ℕ → SetUp
-setUp a s c b = record { answer = a; servers = s; clients = c; slots = b }
+setUp answer servers clients slots =
+    record { answer = answer; servers = servers; clients = clients; slots = slots }
 
 -- an accepted setup leaves the new world, which is stored as zeros; a refused one leaves all as it was
 unfoldable pub setUpBy : Setup → List ℕ → List ℕ → List ℕ → SetUp
-setUpBy (Set t) s c b = setUp (Set t) (storeServers newWorld) (storeClients newWorld) (storeSlots newWorld)
-setUpBy (Refused n) s c b = setUp (Refused n) s c b
+setUpBy (Set settings) servers clients slots =
+    setUp (Set settings) (storeServers newWorld) (storeClients newWorld) (storeSlots newWorld)
+setUpBy (Refused why) servers clients slots = setUp (Refused why) servers clients slots

@@ -12,9 +12,10 @@ use lib.ListN.{length}
 use Rattle.basics.specs.Bytes.{spelt}
 use Rattle.refusal.specs.Numbers.{numbered}
 use Rattle.message.specs.declared.Words.{Words}
-use Rattle.message.specs.Layout.{messageBytes, words}
+use Rattle.message.specs.Layout.{messageBytes, words, headBits}
 use Rattle.register.specs.declared.Answer.the-variants.{Refused}
 use Rattle.register.specs.declared.Step.{Step}
+use Rattle.register.specs.declared.Answer.{Answer}
 use Rattle.register.specs.Formats.{formats}
 use Rattle.register.specs.Steps.{refusalOf, accepted}
 use Rattle.register.specs.World.{World, Event, apply, answerOf}
@@ -25,25 +26,28 @@ use Rattle.steps.specs.After.{After, after, unless}
 
 -- what an event answers, and the next world stored
 abbrev pub storedBy : Settings → World → Event → After
-storedBy t w e =
-    let next = apply (settingsOf t) w e in
-    after (answerOf (settingsOf t) w e) (storeServers next) (storeClients next) (storeSlots next)
+storedBy settings world event =
+    let next = apply (settingsOf settings) world event in
+    after (answerOf (settingsOf settings) world event) (storeServers next) (storeClients next)
+    (storeSlots next)
 
 -- an unsound state is refused (3), all as it was; a sound one is refused by the model's ladder, all as it
 -- was, or else makes the model's accepted step, stored
 unfoldable pub stepped : Settings → List ℕ → List ℕ → List ℕ → Step → After
-stepped t s c b x =
-    cond (isSound t s c b)
-    (unless (refusalOf (settingsOf t) formats (view s c b) (stepOf x)) (λ a. after a s c b)
-    (storedBy t (view s c b) (accepted (settingsOf t) formats (view s c b) (stepOf x))))
-    (after (Refused (numbered 3)) s c b)
+stepped settings servers clients slots asked =
+    let world = view servers clients slots in
+    let kept : Answer → After = λ answer. after answer servers clients slots in
+    cond (isSound settings servers clients slots)
+    (unless (refusalOf (settingsOf settings) formats world (stepOf asked)) kept
+    (storedBy settings world (accepted (settingsOf settings) formats world (stepOf asked))))
+    (kept (Refused (numbered 3)))
 
 -- ---- a message of L
 
 -- what stands for bytes that are not eleven
 abbrev pub noWords : Words
-noWords = record { 0 = 2 ^ 24; 1 = 0 }
+noWords = record { 0 = 2 ^ headBits; 1 = 0 }
 
 -- eleven bytes as two words
 unfoldable pub wordsIn : List ℕ → Words
-wordsIn l = cond (eqb (length l) messageBytes) (words (spelt 0 l)) noWords
+wordsIn bytes = cond (eqb (length bytes) messageBytes) (words (spelt 0 bytes)) noWords

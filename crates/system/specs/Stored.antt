@@ -6,8 +6,8 @@ use mathlib.Core.List.{List}
 use Rattle.register.specs.World.{World}
 use Rattle.state.specs.State.{storeServers, storeClients, storeSlots}
 
--- servers, clients and slots are those of world w
-pub record Stored (w : World) (s c b : List ℕ) : Type 0 where
-  pub servers : s ≡ storeServers w
-  pub clients : c ≡ storeClients w
-  pub slots : b ≡ storeSlots w
+-- servers, clients and slots are those of the world
+pub record Stored (world : World) (givenServers givenClients givenSlots : List ℕ) : Type 0 where
+  pub servers : givenServers ≡ storeServers world
+  pub clients : givenClients ≡ storeClients world
+  pub slots : givenSlots ≡ storeSlots world

@@ -20,7 +20,7 @@ use register::Step;
 use state::Clients;
 use state::Servers;
 use state::Settings;
-use steps::step::take_step;
+use steps::step::make_step;
 
 // The numbers of a step, and of an answer.
 pub const STEP: usize = 5;
@@ -127,7 +127,7 @@ fn step_all(
 {
     let mut i = 0;
     while i < n {
-        let answer = take_step(settings, step_in(steps, i), servers, clients, slots);
+        let answer = make_step(settings, step_in(steps, i), servers, clients, slots);
         write_answer(out, i, answer);
         i += 1;
     }
@@ -145,7 +145,7 @@ pub fn run(
     clients: &mut Clients,
     slots: &mut Slots,
 ) -> Setup
-    ensures { λ r. ⌜ (r ≡ setupOf f count faulty)
+    ensures { λ answer. ⌜ (answer ≡ setupOf f count faulty)
         × Outcome (setupOf f count faulty) (now (steps .entry)) (now (out .entry))
         (now (servers .entry)) (now (clients .entry)) (now (slots .entry))
         (now (servers .exit)) (now (clients .exit)) (now (slots .exit)) (now (out .exit)) ⌝ }

@@ -2,9 +2,13 @@
 // start. `set_up` is the one entry.
 ghost use mathlib.Core.Path.{_≡_};
 ghost use Rattle.system.specs.Setup.{setupOf, setUp, setUpBy};
+use channel::SLOTS_LENGTH;
 use channel::Slots;
 use refusal::Refusal;
+use state::CLIENTS_LENGTH;
 use state::Clients;
+use state::SERVERS;
+use state::SERVERS_LENGTH;
 use state::Servers;
 use state::Settings;
 use state::sound::count_faulty;
@@ -16,8 +20,8 @@ pub enum Setup {
     Refused(Refusal),
 }
 
-// The first number that has a bit beyond the 13 marks.
-const OVER_MARKS: u32 = 8192;
+// The first number that has a bit beyond the marks of all servers.
+const OVER_MARKS: u32 = 1 << SERVERS;
 
 // The highest number of eight bits, which f and the clients have in the settings.
 const MAX_BYTE: u32 = 255;
@@ -62,7 +66,7 @@ pub fn set_up(
     clients: &mut Clients,
     slots: &mut Slots,
 ) -> Setup
-    ensures { λ r. ⌜ setUp r (now (servers .exit)) (now (clients .exit)) (now (slots .exit))
+    ensures { λ answer. ⌜ setUp answer (now (servers .exit)) (now (clients .exit)) (now (slots .exit))
         ≡ setUpBy (setupOf f count faulty)
         (now (servers .entry)) (now (clients .entry)) (now (slots .entry)) ⌝ }
 {
@@ -70,9 +74,9 @@ pub fn set_up(
     match setup {
         Setup::Refused(_) => {}
         Setup::Set(_) => {
-            *servers = [0u64; 26];
-            *clients = [0u64; 571];
-            *slots = [0u64; 2652];
+            *servers = [0u64; SERVERS_LENGTH];
+            *clients = [0u64; CLIENTS_LENGTH];
+            *slots = [0u64; SLOTS_LENGTH];
         }
     }
     setup

@@ -4,6 +4,8 @@ ghost use mathlib.Core.Path.{_≡_};
 ghost use Rattle.steps.specs.After.{after};
 ghost use Rattle.system.specs.Step.{stepped, wordsIn};
 use channel::Slots;
+use message::HEAD_BYTES;
+use message::MESSAGE_BYTES;
 use message::Words;
 use refusal::Refusal;
 use register::Answer;
@@ -11,13 +13,10 @@ use register::Step;
 use state::Clients;
 use state::Servers;
 use state::Settings;
-use steps::step::take_step;
+use steps::step::make_step;
 
-// Bytes of a message.
-const MESSAGE_BYTES: usize = 11;
-
-// A first word that no message has: 2 to the power of 24.
-const NO_WORD: u32 = 16777216;
+// A first word that no message has: one bit more than theirs.
+const NO_WORD: u32 = 1 << (8 * HEAD_BYTES);
 
 // One step. An unsound state is refused (3); a refusal leaves the memory as it was. The memory does not
 // hold the settings: a caller gives those of the setup at each call.
@@ -28,18 +27,18 @@ pub fn step(
     clients: &mut Clients,
     slots: &mut Slots,
 ) -> Answer
-    ensures { λ r. ⌜ after r (now (servers .exit)) (now (clients .exit)) (now (slots .exit))
+    ensures { λ answer. ⌜ after answer (now (servers .exit)) (now (clients .exit)) (now (slots .exit))
         ≡ stepped settings (now (servers .entry)) (now (clients .entry)) (now (slots .entry)) asked ⌝ }
 {
     if !state::sound::is_sound(settings, servers, clients, slots) {
         return Answer::Refused(Refusal::Unsound);
     }
-    take_step(settings, asked, servers, clients, slots)
+    make_step(settings, asked, servers, clients, slots)
 }
 
 // Any bytes as the message of L: eleven as two words, and for all others words that stand for none.
 pub fn lie_words(bytes: &[u8]) -> Words
-    ensures { λ w. ⌜ w ≡ wordsIn (now (bytes .entry)) ⌝ }
+    ensures { λ words. ⌜ words ≡ wordsIn (now (bytes .entry)) ⌝ }
 {
     if bytes.len() != MESSAGE_BYTES {
         return Words(NO_WORD, 0);

@@ -8,8 +8,8 @@ use Rattle.basics.proofs.push.Tie as tie
 
 returns : tie.Need-returns
 returns c =
-    ap (λ (n : ℕ). bitOr n (c .args .b)) (shl-exact 56 8 64 (c .pre) (lit≤ tt))
-    ∙ or-shifted (c .args .x) 8 (c .args .b) (search needs)
+    ap (λ (n : ℕ). bitOr n (c .args .last)) (shl-exact 56 8 64 (c .pre) (lit≤ tt))
+    ∙ or-shifted (c .args .number) 8 (c .args .last) (search needs)
 
 pub push-spec : {M : Type 1} → statement M
 push-spec = tie.close (tie.spec returns)

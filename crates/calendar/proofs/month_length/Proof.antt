@@ -7,9 +7,9 @@ use Rattle.calendar.proofs.month_length.Tie as tie
 returns-3 : tie.Need-returns-3
 unfolding monthLength
 returns-3 c =
-    let m = c .before .args .month in
-    ⊎-elim (λ (e : m ≡ 4). simp e)
-    (⊎-elim (λ (e : m ≡ 6). simp e) (⊎-elim (λ (e : m ≡ 9). simp e) (λ (e : m ≡ 11). simp e)))
+    let month = c .before .args .month in
+    ⊎-elim (λ (e : month ≡ 4). simp e)
+    (⊎-elim (λ (e : month ≡ 6). simp e) (⊎-elim (λ (e : month ≡ 9). simp e) (λ (e : month ≡ 11). simp e)))
     (c .match .keys2)
 
 returns-4 : tie.Need-returns-4

@@ -2,7 +2,7 @@
 -- Assumes nothing.
 use Rattle.basics.proofs.Prelude.{sym, _∙_, le-leb, lt-leb, needs}
 use mathlib.Core.Bool.{and-true}
-use Rattle.channel.specs.Memory.{capacity}
+use Rattle.register.specs.Settings.{capacity}
 use Rattle.channel.specs.Sound.{channelTests}
 use Rattle.channel.proofs.Passing.{passed, failed, empty-sound}
 use Rattle.channel.proofs.channel_sound.Statement.{statement}

@@ -1,7 +1,8 @@
 -- `channel::put` meets its contract: the two words are stored in the first free slot, and the count raised.
 -- Assumes nothing.
 use Rattle.basics.proofs.Prelude.{lt-ltb, le-ltb, needs}
-use Rattle.channel.specs.Memory.{capacity, putOn}
+use Rattle.register.specs.Settings.{capacity}
+use Rattle.channel.specs.Memory.{putOn}
 use Rattle.channel.proofs.put.Statement.{statement}
 use Rattle.channel.proofs.put.Tie as tie
 

@@ -3,7 +3,7 @@
 -- Assumes nothing.
 use Rattle.basics.proofs.Prelude.{_≡_, refl, sym, ap, _∙_, Bool, true, false, cond, not, _^_, lt-ltb, needs}
 use mathlib.Core.Bool.{Bool·beq}
-use Rattle.message.specs.Layout.{goes}
+use Rattle.register.proofs.Vocabulary.{goes, pairBits}
 use Rattle.channel.proofs.Slot.{over-fails}
 use Rattle.channel.proofs.words_go.Statement.{statement}
 use Rattle.channel.proofs.words_go.Tie as tie
@@ -24,12 +24,12 @@ words-go-spec =
     (search needs) (search needs) (search needs) (search needs)
     (λ c. let found = c .before .before in
     let second = found .before .before .args .second in
-    rw (lt-ltb second (2 ^ 64) (search needs), sym (found .of-words .ensures) ∙ c .enum-told .given .1))
+    rw (lt-ltb second (2 ^ pairBits) (search needs), sym (found .of-words .ensures) ∙ c .enum-told .given .1))
     (search needs)
     (λ c. let good = c .before .before in
     let found = good .before .before in
     let a = found .before .before .args in
-    rw (lt-ltb (a .second) (2 ^ 64) (search needs))
+    rw (lt-ltb (a .second) (2 ^ pairBits) (search needs))
     (way (c .is-reply .result) (a .down)
     ∙ ap (λ (reply : Bool). cond (a .down) reply (not reply)) (c .is-reply .ensures)
     ∙ ap (goes (a .down)) (sym (good .message .given .1) ∙ found .of-words .ensures))))

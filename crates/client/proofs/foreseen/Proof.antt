@@ -10,8 +10,8 @@ use Rattle.client.proofs.foreseen.Statement.{statement}
 use Rattle.client.proofs.foreseen.Tie as tie
 
 -- the replies once the message is collected, and that they are sound
-collected : (c : tie.After-collect) → let a = c .before .before .before .args in
-    isSound (a .client) (c .collect .last .1 .1 .1 .0) ≡ true
+collected : (c : tie.After-collect) → let args = c .before .before .before .args in
+    isSound (args .client) (c .collect .last .1 .1 .1 .0) ≡ true
 collected c = c .collect .ensures .sound
 
 -- where a place comes from

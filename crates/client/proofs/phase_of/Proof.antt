@@ -10,5 +10,5 @@ unfolding phaseOf
 phase-of-spec =
     tie.close
     (tie.spec
-    (λ c. search (eq-eqb, ne-eqb)) (λ c. search (eq-eqb, ne-eqb)) (λ c. search (eq-eqb, ne-eqb))
-    (λ c. search (eq-eqb, ne-eqb)))
+    (λ c. search eq-eqb) (λ c. search (eq-eqb, ne-eqb)) (λ c. search (eq-eqb, ne-eqb))
+    (λ c. search ne-eqb))

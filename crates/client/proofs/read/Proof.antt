@@ -1,8 +1,7 @@
 -- `read`: a start, whose ladder is the same.
 -- Assumes nothing.
 use borrow.Author.Needs.{needs}
-use Rattle.client.specs.Entry.{readOf}
-use Rattle.client.specs.Starting.{startOf}
+use Rattle.client.specs.Entry.{readOf, startOf}
 use Rattle.client.proofs.read.Statement.{statement}
 use Rattle.client.proofs.read.Tie as tie
 

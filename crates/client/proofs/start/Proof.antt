@@ -1,6 +1,6 @@
 -- `start`: the refusals in order; otherwise the start.
 -- Assumes nothing.
-use borrow.Author.Needs.{needs}
+use Rattle.basics.proofs.Prelude.{refl, needs}
 use Rattle.refusal.proofs.Ladders.{stop, next, end}
 use Rattle.client.proofs.Facts.{holds}
 use Rattle.client.proofs.Ladders.{rung, idle-rung, reads-rung, room, long, own-sound}
@@ -18,18 +18,18 @@ returns-2 c = start-refused _ _ _ _ _ _ _ (c .refuse2 .ensures) (next (search ru
 returns-3 : tie.Need-returns-3
 returns-3 c =
     start-refused _ _ _ _ _ _ _ (c .refuse3 .ensures)
-    (next (search rung) (next (search rung) (stop (search idle-rung))))
+    (next (search rung) (next (search rung) (next refl (stop (search idle-rung)))))
 
 returns-4 : tie.Need-returns-4
 returns-4 c =
     start-refused _ _ _ _ _ _ _ (c .refuse4 .ensures)
-    (next (search rung) (next (search rung) (next (search idle-rung) (stop (search needs)))))
+    (next (search rung) (next (search rung) (next refl (next (search idle-rung) (stop (search needs))))))
 
 returns-5 : tie.Need-returns-5
 returns-5 c =
     start-refused _ _ _ _ _ _ _ (c .refuse5 .ensures)
-    (next (search rung) (next (search rung) (next (search idle-rung) (next (search needs)
-    (stop (search reads-rung))))))
+    (next (search rung) (next (search rung) (next refl (next (search idle-rung) (next (search needs)
+    (stop (search reads-rung)))))))
 
 begin-requires : tie.Need-begin-requires
 begin-requires c κs = (search loaded-self, search own-sound, search holds, search room)
@@ -37,8 +37,8 @@ begin-requires c κs = (search loaded-self, search own-sound, search holds, sear
 returns-6 : tie.Need-returns-6
 returns-6 c =
     start-done _ _ _ _ _ _ (c .before .before .begin .ensures)
-    (next (search rung) (next (search rung) (next (search idle-rung) (next (search needs)
-    (next (search reads-rung) end)))))
+    (next (search rung) (next (search rung) (next refl (next (search idle-rung) (next (search needs)
+    (next (search reads-rung) (next refl end)))))))
 
 pub start-spec : {M : Type 1} → statement M
 start-spec =

@@ -2,8 +2,7 @@
 -- Assumes nothing.
 use Rattle.basics.proofs.Prelude.{ap, _≤_, arith, needs}
 use Rattle.refusal.proofs.Ladders.{stop, next, end}
-use Rattle.register.specs.Settings.{mostClients}
-use Rattle.register.specs.Thresholds.{size}
+use Rattle.register.proofs.Vocabulary.{mostClients, size}
 use Rattle.client.specs.declared.Client.{Client}
 use Rattle.client.proofs.Ladders.{rung, no-client, server-rung, malformed-rung, reply-rung, long}
 use Rattle.client.proofs.Ladders.{own-sound, client-low, client-high, server-low, server-high}
@@ -36,8 +35,8 @@ returns-5 c =
 abbrev at-start : tie.Else3 → tie.Start
 at-start c = c .before .before .before .before .before .before .before .before .before
 
-ranges : (c : tie.Else3) → let a = at-start c .args in
-    (1 ≤ a .number) × (a .number ≤ mostClients) × (1 ≤ a .k) × (a .k ≤ size (a .f))
+ranges : (c : tie.Else3) → let args = at-start c .args in
+    (1 ≤ args .number) × (args .number ≤ mostClients) × (1 ≤ args .k) × (args .k ≤ size (args .f))
 ranges c = (search client-low, search client-high, search server-low, search server-high)
 
 abbrev at-processes : tie.Else4 → tie.Else3
@@ -47,13 +46,13 @@ take-message-requires : tie.Need-take-message-requires
 take-message-requires c κs =
     let number = ap (λ (x : Client). x .number) (c .before .load .ensures) in
     let f = ap (λ (x : Client). x .f) (c .before .load .ensures) in
-    let r = ranges (at-processes (c .before .before .before)) in (
+    let range = ranges (at-processes (c .before .before .before)) in (
       search loaded-self,
       search own-sound,
-      omega (arith, number, r .0),
-      omega (arith, number, r .1),
-      r .2,
-      omega (arith, f, r .3),
+      omega (arith, number, range .0),
+      omega (arith, number, range .1),
+      range .2,
+      omega (arith, f, range .3),
     )
 
 returns-6 : tie.Need-returns-6

@@ -6,8 +6,8 @@ use Rattle.exchange.proofs.send.Tie as tie
 
 part-sent-end : tie.Need-part-sent-end
 part-sent-end c =
-    let st = c .before .before .before .before .before .before .before in
-    let all : length (st .args .t1 .sent) ≡ 220 = search needs in
+    let start = c .before .before .before .before .before .before .before in
+    let all : length (start .args .t1 .sent) ≡ 220 = search needs in
     omega arith
 
 pub send-spec : {M : Type 1} → statement M

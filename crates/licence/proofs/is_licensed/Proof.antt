@@ -8,8 +8,8 @@ use Rattle.licence.proofs.is_licensed.Tie as tie
 
 -- the calendar's answer on the fields' date
 date-answer : (c : tie.After-is-date) →
-    let f = c .before .args .fields in
-    isDate (f .year) (f .month) (f .day) ≡ c .is-date .result
+    let fields = c .before .args .fields in
+    isDate (fields .year) (fields .month) (fields .day) ≡ c .is-date .result
 date-answer c = sym (c .is-date .ensures)
 
 returns : tie.Need-returns

@@ -8,13 +8,13 @@ use Rattle.licence.proofs.moved.Tie as tie
 returns : tie.Need-returns
 unfolding later
 returns c =
-    let f = c .before .args .fields in
+    let fields = c .before .args .fields in
     λ i. record {
       year = c .before .args .year;
-      month = f .month;
+      month = fields .month;
       day = c .kept-day .ensures i;
-      copies = f .copies;
-      state = f .state;
+      copies = fields .copies;
+      state = fields .state;
     }
 
 pub moved-spec : {M : Type 1} → statement M

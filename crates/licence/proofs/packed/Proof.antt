@@ -12,25 +12,24 @@ use Rattle.licence.proofs.packed.Statement.{statement}
 use Rattle.licence.proofs.packed.Tie as tie
 
 -- the shifted fields, one by one, as a sum
-adds : (f : Fields) → Narrow f →
+adds : (fields : Fields) → Narrow fields →
     bitOr
     (bitOr
-    (bitOr (bitOr (f .year * 2 ^ 28 % 2 ^ 64) (f .month * 2 ^ 24 % 2 ^ 64)) (f .day * 2 ^ 19 % 2 ^ 64))
-    (f .copies * 2 ^ 3 % 2 ^ 64))
-    (f .state)
-    ≡ joined f
-adds f n =
-    let y = f .year * 2 ^ 28 in
-    let m = y + f .month * 2 ^ 24 in
-    let d = m + f .day * 2 ^ 19 in
-    let k = d + f .copies * 2 ^ 3 in
+    (bitOr (bitOr (fields .year * 2 ^ 28 % 2 ^ 64) (fields .month * 2 ^ 24 % 2 ^ 64))
+    (fields .day * 2 ^ 19 % 2 ^ 64)) (fields .copies * 2 ^ 3 % 2 ^ 64)) (fields .state)
+    ≡ joined fields
+adds fields narrow =
+    let to-year = fields .year * 2 ^ 28 in
+    let to-month = to-year + fields .month * 2 ^ 24 in
+    let to-day = to-month + fields .day * 2 ^ 19 in
+    let to-copies = to-day + fields .copies * 2 ^ 3 in
     rw (
-      shl-exact 12 28 64 (n .year) (lit≤ tt),
-      or-field y (f .month) 4 24 (omega arith) (n .month) (lit≤ tt),
-      or-field m (f .day) 5 19 (omega arith) (n .day) (lit≤ tt),
-      or-field d (f .copies) 16 3 (omega arith) (n .copies) (lit≤ tt),
-      or-adds k 3 (f .state) (omega arith) (n .state),
-      mul-one (f .state),
+      shl-exact 12 28 64 (narrow .year) (lit≤ tt),
+      or-field to-year (fields .month) 4 24 (omega arith) (narrow .month) (lit≤ tt),
+      or-field to-month (fields .day) 5 19 (omega arith) (narrow .day) (lit≤ tt),
+      or-field to-day (fields .copies) 16 3 (omega arith) (narrow .copies) (lit≤ tt),
+      or-adds to-copies 3 (fields .state) (omega arith) (narrow .state),
+      mul-one (fields .state),
     )
 
 pub packed-spec : {M : Type 1} → statement M

@@ -7,35 +7,35 @@ use Rattle.licence.proofs.split.Statement.{statement}
 use Rattle.licence.proofs.split.Tie as tie
 
 -- each mask bounds what it lets through
-record Masked (e : ℕ) : Type 0 where
-  year : bitAnd (e / 2 ^ 28) 0xFFF ≤ 0xFFF
-  month : bitAnd (e / 2 ^ 24) 0xF ≤ 0xF
-  day : bitAnd (e / 2 ^ 19) 0x1F ≤ 0x1F
-  copies : bitAnd (e / 2 ^ 3) 0xFFFF ≤ 0xFFFF
-  state : bitAnd e 0x7 ≤ 0x7
+record Masked (entry : ℕ) : Type 0 where
+  year : bitAnd (entry / 2 ^ 28) 0xFFF ≤ 0xFFF
+  month : bitAnd (entry / 2 ^ 24) 0xF ≤ 0xF
+  day : bitAnd (entry / 2 ^ 19) 0x1F ≤ 0x1F
+  copies : bitAnd (entry / 2 ^ 3) 0xFFFF ≤ 0xFFFF
+  state : bitAnd entry 0x7 ≤ 0x7
 
-masked : (e : ℕ) → Masked e
-masked e =
+masked : (entry : ℕ) → Masked entry
+masked entry =
     record {
-      year = and-le-r (e / 2 ^ 28) 0xFFF;
-      month = and-le-r (e / 2 ^ 24) 0xF;
-      day = and-le-r (e / 2 ^ 19) 0x1F;
-      copies = and-le-r (e / 2 ^ 3) 0xFFFF;
-      state = and-le-r e 0x7;
+      year = and-le-r (entry / 2 ^ 28) 0xFFF;
+      month = and-le-r (entry / 2 ^ 24) 0xF;
+      day = and-le-r (entry / 2 ^ 19) 0x1F;
+      copies = and-le-r (entry / 2 ^ 3) 0xFFFF;
+      state = and-le-r entry 0x7;
     }
 
-low-three : (e : ℕ) → bitAnd e 0x7 ≡ e / 2 ^ 0 % 2 ^ 3
-low-three e = and-mask e 3 ∙ ap (λ (n : ℕ). n % 2 ^ 3) (sym (div-one e))
+low-three : (entry : ℕ) → bitAnd entry 0x7 ≡ entry / 2 ^ 0 % 2 ^ 3
+low-three entry = and-mask entry 3 ∙ ap (λ (n : ℕ). n % 2 ^ 3) (sym (div-one entry))
 
 returns : tie.Need-returns
 returns c =
-    let e = c .args .entry in
+    let entry = c .args .entry in
     λ i. record {
-      year = and-mask (e / 2 ^ 28) 12 i;
-      month = and-mask (e / 2 ^ 24) 4 i;
-      day = and-mask (e / 2 ^ 19) 5 i;
-      copies = and-mask (e / 2 ^ 3) 16 i;
-      state = low-three e i;
+      year = and-mask (entry / 2 ^ 28) 12 i;
+      month = and-mask (entry / 2 ^ 24) 4 i;
+      day = and-mask (entry / 2 ^ 19) 5 i;
+      copies = and-mask (entry / 2 ^ 3) 16 i;
+      state = low-three entry i;
     }
 
 pub split-spec : {M : Type 1} → statement M

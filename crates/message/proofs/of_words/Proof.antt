@@ -1,11 +1,11 @@
 -- `of_words`: the first word is kind and tag, and the cases of the code are those of `byWords`, one for each
 -- kind.
-use Rattle.basics.proofs.Prelude.{_≡_, sym, ap, _∙_, ℕ, _/_, _^_, arith, ne-eqb, needs}
+use Rattle.basics.proofs.Prelude.{_≡_, sym, _∙_, ℕ, _/_, _^_, arith, ne-eqb, needs}
 use lib.Bits.{bitAnd, and-mask}
 use Rattle.message.specs.declared.Words.{Words}
 use Rattle.message.specs.Pair.{counterAt}
 use Rattle.message.specs.Layout.{tagBits, lastRead, messageOf, wordsNumber}
-use Rattle.message.proofs.Fields.{byWords, of-words-is}
+use Rattle.message.proofs.Fields.{byWords, of-words-is, found-as}
 use Rattle.message.proofs.of_words.Statement.{statement}
 use Rattle.message.proofs.of_words.Tie as tie
 
@@ -15,9 +15,7 @@ words c = c .before .before .args .words
 -- the message of words whose kind is known
 found : (c : tie.After-struct-known2) (kind : ℕ) → words c .0 / 2 ^ tagBits ≡ kind
     → messageOf (wordsNumber (words c)) ≡ byWords kind (bitAnd (words c .0) lastRead) (words c .1)
-found c kind e =
-    of-words-is (words c) (omega arith)
-    ∙ ap (λ (k : ℕ). byWords k (bitAnd (words c .0) lastRead) (words c .1)) e
+found c kind = found-as (words c) (omega arith) kind
 
 returns-6 : tie.Need-returns-6
 unfolding byWords

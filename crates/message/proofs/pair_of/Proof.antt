@@ -4,17 +4,19 @@ use lib.Bits.{bitOr}
 use lib.Dec.{lit≤}
 use lib.Pow.{shl-exact}
 use Rattle.basics.proofs.Bits.{or-field, or-adds}
+use Rattle.message.specs.Pair.{counterBits, clientBits, entryBits, pairBits, clientAt, counterAt}
 use Rattle.message.specs.Pair.{pairOf}
 use Rattle.message.proofs.pair_of.Statement.{statement}
 use Rattle.message.proofs.pair_of.Tie as tie
 
-joined : (c d e : ℕ) → c < 2 ^ 20 → d < 2 ^ 4 → e < 2 ^ 40
-    → bitOr (bitOr (c * 2 ^ 44 % 2 ^ 64) (d * 2 ^ 40 % 2 ^ 64)) e ≡ c * 2 ^ 44 + d * 2 ^ 40 + e
-joined c d e ch dh eh =
+joined : (count d content : ℕ) → count < 2 ^ counterBits → d < 2 ^ clientBits → content < 2 ^ entryBits
+    → bitOr (bitOr (count * 2 ^ counterAt % 2 ^ pairBits) (d * 2 ^ clientAt % 2 ^ pairBits)) content
+    ≡ count * 2 ^ counterAt + d * 2 ^ clientAt + content
+joined count d content h narrow small =
     rw (
-      shl-exact 20 44 64 ch (lit≤ tt),
-      or-field (c * 2 ^ 44) d 4 40 (omega arith) dh (lit≤ tt),
-      or-adds (c * 2 ^ 44 + d * 2 ^ 40) 40 e (omega arith) eh,
+      shl-exact counterBits counterAt pairBits h (lit≤ tt),
+      or-field (count * 2 ^ counterAt) d clientBits clientAt (omega arith) narrow (lit≤ tt),
+      or-adds (count * 2 ^ counterAt + d * 2 ^ clientAt) clientAt content (omega arith) small,
     )
 
 returns : tie.Need-returns

@@ -17,12 +17,13 @@ abbrev μ-loop : tie.MeasureT-loop
 μ-loop bytes at count number₀ i₀ number i = count - i
 
 -- a byte more is a factor of 256 more
-more : (x b i : ℕ) → x < 256 ^ i → b < 256 → x * 256 + b < 256 ^ (i + 1)
-more x b i h k = rw (add-one i, pow-succ' 256 i) (omega arith)
+more : (number byte i : ℕ) → number < 256 ^ i → byte < 256 → number * 256 + byte < 256 ^ (i + 1)
+more number byte i h k = rw (add-one i, pow-succ' 256 i) (omega arith)
 
 -- fewer than eight bytes leave room for one
-room : (x i : ℕ) → i < 8 → x < 256 ^ i → x < 2 ^ 56
-room x i h k = let p : 256 ^ i ≤ 256 ^ 7 = pow-le-pow-right (lit< tt) {j = 7} (omega arith) in omega arith
+room : (number i : ℕ) → i < 8 → number < 256 ^ i → number < 2 ^ 56
+room number i h k =
+    let p : 256 ^ i ≤ 256 ^ 7 = pow-le-pow-right (lit< tt) {j = 7} (omega arith) in omega arith
 
 loop-again : tie.Need-loop-again Inv-loop μ-loop
 loop-again c =

@@ -4,6 +4,7 @@ use native.Mathlib.Nat.{mod-lt, mod-eq-of-lt}
 use lib.Bits.{and-mask, mask-lt}
 use lib.Dec.{lit≤}
 use lib.Pow.{pow-pos, shl-exact}
+use Rattle.message.specs.Pair.{counterBits, pairBits, counterAt}
 use Rattle.message.specs.Layout.{wordsOf}
 use Rattle.message.proofs.Numbers.{words-are}
 use Rattle.message.proofs.words_of.Statement.{statement}
@@ -31,7 +32,8 @@ returns-6 : tie.Need-returns-6
 returns-6 c =
     let n = c .before .before .before .message5 .given .0 .0 .0 in
     words-are _ _ _ (c .before .head6 .ensures)
-    (rw (and-mask n 20) (shl-exact 20 44 64 (mod-lt n (pow-pos 20)) (lit≤ tt)))
+    (rw (and-mask n counterBits)
+    (shl-exact counterBits counterAt pairBits (mod-lt n (pow-pos counterBits)) (lit≤ tt)))
     ∙ ap wordsOf (sym (c .before .before .before .message5 .given .1))
 
 pub words-of-spec : {M : Type 1} → statement M
@@ -40,7 +42,7 @@ words-of-spec =
     (tie.spec
     (search needs) (search needs) (search needs) (search needs) (search needs) (search needs)
     (search needs) (search needs) (search needs) (search needs) (search needs) (search needs)
-    (λ c. omega (arith, mask-lt (c .before .before .before .message5 .given .0 .0 .0) 20))
+    (λ c. omega (arith, mask-lt (c .before .before .before .message5 .given .0 .0 .0) counterBits))
     (search needs) (search needs) returns returns-2
     (λ c. words-are _ _ _ (c .head3 .ensures) refl ∙ ap wordsOf (sym (c .before .enum-told .given .1)))
     returns-4 returns-5 returns-6)

@@ -17,10 +17,10 @@ Inv-loop number count out₀ at rest₀ i₀ out rest i =
 abbrev μ-loop : tie.MeasureT-loop
 μ-loop number count out₀ at rest₀ i₀ out rest i = rest
 
-turn : (x k : ℕ) (out : List ℕ) (i n b : ℕ) → b ≡ x / 2 ^ (8 * k) % 256 → n ≡ suc k
-    → sets (set out i b) (i + 1) (bigEndian k x) ≡ sets out i (bigEndian n x)
+turn : (number k : ℕ) (out : List ℕ) (i n byte : ℕ) → byte ≡ number / 2 ^ (8 * k) % 256 → n ≡ suc k
+    → sets (set out i byte) (i + 1) (bigEndian k number) ≡ sets out i (bigEndian n number)
 unfolding bigEndian
-turn x k out i n b e h = rw (h, add-one i, e, pow-256 k)
+turn number k out i n byte e h = rw (h, add-one i, e, pow-256 k)
 
 loop-again : tie.Need-loop-again Inv-loop μ-loop
 loop-again c =

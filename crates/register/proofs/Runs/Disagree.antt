@@ -8,13 +8,9 @@
 -- step 16 stands after the read, and the read right after the write of step 0; in the second read's row the
 -- write of step 16, which ended before the read began, stands before it, and so before the write of step 0.
 -- Assumes nothing.
+use Rattle.register.proofs.Vocabulary.{countBelow, allBelow, Read, Wrote, Settings, Accepted, inRange}
+use Rattle.register.proofs.Vocabulary.{setupRefusal, Step, R, W, K, D, L, formats}
 use Rattle.basics.proofs.Prelude.{_≡_, refl, List, [], _∷_, _++_, ℕ, eqb}
-use Rattle.basics.specs.Counting.{countBelow}
-use Rattle.basics.specs.Tests.{allBelow}
-use Rattle.register.specs.declared.Answer.the-variants.{Read, Wrote}
-use Rattle.register.specs.Settings.{Settings, Accepted, inRange, setupRefusal}
-use Rattle.register.specs.Steps.{Step, R, W, K, D, L}
-use Rattle.register.specs.Formats.{formats}
 use Rattle.register.proofs.Runs.{answers, went, theEntry, pairBy}
 
 -- S 1 3 0001
@@ -25,9 +21,9 @@ set-up : Accepted four
 unfolding setupRefusal inRange allBelow countBelow
 set-up = refl
 
--- INFO of read t with the pair of counter 1 and client 2, with the initial pair; WRITE_ACK with counter 1
+-- INFO of a read with the pair of counter 1 and client 2, with the initial pair; WRITE_ACK with counter 1
 abbrev info : ℕ → List ℕ
-info t = 0x20 ∷ 0 ∷ t ∷ 0 ∷ 0 ∷ 0x12 ∷ 0x7E ∷ 0x82 ∷ 0xE8 ∷ 0x01 ∷ 0x41 ∷ []
+info tag = 0x20 ∷ 0 ∷ tag ∷ 0 ∷ 0 ∷ 0x12 ∷ 0x7E ∷ 0x82 ∷ 0xE8 ∷ 0x01 ∷ 0x41 ∷ []
 
 abbrev initialInfo : List ℕ
 initialInfo = 0x20 ∷ 0 ∷ 1 ∷ 0 ∷ 0 ∷ 0 ∷ 0 ∷ 0 ∷ 0 ∷ 0 ∷ 0 ∷ []

@@ -2,12 +2,8 @@
 -- with their answers.
 -- Assumes nothing.
 use Rattle.basics.proofs.Prelude.{_≡_, refl, false, List, [], _∷_}
-use Rattle.basics.specs.Counting.{countBelow}
-use Rattle.basics.specs.Tests.{allBelow}
-use Rattle.register.specs.declared.Answer.the-variants.{Went, Read, Wrote}
-use Rattle.register.specs.Settings.{Settings, Accepted, inRange, setupRefusal}
-use Rattle.register.specs.Steps.{Step, R, W, K, D}
-use Rattle.register.specs.Formats.{formats}
+use Rattle.register.proofs.Vocabulary.{countBelow, allBelow, Went, Read, Wrote, Settings, Accepted}
+use Rattle.register.proofs.Vocabulary.{inRange, setupRefusal, Step, R, W, K, D, formats}
 use Rattle.register.proofs.Runs.{answers, theEntry, pairBy}
 
 -- S 0 1 0

@@ -7,14 +7,11 @@
 -- third. Client 2 has the initial pair of server 1, then the new pair by FWD; with the new pair from
 -- servers 2 and 4 it shows it, before the write has ended.
 -- Assumes nothing.
+use Rattle.register.proofs.Vocabulary.{countBelow, allBelow, Went, Read, Wrote, Refused, Settings}
+use Rattle.register.proofs.Vocabulary.{Accepted, inRange, setupRefusal, Step, R, W, K, D, C, L}
+use Rattle.register.proofs.Vocabulary.{formats}
 use Rattle.basics.proofs.Prelude.{_≡_, refl, List, [], _∷_, _++_, ℕ, zero, suc, _+_, _*_, eqb}
-use Rattle.basics.specs.Counting.{countBelow}
-use Rattle.basics.specs.Tests.{allBelow}
 use Rattle.refusal.specs.Numbers.{numbered}
-use Rattle.register.specs.declared.Answer.the-variants.{Went, Read, Wrote, Refused}
-use Rattle.register.specs.Settings.{Settings, Accepted, inRange, setupRefusal}
-use Rattle.register.specs.Steps.{Step, R, W, K, D, C, L}
-use Rattle.register.specs.Formats.{formats}
 use Rattle.register.proofs.Runs.{answers, went, theEntry, pairBy}
 
 -- S 1 2 0001
@@ -25,9 +22,9 @@ set-up : Accepted four
 unfolding setupRefusal inRange allBelow countBelow
 set-up = refl
 
--- INFO of read 1 with counter c, client d and the entry
+-- INFO of read 1 with a counter, client d and the entry
 abbrev info : ℕ → ℕ → List ℕ
-info c d = 0x20 ∷ 0 ∷ 1 ∷ 0 ∷ 0 ∷ (c * 16 + d) ∷ 0x7E ∷ 0x82 ∷ 0xE8 ∷ 0x01 ∷ 0x41 ∷ []
+info count d = 0x20 ∷ 0 ∷ 1 ∷ 0 ∷ 0 ∷ (count * 16 + d) ∷ 0x7E ∷ 0x82 ∷ 0xE8 ∷ 0x01 ∷ 0x41 ∷ []
 
 -- client 1 reads for its write, server 4 lies, and the write is sent
 abbrev begun : List Step

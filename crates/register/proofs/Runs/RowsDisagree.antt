@@ -9,17 +9,13 @@
 use Rattle.basics.proofs.Prelude.{_≡_, refl, sym, ap, _∙_, subst, Bool, true, false, not, _||_, _⊎_, inl, inr}
 use Rattle.basics.proofs.Prelude.{List, _++_, length, getD, ℕ, suc, _<_, arith, leb, leb-true}
 use mathlib.Core.Bool.{or-false}
-use Rattle.basics.specs.Members.{Member, At}
-use Rattle.basics.specs.Tests.{allBelow}
+use Rattle.register.proofs.Vocabulary.{Member, At, allBelow, Refused, putsUp, Step, D, stepAt, worldAt}
+use Rattle.register.proofs.Vocabulary.{answerAt, ReadBegins, WriteBegins, AnswersRead, AnswersWrite}
+use Rattle.register.proofs.Vocabulary.{ReadEnds, WriteEnds, Sends, Earlier, Legal, first, behind, Row}
+use Rattle.register.proofs.Vocabulary.{formats}
 use Rattle.basics.proofs.Tests.{below}
+use Rattle.register.specs.History.{eventAt}
 use Rattle.register.proofs.Vocabulary.{WriteInfo, Pair, Answer, Went, Read, Wrote, Spent}
-use Rattle.register.specs.declared.Answer.the-variants.{Refused}
-use Rattle.register.specs.World.{putsUp}
-use Rattle.register.specs.Steps.{Step, D}
-use Rattle.register.specs.History.{stepAt, worldAt, eventAt, answerAt, ReadBegins, WriteBegins}
-use Rattle.register.specs.History.{AnswersRead, AnswersWrite, ReadEnds, WriteEnds, Sends}
-use Rattle.register.specs.DemandThree.{Earlier, Legal, first, behind, Row}
-use Rattle.register.specs.Formats.{formats}
 use Rattle.register.proofs.Runs.{answers, theEntry, pairBy}
 use Rattle.register.proofs.Runs.Disagree.{four, early, second, late}
 use Rattle.register.proofs.Runs.Disagree as run
@@ -31,26 +27,26 @@ steps = run.first ++ early ++ second ++ late
 
 isRead : Answer → Bool
 isRead Went = false
-isRead (Read p) = true
-isRead (Wrote p) = false
+isRead (Read pair) = true
+isRead (Wrote pair) = false
 isRead Spent = false
-isRead (Refused x) = false
+isRead (Refused refusal) = false
 
 isEnd : Answer → Bool
 isEnd Went = false
-isEnd (Read p) = false
-isEnd (Wrote p) = true
+isEnd (Read pair) = false
+isEnd (Wrote pair) = true
 isEnd Spent = true
-isEnd (Refused x) = false
+isEnd (Refused refusal) = false
 
--- no step above a and below b answers so
+-- no step after `low` and before `high` answers so
 abbrev none : (Answer → Bool) → ℕ → ℕ → Bool
-none test a b = allBelow (λ i. leb i a || not (test (answerAt four formats steps i))) b
+none test low high = allBelow (λ i. leb i low || not (test (answerAt four formats steps i))) high
 
-no-answer : (test : Answer → Bool) (a b : ℕ) → none test a b ≡ true → (i : ℕ) → a < i → i < b
+no-answer : (test : Answer → Bool) (low high : ℕ) → none test low high ≡ true → (i : ℕ) → low < i → i < high
     → test (answerAt four formats steps i) ≡ true → ⊥
-no-answer test a b h i low high e =
-    let x = leb-true i a (rw (e, or-false) at (below _ b h i high)) in omega arith
+no-answer test low high h i above under e =
+    let x = leb-true i low (rw (e, or-false) at (below _ high h i under)) in omega arith
 
 -- ---- its operations
 
@@ -61,27 +57,28 @@ shown = pairBy 1 2
 abbrev lower : Pair
 lower = pairBy 1 1
 
-read-answer : (i : ℕ) (q : Pair) → answerAt four formats steps i ≡ Read q
+read-answer : (i : ℕ) (other : Pair) → answerAt four formats steps i ≡ Read other
     → isRead (answerAt four formats steps i) ≡ true
 unfolding isRead
-read-answer i q e = rw e refl
+read-answer i other e = rw e refl
 
 end-answer : (i : ℕ)
-    → ((q : Pair) × (answerAt four formats steps i ≡ Wrote q)) ⊎ (answerAt four formats steps i ≡ Spent)
-    → isEnd (answerAt four formats steps i) ≡ true
+    → ((other : Pair) × (answerAt four formats steps i ≡ Wrote other))
+    ⊎ (answerAt four formats steps i ≡ Spent) → isEnd (answerAt four formats steps i) ≡ true
 unfolding isEnd
 end-answer i (inl (q, e)) = rw e refl
 end-answer i (inr e) = rw e refl
 
--- the read of client 3 begun at b ends at step j
-ends-read : (b j : ℕ) → b < j → ReadBegins four formats steps b 3 → AnswersRead four formats steps j 3 shown
-    → none isRead b j ≡ true → ReadEnds four formats steps b 3 j shown
-ends-read b j lt begins ends h =
+-- the read of client 3 begun at `begin` ends at step j
+ends-read : (begin j : ℕ) → begin < j → ReadBegins four formats steps begin 3
+    → AnswersRead four formats steps j 3 shown → none isRead begin j ≡ true
+    → ReadEnds four formats steps begin 3 j shown
+ends-read begin j lt begins ends h =
     record {
       begins = begins;
       later = lt;
       ends = ends;
-      next = λ i low high q x. no-answer isRead b j h i low high (read-answer i q (x .answer));
+      next = λ i low high q x. no-answer isRead begin j h i low high (read-answer i q (x .answer));
     }
 
 first-read : ReadEnds four formats steps 7 3 15 shown
@@ -96,9 +93,9 @@ second-read =
     ends-read 31 40 (omega arith) (record { inList = omega arith; step = refl; answer = refl })
     (record { inList = omega arith; server = 4; step = refl; answer = refl }) refl
 
-write-once : (b j d : ℕ) → none isEnd b j ≡ true → (i : ℕ) → b < i → i < j
+write-once : (begin j d : ℕ) → none isEnd begin j ≡ true → (i : ℕ) → begin < i → i < j
     → AnswersWrite four formats steps i d → ⊥
-write-once b j d h i low high x = no-answer isEnd b j h i low high (end-answer i (x .answer))
+write-once begin j d h i low high x = no-answer isEnd begin j h i low high (end-answer i (x .answer))
 
 later-begins : WriteBegins four formats steps 16 1
 unfolding answers
@@ -114,12 +111,12 @@ later-write =
       next = write-once 16 30 1 refl;
     }
 
--- the write of client d begun at b sends p at step j
-sends-pair : (b d j k : ℕ) (p : Pair) → b < j → j < length steps → WriteBegins four formats steps b d
-    → stepAt four formats steps j ≡ D d k
-    → Member (WriteInfo p) (putsUp four (worldAt four formats steps j) (eventAt four formats steps j) d 1)
-    → none isEnd b (suc j) ≡ true → Sends four formats steps b d j p
-sends-pair b d j k p lt inside begins step puts h =
+-- the write of client d begun at `begin` sends the pair at step j
+sends-pair : (begin d j k : ℕ) (pair : Pair) → begin < j → j < length steps
+    → WriteBegins four formats steps begin d → stepAt four formats steps j ≡ D d k
+    → Member (WriteInfo pair) (putsUp four (worldAt four formats steps j) (eventAt four formats steps j) d 1)
+    → none isEnd begin (suc j) ≡ true → Sends four formats steps begin d j pair
+sends-pair begin d j k pair lt inside begins step puts h =
     record {
       begins = begins;
       later = lt;
@@ -128,7 +125,7 @@ sends-pair b d j k p lt inside begins step puts h =
       step = step;
       to = 1;
       puts = puts;
-      unended = λ i low high x. write-once b (suc j) d h i low (omega arith) x;
+      unended = λ i low high x. write-once begin (suc j) d h i low (omega arith) x;
     }
 
 -- the write of step 0 sends what the reads show
@@ -146,15 +143,15 @@ later-sends =
 -- ---- places in a row
 
 -- a read that shows that pair stands right after the write of step 0
-record RightAfter (row : List ℕ) (b : ℕ) : Type 0 where
+record RightAfter (row : List ℕ) (begin : ℕ) : Type 0 where
   place : ℕ
   write : At row 0 place
-  read : At row b (suc place)
+  read : At row begin (suc place)
 
-right-after : (b j : ℕ) (row : List ℕ) → Row four formats steps b j shown row → RightAfter row b
-right-after b j row h = by-place (h .legal)
+right-after : (begin j : ℕ) (row : List ℕ) → Row four formats steps begin j shown row → RightAfter row begin
+right-after begin j row h = by-place (h .legal)
   where
-    by-place : Legal four formats steps b j shown row → RightAfter row b
+    by-place : Legal four formats steps begin j shown row → RightAfter row begin
     by-place (first q) =
         absurd (let z : shown .0 ≡ 0 = ap (λ (p : Pair). p .0) (q .shown) in omega arith)
     by-place (behind q) =
@@ -165,8 +162,8 @@ right-after b j row h = by-place (h .legal)
           read = q .next;
         }
 
-later-member : (b j : ℕ) (row : List ℕ) → Row four formats steps b j shown row → Member 16 row
-later-member b j row h =
+later-member : (begin j : ℕ) (row : List ℕ) → Row four formats steps begin j shown row → Member 16 row
+later-member begin j row h =
     h .members 16 .1 (inr (record { client = 1; at = 22; pair = lower; sends = later-sends }))
 
 -- ---- the two rows
@@ -183,8 +180,7 @@ rows-disagree row₁ row₂ h₁ h₂ = (before, after)
     before : Earlier row₁ 0 16
     before =
         let a = right-after 7 15 row₁ h₁ in
-        let e =
-        h₁ .order 7 16 15 (h₁ .members 7 .1 (inl refl)) (later-member 7 15 row₁ h₁)
+        let e = h₁ .order 7 16 15 (h₁ .members 7 .1 (inl refl)) (later-member 7 15 row₁ h₁)
         (inl (3, shown, first-read)) (omega arith) in
         let same : e .one ≡ suc (a .place) = h₁ .once 7 (e .one) (suc (a .place)) (e .first) (a .read) in
         record {

@@ -23,12 +23,12 @@ abbrev μ-loop : tie.MeasureT-loop
 -- ---- the start
 
 loop-holds : tie.Need-loop-holds Inv-loop μ-loop
-loop-holds c =
-    let number = c .before in
+loop-holds here =
+    let number = here .before in
     let out = number .before in
     let input = out .before in
     none-read
-    (cc (c .turn-of .ensures, number .numeral-of .ensures))
+    (cc (here .turn-of .ensures, number .numeral-of .ensures))
     (record {
       servers = sym servers-new;
       clients = sym clients-new;
@@ -40,79 +40,79 @@ loop-holds c =
 -- written
 
 abbrev starting : tie.After-read-behind Inv-loop μ-loop → tie.At-loop Inv-loop μ-loop
-starting c = c .before .before .before
+starting here = here .before .before .before
 
 abbrev reading : tie.After-close Inv-loop μ-loop → tie.After-read-behind Inv-loop μ-loop
-reading c = c .before .before .before
+reading here = here .before .before .before
 
 abbrev closing : tie.Else1 Inv-loop μ-loop → tie.After-close Inv-loop μ-loop
-closing c = c .before .before
+closing here = here .before .before
 
 abbrev testing : tie.After-slots Inv-loop μ-loop → tie.Else1 Inv-loop μ-loop
-testing c = c .before .before .before .before .before
+testing here = here .before .before .before .before .before
 
 abbrev writing : tie.After-input6 Inv-loop μ-loop → tie.After-obey-lines Inv-loop μ-loop
-writing c = c .before .before .before .before .before
+writing here = here .before .before .before .before .before
 
 abbrev obeying : tie.After-input7 Inv-loop μ-loop → tie.After-obey-lines Inv-loop μ-loop
-obeying c = writing (c .before .before)
+obeying here = writing (here .before .before)
 
 -- ---- the block
 
 -- it keeps its length
-read-long : (c : tie.After-read-behind Inv-loop μ-loop) → length (c .read-behind .last .0) ≡ inputBytes
-read-long c = c .read-behind .kept .0 ∙ starting c .loop .inv .long
+read-long : (here : tie.After-read-behind Inv-loop μ-loop) → length (here .read-behind .last .0) ≡ inputBytes
+read-long here = here .read-behind .kept .0 ∙ starting here .loop .inv .long
 
-closed-long : (c : tie.After-close Inv-loop μ-loop) → length (c .close .last .0) ≡ inputBytes
-closed-long c = c .close .kept .0 ∙ read-long (reading c)
+closed-long : (here : tie.After-close Inv-loop μ-loop) → length (here .close .last .0) ≡ inputBytes
+closed-long here = here .close .kept .0 ∙ read-long (reading here)
 
-closed-fits : (c : tie.After-close Inv-loop μ-loop) → c .close .result ≤ inputBytes
-closed-fits c = omega (arith, read-long (reading c), c .close .ensures)
+closed-fits : (here : tie.After-close Inv-loop μ-loop) → here .close .result ≤ inputBytes
+closed-fits here = omega (arith, read-long (reading here), here .close .ensures)
 
 -- ---- its lines
 
 -- a part of the block has the length that it was cut to
-block-long : (c : tie.After-close Inv-loop μ-loop) → c .close .result ≤ length (c .close .last .0)
-block-long c = omega (arith, closed-fits c, closed-long c)
+block-long : (here : tie.After-close Inv-loop μ-loop) → here .close .result ≤ length (here .close .last .0)
+block-long here = omega (arith, closed-fits here, closed-long here)
 
 slice-aggregate-obey-lines : tie.Need-slice-aggregate-obey-lines Inv-loop μ-loop
-slice-aggregate-obey-lines c = sym (length-take-le _ _ (block-long (closing (c .before))))
+slice-aggregate-obey-lines here = sym (length-take-le _ _ (block-long (closing (here .before))))
 
 obey-lines-requires : tie.Need-obey-lines-requires Inv-loop μ-loop
-obey-lines-requires c κs =
-    let closed = closing (testing c) in
-    let g = starting (reading closed) .loop .inv in
+obey-lines-requires here κs =
+    let closed = closing (testing here) in
+    let so-far = starting (reading closed) .loop .inv in
     let long = length-take-le _ (closed .close .last .0) (block-long closed) in
-    (g .sound, g .numeral, omega (arith, g .wide, closed-fits closed, long))
+    (so-far .sound, so-far .numeral, omega (arith, so-far .wide, closed-fits closed, long))
 
 -- ---- what they print
 
-printed-long : (c : tie.After-obey-lines Inv-loop μ-loop)
-    → c .obey-lines .result .used ≤ length (c .obey-lines .last .1 .1 .0)
-printed-long c =
-    let text = c .obey-lines .ensures .text in omega (arith, text .fits, text .ends, keeps text)
+printed-long : (here : tie.After-obey-lines Inv-loop μ-loop)
+    → here .obey-lines .result .used ≤ length (here .obey-lines .last .1 .1 .0)
+printed-long here =
+    let text = here .obey-lines .ensures .text in omega (arith, text .fits, text .ends, keeps text)
 
 slice-aggregate-write-out : tie.Need-slice-aggregate-write-out Inv-loop μ-loop
-slice-aggregate-write-out c = sym (length-take-le _ _ (printed-long (c .before .before)))
+slice-aggregate-write-out here = sym (length-take-le _ _ (printed-long (here .before .before)))
 
 -- ---- what is kept, and the next turn
 
 -- a turn is still allowed
-more-turns : (c : tie.After-obey-lines Inv-loop μ-loop)
-    → 0 < starting (reading (closing (testing (c .before)))) .loop .turns
-more-turns c = reading (closing (testing (c .before))) .before .before .loop-test .taken
+more-turns : (here : tie.After-obey-lines Inv-loop μ-loop)
+    → 0 < starting (reading (closing (testing (here .before)))) .loop .turns
+more-turns here = reading (closing (testing (here .before))) .before .before .loop-test .taken
 
 loop-again : tie.Need-loop-again Inv-loop μ-loop
-loop-again c =
-    let obeyed = obeying c in
+loop-again here =
+    let obeyed = obeying here in
     let test = testing (obeyed .before) in
     let closed = closing test in
     let read = reading closed in
-    let l = starting read .loop in
+    let loop = starting read .loop in
     let more = read .read-behind in
-    one-turn (l .inv) (more .last .0) (take (more .result) (drop (l .have) (more .last .0)))
+    one-turn (loop .inv) (more .last .0) (take (more .result) (drop (loop .have) (more .last .0)))
     (more .ensures .0) (closed .close .ensures) (omega (arith, test .if1 .left))
-    (obeyed .obey-lines .ensures) (c .before .keep .ensures) (read-long read)
+    (obeyed .obey-lines .ensures) (here .before .keep .ensures) (read-long read)
     (keeps (obeyed .obey-lines .ensures .text))
 
 pub main-spec : {M : Type 1} → statement M
@@ -121,5 +121,5 @@ main-spec = tie.close (tie.spec
     loop-holds (search needs) (search needs) (search needs) (search needs) (search needs)
     (search needs) slice-aggregate-obey-lines (search needs) obey-lines-requires (search needs)
     slice-aggregate-write-out (search needs) (search needs) (search needs) (search needs)
-    (λ c. omega (arith, more-turns (obeying c))) (λ c. omega (arith, more-turns (obeying c)))
+    (λ here. omega (arith, more-turns (obeying here))) (λ here. omega (arith, more-turns (obeying here)))
     loop-again (search needs))

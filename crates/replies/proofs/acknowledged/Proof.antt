@@ -1,8 +1,7 @@
 -- `acknowledged`: a server has acknowledged where its number is in use.
 -- Assumes nothing.
 use Rattle.basics.proofs.Prelude.{sym, ap, _∙_, suc, arith, needs}
-use Rattle.basics.specs.Counting.{countBelow}
-use Rattle.register.specs.Thresholds.{size}
+use Rattle.register.proofs.Vocabulary.{countBelow, size}
 use Rattle.replies.specs.Replies.{acksAt, ackIn}
 use Rattle.replies.specs.Loops.{isUsed}
 use Rattle.replies.proofs.Places.{ack-at}

@@ -2,10 +2,8 @@
 -- Assumes nothing.
 use Rattle.basics.proofs.Prelude.{_≡_, sym, ap, _∙_, not, List, Option, ℕ, suc, _-_, _≤_, zero-add, add-one}
 use Rattle.basics.proofs.Prelude.{arith, eqb, not-true, not-false, needs}
-use Rattle.basics.specs.Counting.{countBelow}
-use Rattle.message.specs.declared.Pair.{Pair}
-use Rattle.register.specs.Thresholds.{size, counted, enough}
-use Rattle.register.specs.Client.{isNoted, highestOf, allPairs, chosen}
+use Rattle.register.proofs.Vocabulary.{countBelow, Pair, size, counted, enough, isNoted, highestOf, allPairs}
+use Rattle.register.proofs.Vocabulary.{chosen}
 use Rattle.replies.specs.Replies.{noteAt, notedIn, setIn, choiceOf}
 use Rattle.replies.specs.Loops.{isUsed, countsIn, bestOf}
 use Rattle.replies.proofs.Places.{noted-at, noted-used}
@@ -34,35 +32,35 @@ spoken : (c : tie.After-is-enough Inv-loop μ-loop) → c .is-enough .result
     ≡ enough (size (start c .args .f)) (start c .args .f)
     (counted (λ k. isNoted (notedIn (start c .args .replies .now) k)) (size (start c .args .f)))
 spoken c =
-    let r = start c .args .replies .now in
+    let replies = start c .args .replies .now in
     let f = start c .args .f in
     c .is-enough .ensures ∙ ap (enough (size f) f)
-    (c .before .used .ensures ∙ ap (countBelow (isUsed r 0)) (asked c .servers .ensures)
-    ∙ count-same (isUsed r 0) (λ i. isNoted (notedIn r (suc i))) (size f)
-    (λ i less. ap (λ (x : ℕ). not (eqb (noteAt r x) 0)) (zero-add i)
-    ∙ sym (ap isNoted (noted-at r i (omega arith)) ∙ noted-used (noteAt r i))))
+    (c .before .used .ensures ∙ ap (countBelow (isUsed replies 0)) (asked c .servers .ensures)
+    ∙ count-same (isUsed replies 0) (λ i. isNoted (notedIn replies (suc i))) (size f)
+    (λ i less. ap (λ (place : ℕ). not (eqb (noteAt replies place) 0)) (zero-add i)
+    ∙ sym (ap isNoted (noted-at replies i (omega arith)) ∙ noted-used (noteAt replies i))))
 
 loop-again : tie.Need-loop-again Inv-loop μ-loop
 loop-again c =
-    let p = c .before .before in
-    let a = start (p .before .before) .args in
-    let i = p .loop .i in
-    let test = countsIn (a .f) (a .replies .now) in
-    let sets = setIn (a .replies .now) in (
+    let turn = c .before .before in
+    let args = start (turn .before .before) .args in
+    let i = turn .loop .i in
+    let test = countsIn (args .f) (args .replies .now) in
+    let sets = setIn (args .replies .now) in (
       omega arith,
-      c .better .ensures ∙ ap (bestOf test (sets (suc i))) (p .loop .inv .1)
-          ∙ sym (best-more test sets i) ∙ ap (bestIn (a .replies .now) (a .f)) (sym (add-one i)),
+      c .better .ensures ∙ ap (bestOf test (sets (suc i))) (turn .loop .inv .1)
+          ∙ sym (best-more test sets i) ∙ ap (bestIn (args .replies .now) (args .f)) (sym (add-one i)),
     )
 
 returns-2 : tie.Need-returns-2 Inv-loop μ-loop
 unfolding chosen
 returns-2 c =
-    let p = c .before in
-    let tested = p .before in
-    let a = start (tested .before) .args in
-    let end : p .loop .i ≡ size (a .f) = omega (arith, asked (tested .before) .servers .ensures) in
+    let turn = c .before in
+    let tested = turn .before in
+    let args = start (tested .before) .args in
+    let end : turn .loop .i ≡ size (args .f) = omega (arith, asked (tested .before) .servers .ensures) in
     rw (sym (spoken (tested .before)) ∙ not-false _ (tested .if1 .left))
-    (p .loop .inv .1 ∙ ap (bestIn (a .replies .now) (a .f)) end)
+    (turn .loop .inv .1 ∙ ap (bestIn (args .replies .now) (args .f)) end)
 
 pub choose-spec : {M : Type 1} → statement M
 unfolding chosen highestOf allPairs

@@ -10,10 +10,10 @@ use Rattle.replies.proofs.consider.Tie as tie
 
 returns : tie.Need-returns
 returns c =
-    let a = c .before .before .before .args in
-    let best = choiceOf (a .best) in
-    sym (either-way (countsIn (a .f) (a .replies .now) (a .pair)) (higher (a .pair) best) best
-    (other-leaves (a .pair) best (sym (c .before .is-above .ensures) ∙ not-true _ (c .if1 .taken))))
+    let args = c .before .before .before .args in
+    let best = choiceOf (args .best) in
+    sym (either-way (countsIn (args .f) (args .replies .now) (args .pair)) (higher (args .pair) best) best
+    (other-leaves (args .pair) best (sym (c .before .is-above .ensures) ∙ not-true _ (c .if1 .taken))))
 
 returns-2 : tie.Need-returns-2
 returns-2 c = rw (sym (c .before .does-count .ensures) ∙ not-true _ (c .if2 .taken))
@@ -21,9 +21,9 @@ returns-2 c = rw (sym (c .before .does-count .ensures) ∙ not-true _ (c .if2 .t
 returns-3 : tie.Need-returns-3
 returns-3 c =
     let above = c .before .before in
-    let a = above .before .before .before .args in
+    let args = above .before .before .before .args in
     rw (sym (c .before .does-count .ensures) ∙ not-false _ (c .if2 .left))
-    (sym (above-replaces (a .pair) (choiceOf (a .best))
+    (sym (above-replaces (args .pair) (choiceOf (args .best))
     (sym (above .before .is-above .ensures) ∙ not-false _ (above .if1 .left))))
 
 pub consider-spec : {M : Type 1} → statement M

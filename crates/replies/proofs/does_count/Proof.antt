@@ -1,10 +1,9 @@
 -- `does_count`: the two thresholds on the two counts.
 -- Assumes nothing.
 use Rattle.basics.proofs.Prelude.{_≡_, sym, ap, _∙_, ℕ, not-true, not-false, needs}
-use Rattle.message.specs.Pair.{stamp}
-use Rattle.register.specs.Thresholds.{size, counted, notOldBy, validBy}
-use Rattle.register.specs.PairSet.{has}
-use Rattle.register.specs.Client.{isAtMost, notOld, valid, counts}
+use Rattle.register.proofs.Vocabulary.{stamp, size, counted, has, isAtMost, counts}
+use Rattle.register.specs.Thresholds.{notOldBy, validBy}
+use Rattle.register.specs.Client.{notOld, valid}
 use Rattle.replies.specs.Replies.{notedIn, setIn}
 use Rattle.replies.specs.Loops.{heldIn}
 use Rattle.replies.proofs.does_count.Statement.{statement}
@@ -22,22 +21,22 @@ not-old : (c : tie.After-is-not-old) → c .is-not-old .result
     (start c .args .pair)
 unfolding notOld
 not-old c =
-    let a = start c .args in
-    c .is-not-old .ensures ∙ ap (notOldBy (a .f))
+    let args = start c .args in
+    c .is-not-old .ensures ∙ ap (notOldBy (args .f))
     (c .before .at-most .ensures
-    ∙ ap (λ (t : ℕ). counted (λ k. isAtMost t (notedIn (a .replies .now) k)) (asked c .servers .result))
+    ∙ ap (λ (t : ℕ). counted (λ k. isAtMost t (notedIn (args .replies .now) k)) (asked c .servers .result))
     (c .before .before .stamp-of .ensures)
-    ∙ ap (counted (λ k. isAtMost (stamp (a .pair)) (notedIn (a .replies .now) k)))
+    ∙ ap (counted (λ k. isAtMost (stamp (args .pair)) (notedIn (args .replies .now) k)))
     (asked c .servers .ensures))
 
 returns-2 : tie.Need-returns-2
 unfolding counts valid
 returns-2 c =
     let tested = c .before .before in
-    let a = start (tested .before) .args in
+    let args = start (tested .before) .args in
     rw (sym (not-old (tested .before)) ∙ not-false _ (tested .if1 .left))
-    (c .is-valid .ensures ∙ ap (validBy (a .f))
-    (c .before .holders .ensures ∙ ap (counted (λ k. has (a .pair) (setIn (a .replies .now) k)))
+    (c .is-valid .ensures ∙ ap (validBy (args .f))
+    (c .before .holders .ensures ∙ ap (counted (λ k. has (args .pair) (setIn (args .replies .now) k)))
     (asked (tested .before) .servers .ensures)))
 
 pub does-count-spec : {M : Type 1} → statement M

@@ -1,8 +1,7 @@
 -- `holders`: the loop counts the sets that have the pair.
 -- Assumes nothing.
 use Rattle.basics.proofs.Prelude.{Bool, List, ℕ, suc, _-_, arith, needs}
-use Rattle.message.specs.declared.Pair.{Pair}
-use Rattle.register.specs.PairSet.{has}
+use Rattle.register.proofs.Vocabulary.{Pair, has}
 use Rattle.replies.specs.Replies.{setIn}
 use Rattle.replies.proofs.Steps.{bool-le, Counted, counted-none, counted-more, counted-all}
 use Rattle.replies.proofs.holders.Statement.{statement}
@@ -20,26 +19,9 @@ abbrev μ-loop : tie.MeasureT-loop
 add-count : tie.Need-add-count Inv-loop μ-loop
 add-count c = record { fits = omega (arith, bool-le (c .holds .result)) }
 
-abbrev start : tie.At-loop Inv-loop μ-loop → tie.Start Inv-loop μ-loop
-start p = p .before .before
-
-loop-again : tie.Need-loop-again Inv-loop μ-loop
-loop-again c =
-    let p = c .before .before in
-    let l = p .loop in
-    let a = start p .args in
-    counted-more (test (a .replies .now) (a .pair)) (a .n) (l .count) (l .i) _ (omega arith)
-    (c .holds .ensures) (l .inv)
-
-returns : tie.Need-returns Inv-loop μ-loop
-returns c =
-    let l = c .before .loop in
-    let a = start (c .before) .args in
-    counted-all (test (a .replies .now) (a .pair)) (a .n) (l .count) (l .i) (omega arith) (l .inv)
-
 pub holders-spec : {M : Type 1} → statement M
 holders-spec =
     tie.close
     (tie.spec
     Inv-loop μ-loop (λ c. counted-none _ _) (λ c κs. search needs) (λ c. search needs) add-count
-    (search needs) (search needs) loop-again returns)
+    (search needs) (search needs) (λ c. search counted-more) (λ c. search counted-all))

@@ -12,8 +12,7 @@ unfolding isAtMost noteOf
 returns c = rw (c .if1 .taken)
 
 returns-2 : tie.Need-returns-2
-returns-2 c =
-    let a = c .before .before .args in sym (at-most-used (a .number) (a .stamp .0) (c .before .if1 .left))
+returns-2 c = sym (at-most-used _ _ (search needs))
 
 pub is-at-most-spec : {M : Type 1} → statement M
 is-at-most-spec = tie.close (tie.spec returns (λ c. search needs) (λ c. search needs) returns-2)

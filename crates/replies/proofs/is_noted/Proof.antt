@@ -9,9 +9,9 @@ use Rattle.replies.proofs.is_noted.Tie as tie
 
 returns : tie.Need-returns
 returns c =
-    let r = c .before .args .replies .now in
+    let replies = c .before .args .replies .now in
     let i = c .before .args .i in
-    sym (ap isNoted (noted-at r i (search needs)) ∙ noted-used (noteAt r i))
+    sym (ap isNoted (noted-at replies i (search needs)) ∙ noted-used (noteAt replies i))
 
 pub is-noted-spec : {M : Type 1} → statement M
 is-noted-spec = tie.close (tie.spec (λ c. search needs) (λ c. search needs) returns)

@@ -1,8 +1,7 @@
 -- `is_padded`: each of the four numbers belongs to a pair or is zero.
 -- Assumes nothing.
 use Rattle.basics.proofs.Prelude.{_+_, _*_, add-zero, needs}
-use Rattle.basics.specs.Tests.{allBelow}
-use Rattle.register.specs.Client.{setLimit}
+use Rattle.register.proofs.Vocabulary.{allBelow, setLimit}
 use Rattle.replies.specs.Replies.{pairsAt}
 use Rattle.replies.specs.Sound.{isPadded}
 use Rattle.replies.proofs.is_padded.Statement.{statement}

@@ -12,14 +12,14 @@ returns c =
     let third = c .before .before in
     let second = third .before .before in
     let first = second .before .before in
-    let a = first .before .before .before .args in
+    let args = first .before .before .before .args in
     rw (
       first .is-within .ensures,
       second .is-within2 .ensures,
       third .is-within3 .ensures,
       c .before .is-rising .ensures,
       c .is-padded .ensures,
-      and-true (isPadded (a .replies .now) (a .i)),
+      and-true (isPadded (args .replies .now) (args .i)),
     )
 
 pub is-sound-at-spec : {M : Type 1} → statement M

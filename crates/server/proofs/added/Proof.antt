@@ -7,8 +7,9 @@ use Rattle.server.proofs.added.Tie as tie
 
 returns : tie.Need-returns
 returns c =
-    let st = c .before .before in
-    get-info (st .args .server) (st .args .d) (st .pre .0) (st .pre .1) (st .pre .2) (st .args .tag)
+    let start = c .before .before in
+    get-info (start .args .server) (start .args .d) (start .pre .0) (start .pre .1) (start .pre .2)
+    (start .args .tag)
 
 pub added-spec : {M : Type 1} → statement M
 added-spec = tie.close (tie.spec (search needs) (search needs) returns)

@@ -20,8 +20,9 @@ returns-2 c =
 
 returns-3 : tie.Need-returns-3
 returns-3 c =
-    let s = c .before .before .before in
-    other (s .args .server) (s .args .d) (s .pre .0) (s .pre .1) (s .pre .2) (s .args .message)
+    let start = c .before .before .before in
+    other (start .args .server) (start .args .d) (start .pre .0) (start .pre .1) (start .pre .2)
+    (start .args .message)
     (c .before .before .match .keys2) (c .before .match2 .keys2) (c .match3 .keys2)
 
 returns-4 : tie.Need-returns-4

@@ -9,13 +9,17 @@ use Rattle.server.proofs.removed.Tie as tie
 
 sub-others : tie.Need-sub-others
 sub-others c =
-    let st = c .before in
-    let s = st .args .server in
-    omega (arith, bit-lt (s .readers) (st .args .d) (few s (st .pre .0)) (st .pre .1) (st .pre .2))
+    let start = c .before in
+    let server = start .args .server in
+    omega (
+      arith,
+      bit-lt (server .readers) (start .args .d) (few server (start .pre .0)) (start .pre .1)
+          (start .pre .2),
+    )
 
 returns : tie.Need-returns
-returns c = let st = c .before .before in
-    done (st .args .server) (st .args .d) (st .pre .0) (st .pre .1) (st .pre .2)
+returns c = let start = c .before .before in
+    done (start .args .server) (start .args .d) (start .pre .0) (start .pre .1) (start .pre .2)
 
 pub removed-spec : {M : Type 1} → statement M
 removed-spec = tie.close (tie.spec (search needs) (search needs) sub-others returns)

@@ -7,8 +7,9 @@ use Rattle.server.proofs.replaced.Tie as tie
 
 returns : tie.Need-returns
 returns c d =
-    let st = c .before in
-    write-info (st .args .server) (st .pre) d (st .args .pair) (c .higher .result) (c .higher .ensures)
+    let start = c .before in
+    write-info (start .args .server) (start .pre) d (start .args .pair) (c .higher .result)
+    (c .higher .ensures)
 
 pub replaced-spec : {M : Type 1} → statement M
 replaced-spec = tie.close (tie.spec (λ c κs. search needs) returns)

@@ -14,8 +14,11 @@ start c = c .before .before .before
 
 after-requires : tie.Need-after-requires
 after-requires c κs =
-    let st = start c in
-    (ap sound (c .load .ensures) ∙ loaded-sound (st .args .memory .now) (st .pre .0), st .pre .1, st .pre .2)
+    let begun = start c in (
+      ap sound (c .load .ensures) ∙ loaded-sound (begun .args .memory .now) (begun .pre .0),
+      begun .pre .1,
+      begun .pre .2,
+    )
 
 returns : tie.Need-returns
 returns c =
@@ -23,14 +26,16 @@ returns c =
     let next = stored .before .before in
     let a = start (next .before) .args in
     served-in (a .memory .now) (a .d) (a .message) (next .after .result) _
-    (next .after .ensures ∙ ap (λ (s : Server). servedOf s (a .d) (a .message)) (next .before .load .ensures))
+    (next .after .ensures
+    ∙ ap (λ (server : Server). servedOf server (a .d) (a .message)) (next .before .load .ensures))
     (stored .store .ensures)
 
 pub serve-message-spec : {M : Type 1} → statement M
 serve-message-spec =
     tie.close
     (tie.spec
-    (λ c κs. let st = c .before .before in sound-length (st .args .memory .now) (st .pre .0))
+    (λ c κs. let begun = c .before .before in sound-length (begun .args .memory .now) (begun .pre .0))
     after-requires
-    (λ c κs. let st = start (c .before .before) in sound-length (st .args .memory .now) (st .pre .0))
+    (λ c κs. let begun = start (c .before .before) in
+    sound-length (begun .args .memory .now) (begun .pre .0))
     (λ c. search needs) returns)

@@ -1,7 +1,7 @@
 -- `is_in`: a mask of one bit is the remainder by two. Assumes nothing.
 use Rattle.basics.proofs.Prelude.{ap, ℕ, _/_, _^_, eqb, needs}
 use lib.Bits.{and-mask}
-use Rattle.server.specs.State.{contains}
+use Rattle.basics.specs.BitSets.{contains}
 use Rattle.state.proofs.is_in.Statement.{statement}
 use Rattle.state.proofs.is_in.Tie as tie
 

@@ -4,10 +4,10 @@ use Rattle.exchange.proofs.print.print_bytes.Statement.{statement}
 use Rattle.exchange.proofs.print.print_bytes.Tie as tie
 
 abbrev Inv-loop : tie.InvT-loop
-Inv-loop s i₀ i = i ≤ length s
+Inv-loop bytes i₀ i = i ≤ length bytes
 
 abbrev μ-loop : tie.MeasureT-loop
-μ-loop s i₀ i = length s - i
+μ-loop bytes i₀ i = length bytes - i
 
 pub print-bytes-spec : {M : Type 1} → statement M
 print-bytes-spec = tie.close (tie.spec

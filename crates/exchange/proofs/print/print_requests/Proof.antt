@@ -4,10 +4,10 @@ use Rattle.exchange.proofs.print.print_requests.Statement.{statement}
 use Rattle.exchange.proofs.print.print_requests.Tie as tie
 
 abbrev Inv-loop : tie.InvT-loop
-Inv-loop d n s k₀ k = k ≤ n
+Inv-loop d n bytes k₀ k = k ≤ n
 
 abbrev μ-loop : tie.MeasureT-loop
-μ-loop d n s k₀ k = n - k
+μ-loop d n bytes k₀ k = n - k
 
 pub print-requests-spec : {M : Type 1} → statement M
 print-requests-spec = tie.close (tie.spec

@@ -27,15 +27,16 @@ loop-holds c = (omega arith, refl, run-none _ _ _ _ _ _ _ (c .before .before .pr
 
 loop-again : tie.Need-loop-again Inv-loop μ-loop
 loop-again c =
-    let w = c .before .before in
-    let y = w .before .before in
-    let x = read y .step-in in
-    let tested = read y .before in
+    let written = c .before .before in
+    let stepped = written .before .before in
+    let taken = read stepped .step-in in
+    let tested = read stepped .before in
     let l = tested .before in (
       omega arith,
       search needs,
       public-turn _ _ _ _ (l .loop .i) (tested .loop-test .taken) (allowed-facts _ (start l .pre .0)) _ _ _ _
-          (l .loop .inv .2) (x .result) (x .ensures) _ _ (w .write-answer .ensures) (y .step .ensures),
+          (l .loop .inv .2) (taken .result) (taken .ensures) _ _ (written .write-answer .ensures)
+          (stepped .step .ensures),
     )
 
 returns : tie.Need-returns Inv-loop μ-loop

@@ -14,8 +14,8 @@ returns c =
     (λ n. obeys-early _ _ _ _ _ n _ (not-true _ (c .before .if1 .taken)))
 
 -- a sound state is ready for a step
-take-step-requires : tie.Need-take-step-requires
-take-step-requires c κs =
+make-step-requires : tie.Need-make-step-requires
+make-step-requires c κs =
     let tested = c .before .before .before in
     let told = tested .before .before in
     ready _ _ _ _ (facts _ _ _ _ (told .before .before .pre))
@@ -34,7 +34,7 @@ returns-3 c =
     let told = tested .before .before in
     rw (c .obeyed-of2 .ensures, told .line2 .given .1)
     (λ n. obeys-step _ _ _ _ _ n _ _ (not-false _ (tested .if1 .left)) (told .before .before .pre)
-    (step .take-step .ensures))
+    (step .make-step .ensures))
 
 -- neither
 returns-4 : tie.Need-returns-4
@@ -42,5 +42,5 @@ returns-4 c = rw (c .obeyed-of3 .ensures, c .before .enum-told .given .1) (λ n.
 
 pub obey-spec : {M : Type 1} → statement M
 obey-spec = tie.close (tie.spec
-    (search needs) (search needs) (search needs) (search needs) returns take-step-requires
+    (search needs) (search needs) (search needs) (search needs) returns make-step-requires
     (search needs) (search needs) (search needs) returns-2 returns-3 returns-4)

@@ -3,11 +3,12 @@
 --
 -- In order: the lines so far; their end; one line more.
 -- Assumes nothing.
-use Rattle.basics.proofs.Prelude.{_≡_, ap, _∙_, length, _-_, arith, needs}
+use Rattle.basics.proofs.Prelude.{_≡_, ap, _∙_, length, _+_, _-_, _≤_, arith, needs}
 use Rattle.script.specs.declared.next.Found.{Found}
 use Rattle.script.specs.declared.print.Numeral.{Numeral}
 use Rattle.script.specs.Numerals.{numeralOf}
-use Rattle.script.proofs.Numerals.{own-number, number-is}
+use Rattle.script.specs.Printed.{longest}
+use Rattle.script.proofs.Numerals.{own-number, number-is, rest-room, line-written}
 use Rattle.script.proofs.Writing.{keeps}
 use Rattle.rehearse.specs.Stage.{stage}
 use Rattle.rehearse.proofs.SoFar.{SoFar, none-yet, room, one-more, at-end, lines-done}
@@ -28,74 +29,88 @@ abbrev μ-loop : tie.MeasureT-loop
     out servers clients slots settings is-set number at used = length input - at
 
 loop-holds : tie.Need-loop-holds Inv-loop μ-loop
-loop-holds c = let p = c .before .before .before .before .pre in (none-yet (p .0), p .1)
+loop-holds here = (search none-yet, search needs)
 
 -- ---- the end of the lines
 
--- where the lines so far were so-far, of a place where no whole line is left
-abbrev ended : tie.After-turn-of Inv-loop μ-loop → tie.At-loop Inv-loop μ-loop
-ended c = c .before .before .before .before
-
 same-length : tie.Need-same-length Inv-loop μ-loop
-same-length c = keeps (ended c .loop .inv .0 .text)
+same-length here = search keeps
+
+-- where a whole line was looked for, of a place where none is left
+abbrev looked : tie.After-turn-of Inv-loop μ-loop → tie.After-next Inv-loop μ-loop
+looked here = here .before .before .before
 
 returns : tie.Need-returns Inv-loop μ-loop
-returns c =
-    let h = ended c .loop .inv in
-    lines-done (c .turn-of .result) (c .turn-of .ensures) (h .1)
-    (at-end (h .0) _ (c .before .before .before .next .ensures) (c .before .if1 .taken))
+returns here =
+    let holds = looked here .before .loop .inv in
+    lines-done (here .turn-of .result) (here .turn-of .ensures) (holds .1)
+    (at-end (holds .0) _ (looked here .next .ensures) (here .before .if1 .taken))
 
 -- ---- one line more
 
--- where a whole line was found, of a place where it is obeyed
-abbrev found : tie.After-obey-arg3 Inv-loop μ-loop → tie.Else1 Inv-loop μ-loop
-found c = c .before .before .before
-
--- and where the lines before it were so-far
+-- where the loop stands, of a place where a whole line was found
 abbrev so-far : tie.Else1 Inv-loop μ-loop → tie.At-loop Inv-loop μ-loop
-so-far c = c .before .before .before
+so-far here = here .before .before .before
 
-put-line-requires : tie.Need-put-line-requires Inv-loop μ-loop
-put-line-requires c κs =
-    let f = found (c .before .before .before) in
-    let l = so-far f in
-    let start = l .before .before .before .before .before in
-    let here = l .loop .inv in
-    (room (here .0) _ (f .before .before .next .ensures) (f .if1 .left) (start .pre .2), here .1)
+-- and where the input was lent
+abbrev entered : tie.At-loop Inv-loop μ-loop → tie.After-shared-slice-known Inv-loop μ-loop
+entered here = here .before .before .before .before
+
+-- the output has room for one line more
+free : (here : tie.Else1 Inv-loop μ-loop)
+    → so-far here .loop .used + longest ≤ length (so-far here .loop .out)
+free here = search room
+
+put-numeral-requires : tie.Need-put-numeral-requires Inv-loop μ-loop
+put-numeral-requires here κs = (search needs, omega (arith, free (here .before)))
+
+-- where its number was written, of a place where it is obeyed, and where the line was found
+abbrev number-at : tie.After-obey Inv-loop μ-loop → tie.After-put-numeral Inv-loop μ-loop
+number-at here = here .before .before .before .before .before .before
+
+abbrev found : tie.After-put-numeral Inv-loop μ-loop → tie.Else1 Inv-loop μ-loop
+found here = here .before .before
+
+put-output-requires : tie.Need-put-output-requires Inv-loop μ-loop
+put-output-requires here κs =
+    let number = number-at (here .before .before) in
+    rest-room _ (free (found number)) (number .put-numeral .ensures)
 
 -- where the line was obeyed, of a place where it is written
 abbrev obeyed : tie.After-struct-known2 Inv-loop μ-loop → tie.After-obey Inv-loop μ-loop
-obeyed c = c .before .before .before .before .before .before
+obeyed here = here .before .before .before .before .before .before
 
 add-at : tie.Need-add-at Inv-loop μ-loop
-add-at c =
-    let f = found (obeyed c .before) in
-    let less = f .if1 .left in
-    let entered = so-far f .before .before .before .before in
-    let fits = entered .shared-slice-known .given in
+add-at here =
+    let line = found (number-at (obeyed here)) in
+    let less = line .if1 .left in
+    let fits = entered (so-far line) .shared-slice-known .given in
     search needs
 
 loop-less : tie.Need-loop-less Inv-loop μ-loop
-loop-less c =
-    let f = found (obeyed (c .before) .before) in
-    let less = f .if1 .left in
-    let end = ap (λ (z : Found). z .end) (f .before .before .next .ensures) in
+loop-less here =
+    let line = found (number-at (obeyed (here .before))) in
+    let less = line .if1 .left in
+    let end = ap (λ (found : Found). found .end) (line .before .before .next .ensures) in
     omega arith
 
 loop-again : tie.Need-loop-again Inv-loop μ-loop
-loop-again c =
-    let put = c .before .before .before .before in
-    let o = obeyed (c .before) in
-    let f = found (o .before) in
-    let l = so-far f in
-    let next = c .next-numeral in (
-      one-more (l .loop .inv .0) _ (f .before .before .next .ensures) (f .if1 .left)
-          (o .obey .ensures (l .loop .number .number)) (put .put-line .ensures) (next .result .number)
-          (ap (λ (z : Numeral). z .number) (next .ensures) ∙ number-is _),
-      own-number _ (next .ensures),
+loop-again here =
+    let put = here .before .before .before .before in
+    let done = obeyed (here .before) in
+    let number = number-at done in
+    let line = found number in
+    let loop = so-far line .loop in
+    let next = here .next-numeral in (
+      one-more (loop .inv .0) _ (line .before .before .next .ensures) (line .if1 .left)
+          (done .obey .ensures (loop .number .number))
+          (line-written _ _ (number .put-numeral .ensures) (put .put-output .ensures)) (next .result .number)
+          (ap (λ (numeral : Numeral). numeral .number) (next .ensures) ∙ number-is _),
+      search own-number,
     )
 
 pub obey-lines-spec : {M : Type 1} → statement M
 obey-lines-spec = tie.close (tie.spec
     Inv-loop μ-loop loop-holds (search needs) (search needs) same-length returns
-    (λ c κs. search needs) put-line-requires add-at (λ c κs. search needs) loop-less loop-again)
+    put-numeral-requires (λ here κs. search needs) put-output-requires add-at
+    (λ here κs. search needs) loop-less loop-again)

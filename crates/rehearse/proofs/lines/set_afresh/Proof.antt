@@ -7,22 +7,22 @@ use Rattle.rehearse.proofs.lines.set_afresh.Statement.{statement}
 use Rattle.rehearse.proofs.lines.set_afresh.Tie as tie
 
 returns : tie.Need-returns
-returns c =
-    let accepted = c .before .before in
-    let e = accepted .before .before .set-up .ensures in
+returns here =
+    let accepted = here .before .before in
+    let done = accepted .before .before .set-up .ensures in
     let is = accepted .accepted .given .1 in
-    rw (c .obeyed-of .ensures)
-    (λ n. obeys-set _ _ _ _ _ n _ _ _ _ _ _ _ (sym (set-up-answer _ _ _ _ _ _ _ _ e) ∙ is)
-    (set-up-stored _ _ _ _ _ _ _ _ e _ is))
+    rw (here .obeyed-of .ensures)
+    (λ n. obeys-set _ _ _ _ _ n _ _ _ _ _ _ _ (sym (set-up-answer _ _ _ _ _ _ _ _ done) ∙ is)
+    (set-up-stored _ _ _ _ _ _ _ _ done _ is))
 
 returns-2 : tie.Need-returns-2
-returns-2 c =
-    let refused = c .before .before in
-    let e = refused .before .before .set-up .ensures in
+returns-2 here =
+    let refused = here .before .before in
+    let done = refused .before .before .set-up .ensures in
     let is = refused .why .given .1 in
-    rw (c .obeyed-of2 .ensures)
-    (λ n. obeys-refused _ _ _ _ _ n _ _ _ _ _ _ _ (sym (set-up-answer _ _ _ _ _ _ _ _ e) ∙ is)
-    (set-up-kept _ _ _ _ _ _ _ _ e _ is))
+    rw (here .obeyed-of2 .ensures)
+    (λ n. obeys-refused _ _ _ _ _ n _ _ _ _ _ _ _ (sym (set-up-answer _ _ _ _ _ _ _ _ done) ∙ is)
+    (set-up-kept _ _ _ _ _ _ _ _ done _ is))
 
 pub set-afresh-spec : {M : Type 1} → statement M
 set-afresh-spec = tie.close (tie.spec

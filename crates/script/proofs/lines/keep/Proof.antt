@@ -14,8 +14,8 @@ abbrev μ-loop : tie.MeasureT-loop
 
 returns : tie.Need-returns Inv-loop μ-loop
 returns c =
-    let a = c .before .before .before .args in
-    kept-written (a .text .now) (a .at) (a .end) 0 (omega arith)
+    let args = c .before .before .before .args in
+    kept-written (args .text .now) (args .at) (args .end) 0 (omega arith)
 
 loop-holds : tie.Need-loop-holds Inv-loop μ-loop
 loop-holds c = search needs
@@ -29,7 +29,7 @@ module _ (c : tie.At-loop Inv-loop μ-loop) where
 
   -- how many bytes are kept
   count : c .before .least2 .result ≡ min (min (start .args .end) (length block) - start .args .at) most
-  count = cc (c .before .least2 .ensures, c .before .before .before .least .ensures)
+  count = cc
 
   fits : start .args .at + c .before .least2 .result ≤ length block
   fits =
@@ -44,21 +44,25 @@ add-byte : tie.Need-add-byte Inv-loop μ-loop
 add-byte c = search needs
 
 slice-read-byte : tie.Need-slice-read-byte Inv-loop μ-loop
-slice-read-byte c = rw (wide (c .before .before)) (omega (arith, fits (c .before .before)))
+slice-read-byte c =
+    let at = c .before .before in
+    rw (wide at) (omega (arith, fits at))
 
 slice-write-text : tie.Need-slice-write-text Inv-loop μ-loop
-slice-write-text c = rw (wide (c .before .before)) (omega (arith, fits (c .before .before)))
+slice-write-text c =
+    let at = c .before .before in
+    rw (wide at) (omega (arith, fits at))
 
 loop-again : tie.Need-loop-again Inv-loop μ-loop
 loop-again c =
     let here = c .before .before in
-    let a = start here .args in
+    let args = start here .args in
     let i = here .loop .i in (
       omega arith,
-      ap (λ (l : List ℕ). set l i (getD l (a .at + i) 0)) (here .loop .inv .1)
-          ∙ ap (λ (b : ℕ). set (moved (block here) (a .at) i) i b)
-          (moved-read (block here) (a .at) i (omega (arith, fits here)))
-          ∙ moved-more (block here) (a .at) i (omega (arith, fits here)),
+      ap (λ (bytes : List ℕ). set bytes i (getD bytes (args .at + i) 0)) (here .loop .inv .1)
+          ∙ ap (λ (byte : ℕ). set (moved (block here) (args .at) i) i byte)
+          (moved-read (block here) (args .at) i (omega (arith, fits here)))
+          ∙ moved-more (block here) (args .at) i (omega (arith, fits here)),
     )
 
 same-length : tie.Need-same-length Inv-loop μ-loop
@@ -67,9 +71,10 @@ same-length c = wide (c .before)
 returns-2 : tie.Need-returns-2 Inv-loop μ-loop
 returns-2 c =
     let here = c .before in
-    let a = start here .args in
+    let args = start here .args in
     let all : here .loop .i ≡ here .before .least2 .result = omega arith in
-    rw (here .loop .inv .1) (kept-written (block here) (a .at) (a .end) (here .loop .i) (all ∙ count here))
+    rw (here .loop .inv .1)
+    (kept-written (block here) (args .at) (args .end) (here .loop .i) (all ∙ count here))
 
 pub keep-spec : {M : Type 1} → statement M
 keep-spec = tie.close (tie.spec

@@ -18,11 +18,12 @@ loop-holds c = (search needs, refl)
 loop-again : tie.Need-loop-again Inv-loop μ-loop
 unfolding allBelow
 loop-again c =
-    let l = c .before .before .loop in
-    let a = c .before .before .before .args in (
+    let loop = c .before .before .loop in
+    let args = c .before .before .before .args in (
       omega arith,
       rw add-one
-          (ap (λ (t : Bool). t && not (eqb (getD (a .text .now) (a .at + l .j) 0) (a .stop))) (l .inv .1)),
+          (ap (λ (t : Bool). t && not (eqb (getD (args .text .now) (args .at + loop .j) 0) (args .stop)))
+          (loop .inv .1)),
     )
 
 returns : tie.Need-returns Inv-loop μ-loop

@@ -13,13 +13,13 @@ abbrev μ-loop : tie.MeasureT-loop
 
 sub-loop : tie.Need-sub-loop Inv-loop μ-loop
 sub-loop c =
-    let a = c .before .before .args in
-    omega (arith, up-to-short (a .stop) (a .text .now))
+    let args = c .before .before .args in
+    omega (arith, up-to-short (args .stop) (args .text .now))
 
 loop-again : tie.Need-loop-again Inv-loop μ-loop
 loop-again c =
-    let l = c .before .before .before .loop in
-    pass-all _ _ (l .i) 16 (omega arith) (l .inv) (sym (c .before .lacks .ensures) ∙ c .if1 .taken)
+    let loop = c .before .before .before .loop in
+    pass-all _ _ (loop .i) 16 (omega arith) (loop .inv) (sym (c .before .lacks .ensures) ∙ c .if1 .taken)
 
 pub passed-spec : {M : Type 1} → statement M
 passed-spec = tie.close (tie.spec

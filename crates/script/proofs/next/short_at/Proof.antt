@@ -14,9 +14,11 @@ shared-slice-read-if2 : tie.Need-shared-slice-read-if2
 shared-slice-read-if2 c = omega (arith, more-le (c .before .is-digit2 .result))
 
 -- the first byte is a digit
+abbrev start : tie.Else1 → tie.Start
+start here = here .before .before .before .before .before
+
 digit : (c : tie.Else1)
-    → let a = c .before .before .before .before .before .args in
-    isDigit (getD (a .text .now) (a .at) 0) ≡ true
+    → let args = start c .args in isDigit (getD (args .text .now) (args .at) 0) ≡ true
 digit c = sym (c .before .is-digit .ensures) ∙ not-false _ (c .if1 .left)
 
 short-value-requires : tie.Need-short-value-requires
@@ -29,12 +31,9 @@ add-t13 c =
 
 returns-3 : tie.Need-returns-3
 returns-3 c =
-    let second = c .before .before .before in
-    let start = second .before .before .before .before .before .before in
-    short-is (start .args .text .now) (start .args .at) (start .args .stop) (start .pre)
-    (digit (second .before))
-    (second .is-digit2 .result) (second .is-digit2 .ensures) (c .before .if2 .left) (c .short-value .result)
-    (c .short-value .ensures)
+    let tested = c .before .before .before in
+    let digit = digit (tested .before) in
+    search short-is
 
 pub short-at-spec : {M : Type 1} → statement M
 short-at-spec = tie.close (tie.spec

@@ -1,6 +1,6 @@
 -- `entry_after`: what follows from ten hexadecimal digits.
 use Rattle.basics.proofs.Prelude.{_≡_, arith, ne-eqb, needs}
-use Rattle.script.specs.Numbers.{hexIn}
+use Rattle.script.specs.Numbers.{hexIn, entryDigits}
 use Rattle.script.specs.Grammar.{hexIs}
 use Rattle.script.proofs.Halves.{read-wide}
 use Rattle.script.proofs.Readers.{read}
@@ -9,17 +9,17 @@ use Rattle.script.proofs.parse.entry_after.Tie as tie
 
 returns : tie.Need-returns
 unfolding hexIn
-returns c = simp (ne-eqb _ 10 (c .if1 .taken))
+returns c = simp (ne-eqb _ entryDigits (c .if1 .taken))
 
 -- what was read of the ten digits
 means : (c : tie.After-hex-in)
-    → hexIs (c .hex-in .result) ≡ hexIn 10 (c .before .before .before .args .text .now)
-means c =
-    read-wide 10 (c .before .before .before .args .text .now) (c .hex-in .result) (c .before .if1 .left)
-    (c .hex-in .ensures)
+    → hexIs (c .hex-in .result) ≡ hexIn entryDigits (c .before .before .before .args .text .now)
+means here = search read-wide
 
 returns-2 : tie.Need-returns-2
-returns-2 c = read hexIs _ _ (means (c .before .before .before)) (c .before .value .given .1)
+returns-2 here =
+    let told = here .before .before .before in
+    read hexIs _ _ (means told) (here .before .value .given .1)
 
 returns-3 : tie.Need-returns-3
 returns-3 c = read hexIs _ _ (means (c .before .before)) (c .enum-told .given .1)

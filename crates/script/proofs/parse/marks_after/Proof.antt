@@ -6,10 +6,12 @@ use Rattle.script.proofs.parse.marks_after.Statement.{statement}
 use Rattle.script.proofs.parse.marks_after.Tie as tie
 
 returns : tie.Need-returns
-returns c = read numberIs _ _ (c .before .before .before .marks-in .ensures) (c .before .marks .given .1)
+returns here =
+    let told = here .before .before .before in
+    read numberIs _ _ (told .marks-in .ensures) (here .before .marks .given .1)
 
 returns-2 : tie.Need-returns-2
-returns-2 c = read numberIs _ _ (c .before .before .marks-in .ensures) (c .enum-told .given .1)
+returns-2 here = read numberIs _ _ (here .before .before .marks-in .ensures) (here .enum-told .given .1)
 
 pub marks-after-spec : {M : Type 1} → statement M
 marks-after-spec = tie.close (tie.spec

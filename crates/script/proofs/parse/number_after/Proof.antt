@@ -6,13 +6,16 @@ use Rattle.script.proofs.parse.number_after.Statement.{statement}
 use Rattle.script.proofs.parse.number_after.Tie as tie
 
 module _ (c : tie.After-known-told) where
+  abbrev told : tie.After-number-in
+  told = c .before .before .before
+
   abbrev start : tie.Start
-  start = c .before .before .before .before .before
+  start = told .before .before
 
   -- the line of the number that was read
   says : numberLine (start .args .letter) (start .args .earlier) (c .before .value .given .0 .0)
       ≡ numberAfter (start .args .letter) (start .args .earlier) (start .args .text .now)
-  says = read numberIs _ _ (c .before .before .before .number-in .ensures) (c .before .value .given .1)
+  says = read numberIs _ _ (told .number-in .ensures) (c .before .value .given .1)
 
   by-letter : (letter : ℕ) → start .args .letter ≡ letter
       → numberLine letter (start .args .earlier) (c .before .value .given .0 .0)
@@ -20,7 +23,7 @@ module _ (c : tie.After-known-told) where
   by-letter letter e = cc (e, says)
 
 returns : tie.Need-returns
-returns c = read numberIs _ _ (c .before .before .number-in .ensures) (c .enum-told .given .1)
+returns here = read numberIs _ _ (here .before .before .number-in .ensures) (here .enum-told .given .1)
 
 other : tie.Need-returns-6
 other c =

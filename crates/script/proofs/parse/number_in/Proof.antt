@@ -9,12 +9,12 @@ use Rattle.script.proofs.parse.number_in.Statement.{statement}
 use Rattle.script.proofs.parse.number_in.Tie as tie
 
 abbrev Inv-loop : tie.InvT-loop
-Inv-loop s value₀ i₀ value i =
-    (i ≤ length s) × (allBytes isDigit (take i s) ≡ true) × (value ≡ valueFrom digitValue 10 0 (take i s)) ×
-    (value < 2 ^ (4 * i))
+Inv-loop text value₀ i₀ value i =
+    (i ≤ length text) × (allBytes isDigit (take i text) ≡ true) ×
+    (value ≡ valueFrom digitValue 10 0 (take i text)) × (value < 2 ^ (4 * i))
 
 abbrev μ-loop : tie.MeasureT-loop
-μ-loop s value₀ i₀ value i = length s - i
+μ-loop text value₀ i₀ value i = length text - i
 
 returns : tie.Need-returns Inv-loop μ-loop
 unfolding numberIn
@@ -32,23 +32,26 @@ loop-holds c = (search needs, refl, refl, search needs)
 abbrev text : tie.At-loop Inv-loop μ-loop → List ℕ
 text at = at .before .before .before .before .args .text .now
 
+abbrev at-loop : tie.After-is-digit Inv-loop μ-loop → tie.At-loop Inv-loop μ-loop
+at-loop here = here .before .before .before
+
 fits : (at : tie.At-loop Inv-loop μ-loop) → leb 1 (length (text at)) && leb (length (text at)) 7 ≡ true
 fits at = sized (text at) 7 (at .before .before .if1 .left) (at .before .if2 .left)
 
 returns-3 : tie.Need-returns-3 Inv-loop μ-loop
 unfolding numberIn
 returns-3 c =
-    let at = c .before .before .before .before in
+    let at = at-loop (c .before) in
     let no-digit = sym (c .before .is-digit .ensures) ∙ not-true _ (c .if3 .taken) in
     simp (fits at, all-fails isDigit (text at) (at .loop .i) (omega arith) no-digit)
 
 -- where the loop goes on: the byte is a digit, and the value so far has fewer than 7
 module _ (c : tie.Else3 Inv-loop μ-loop) where
-  abbrev at-loop : tie.At-loop Inv-loop μ-loop
-  at-loop = c .before .before .before .before
+  abbrev at : tie.At-loop Inv-loop μ-loop
+  at = at-loop (c .before)
 
   abbrev here : ℕ
-  here = getD (text at-loop) (at-loop .loop .i) 0
+  here = getD (text at) (at .loop .i) 0
 
   is : isDigit here ≡ true
   is = sym (c .before .is-digit .ensures) ∙ not-false _ (c .if3 .left)
@@ -56,27 +59,27 @@ module _ (c : tie.Else3 Inv-loop μ-loop) where
   within : (48 ≤ here) × (here ≤ 57)
   within = range 48 57 here is
 
-  small : at-loop .loop .value < 2 ^ 24
-  small = fits-more (at-loop .loop .value) (4 * at-loop .loop .i) 24 (at-loop .loop .inv .3) (omega arith)
+  small : at .loop .value < 2 ^ 24
+  small = fits-more (at .loop .value) (4 * at .loop .i) 24 (at .loop .inv .3) (omega arith)
 
 loop-again : tie.Need-loop-again Inv-loop μ-loop
 loop-again c =
-    let l = at-loop c .loop in
-    let s = text (at-loop c) in (
+    let loop = at c .loop in
+    let bytes = text (at c) in (
       omega arith,
-      all-longer s (l .i) (omega arith) isDigit (l .inv .1) (is c),
-      value-longer s (l .i) (omega arith) digitValue 10 (l .value) (l .inv .2),
-      digits-lt (l .value) 10 (digitValue (here c)) (l .i) (l .inv .3) (omega arith)
+      all-longer bytes (loop .i) (omega arith) isDigit (loop .inv .1) (is c),
+      value-longer bytes (loop .i) (omega arith) digitValue 10 (loop .value) (loop .inv .2),
+      digits-lt (loop .value) 10 (digitValue (here c)) (loop .i) (loop .inv .3) (omega arith)
           (omega (arith, within c .1)),
     )
 
 returns-4 : tie.Need-returns-4 Inv-loop μ-loop
 unfolding numberIn
 returns-4 c =
-    let l = c .before .loop in
-    let whole : take (l .i) (text (c .before)) ≡ text (c .before) =
-    take-all (l .i) (text (c .before)) (omega arith) in
-    simp (fits (c .before), rw whole at (l .inv .1), l .inv .2, whole)
+    let loop = c .before .loop in
+    let whole : take (loop .i) (text (c .before)) ≡ text (c .before) =
+    take-all (loop .i) (text (c .before)) (omega arith) in
+    simp (fits (c .before), rw whole at (loop .inv .1), loop .inv .2, whole)
 
 pub number-in-spec : {M : Type 1} → statement M
 number-in-spec = tie.close (tie.spec

@@ -1,6 +1,6 @@
 -- `parse`: a letter, a blank and arguments, in at most 64 bytes.
-use Rattle.basics.proofs.Prelude.{ap, _∙_, List, getD, ℕ, eq-eqb, ne-eqb, le-leb, lt-leb, needs}
-use Rattle.script.specs.Grammar.{lineOf, argumentsOf}
+use Rattle.basics.proofs.Prelude.{eq-eqb, ne-eqb, le-leb, lt-leb, needs}
+use Rattle.script.specs.Grammar.{lineOf}
 use Rattle.script.proofs.Readers.{rest-is}
 use Rattle.script.proofs.parse.parse.Statement.{statement}
 use Rattle.script.proofs.parse.parse.Tie as tie
@@ -26,13 +26,12 @@ returns-4 : tie.Need-returns-4
 unfolding lineOf
 returns-4 c =
     let tested = c .before .before .before in
-    let text = tested .before .before .before .before .before .args .text .now in
     simp (
       le-leb 3 _ (tested .before .before .before .if1 .left),
       le-leb _ 64 (tested .before .before .if2 .left),
       eq-eqb _ 32 (tested .if3 .left),
     )
-    (c .arguments .ensures ∙ ap (λ (l : List ℕ). argumentsOf (getD text 0 0) l) (rest-is text 2))
+    (rw (rest-is _ 2) at (c .arguments .ensures))
 
 pub parse-spec : {M : Type 1} → statement M
 parse-spec = tie.close (tie.spec

@@ -1,6 +1,6 @@
 -- `next_numeral`: the next number has the same hundreds, unless it is a multiple of 100.
-use Rattle.basics.proofs.Prelude.{_≡_, refl, sym, ap, _∙_, ℕ, _+_, _-_, _/_, _%_, _^_, _≤_, _<_, arith}
-use Rattle.basics.proofs.Prelude.{lt-ltb, le-ltb, needs}
+use Rattle.basics.proofs.Prelude.{_≡_, refl, ap, _∙_, ℕ, _+_, _-_, _/_, _%_, _^_, _≤_, _<_, arith, lt-ltb}
+use Rattle.basics.proofs.Prelude.{le-ltb, needs}
 use Rattle.script.specs.declared.print.Numeral.{Numeral}
 use Rattle.script.specs.Numerals.{nextNumber, numeralOf}
 use Rattle.script.proofs.Numerals.{last-two}
@@ -10,37 +10,46 @@ use Rattle.script.proofs.print.next_numeral.Tie as tie
 stays : (n : ℕ) → 2 ^ 64 - 1 ≤ n → nextNumber n ≡ n
 stays n h = rw (le-ltb n (2 ^ 64 - 1) h) refl
 
-goes-on : (n : ℕ) → n < 2 ^ 64 - 1 → nextNumber n ≡ n + 1
-goes-on n h = rw (lt-ltb n (2 ^ 64 - 1) h) refl
+number-raised : (n : ℕ) → n < 2 ^ 64 - 1 → nextNumber n ≡ n + 1
+number-raised n h = rw (lt-ltb n (2 ^ 64 - 1) h) refl
 
 -- the numeral with its number one higher
-goes-along : {q : Numeral} (n : ℕ) → (n + 1) / 100 ≡ n / 100 → q ≡ numeralOf n
-    → record { number = n + 1; text = q .text; kept = q .kept; «last_two» = q .«last_two» + 1 }
+goes-along : {numeral : Numeral} (n : ℕ) → (n + 1) / 100 ≡ n / 100 → numeral ≡ numeralOf n → record {
+  number = n + 1;
+  text = numeral .text;
+  kept = numeral .kept;
+  «last_two» = numeral .«last_two» + 1;
+}
     ≡ numeralOf (n + 1)
 unfolding numeralOf
-goes-along {q} n same e =
-    let text : q .text ≡ numeralOf (n + 1) .text = ap (λ (x : Numeral). x .text) e ∙ rw same refl in
-    let kept : q .kept ≡ numeralOf (n + 1) .kept = ap (λ (x : Numeral). x .kept) e ∙ rw same refl in
-    let last : q .«last_two» ≡ n % 100 = ap (λ (x : Numeral). x .«last_two») e in
-    let last-two : q .«last_two» + 1 ≡ (n + 1) % 100 = omega (arith, last, same) in
+goes-along {numeral} n same e =
+    let text : numeral .text ≡ numeralOf (n + 1) .text = ap (λ (x : Numeral). x .text) e ∙ rw same refl in
+    let kept : numeral .kept ≡ numeralOf (n + 1) .kept = ap (λ (x : Numeral). x .kept) e ∙ rw same refl in
+    let last : numeral .«last_two» ≡ n % 100 = ap (λ (x : Numeral). x .«last_two») e in
+    let last-two : numeral .«last_two» + 1 ≡ (n + 1) % 100 = omega (arith, last, same) in
     λ i. record { number = n + 1; text = text i; kept = kept i; «last_two» = last-two i }
 
-returns : tie.Need-returns
-returns c =
-    cc (c .before .before .pre, stays (c .before .before .args .numeral .number) (omega arith))
+module _ (numeral : Numeral) (own : numeral ≡ numeralOf (numeral .number)) where
+  the-last : 2 ^ 64 - 1 ≤ numeral .number → numeral ≡ numeralOf (nextNumber (numeral .number))
+  the-last h = cc (own, stays (numeral .number) h)
 
-returns-2 : tie.Need-returns-2
-returns-2 c =
-    let n = c .before .before .before .before .before .before .args .numeral .number in
-    c .numeral-of .ensures ∙ ap numeralOf (sym (goes-on n (omega arith)))
+  made-anew : (next : Numeral) → numeral .number < 2 ^ 64 - 1 → next ≡ numeralOf (numeral .number + 1)
+      → next ≡ numeralOf (nextNumber (numeral .number))
+  made-anew next h is = cc (is, number-raised (numeral .number) h)
 
-returns-3 : tie.Need-returns-3
-returns-3 c =
-    let start = c .before .before .before .before .before .before .before in
-    let n = start .args .numeral .number in
-    let same : (n + 1) / 100 ≡ n / 100 = omega (arith, last-two (start .args .numeral) (start .pre)) in
-    cc (goes-along n same (start .pre), goes-on n (omega arith))
+  one-higher : numeral .number < 2 ^ 64 - 1 → numeral .«last_two» < 99 → record {
+    number = numeral .number + 1;
+    text = numeral .text;
+    kept = numeral .kept;
+    «last_two» = numeral .«last_two» + 1;
+  }
+      ≡ numeralOf (nextNumber (numeral .number))
+  one-higher h few =
+      let n = numeral .number in
+      let same : (n + 1) / 100 ≡ n / 100 = omega (arith, last-two numeral own) in
+      cc (goes-along n same own, number-raised n h)
 
 pub next-numeral-spec : {M : Type 1} → statement M
 next-numeral-spec =
-    tie.close (tie.spec returns (search needs) (search needs) returns-2 (search needs) returns-3)
+    tie.close (tie.spec (λ here. search (the-last, arith)) (search needs) (search needs)
+    (λ here. search (made-anew, arith)) (search needs) (λ here. search (one-higher, arith)))

@@ -10,8 +10,8 @@ use Rattle.script.proofs.print.numeral_of.Tie as tie
 
 put-decimal-requires : tie.Need-put-decimal-requires
 put-decimal-requires c κs =
-    let h = c .before .before .before .args .value / 100 in
-    omega (arith, decimal-few h (omega (arith, ltb-true)))
+    let hundreds = c .before .before .before .args .value / 100 in
+    omega (arith, decimal-few hundreds (omega (arith, ltb-true)))
 
 returns : tie.Need-returns
 unfolding numeralOf
@@ -19,10 +19,10 @@ returns c =
     let start = c .before .before .before .before .before in
     let value = start .args .value in
     let few : value / 100 < 1000000 = omega (arith, ltb-true) in
-    let w = c .before .put-decimal .ensures in
+    let writing = c .before .put-decimal .ensures in
     let all = sym (kept-all (value / 100) (omega arith) few) in
-    let text = w .holds ∙ ap (λ (l : List ℕ). written (replicate 8 0) 0 l) all in
-    let kept = w .ends ∙ zero-add (length (decimal (value / 100))) ∙ ap length all in
+    let text = writing .holds ∙ ap (λ (l : List ℕ). written (replicate 8 0) 0 l) all in
+    let kept = writing .ends ∙ zero-add (length (decimal (value / 100))) ∙ ap length all in
     λ i. record { number = value; text = text i; kept = kept i; «last_two» = value % 100 }
 
 returns-2 : tie.Need-returns-2

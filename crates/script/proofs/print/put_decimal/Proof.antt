@@ -18,12 +18,12 @@ abbrev μ-loop : tie.MeasureT-loop
 
 loop-holds : tie.Need-loop-holds Inv-loop μ-loop
 loop-holds c =
-    let a = c .before .before .args in
-    none-yet 10 (a .out .now) (a .at) (c .digit-count .result) (a .value)
+    let args = c .before .before .args in
+    none-yet 10 (args .out .now) (args .at) (c .digit-count .result) (args .value)
 
 -- the digits fit
 room : (c : tie.After-digit-count Inv-loop μ-loop)
-    → let a = c .before .before .args in a .at + c .digit-count .result ≤ length (a .out .now)
+    → let args = c .before .before .args in args .at + c .digit-count .result ≤ length (args .out .now)
 room c =
     let value = c .before .before .args .value in
     omega (arith, c .digit-count .ensures, digits-length 10 (digitCount 19 value) value)
@@ -38,9 +38,9 @@ put-two-requires c κs =
 
 loop-again : tie.Need-loop-again Inv-loop μ-loop
 loop-again c =
-    let at = c .before .before .before .before .before in
-    two-more (at .loop .i - 2) (room (at .before)) (omega arith) (c .before .before .put-two .ensures)
-    (at .loop .inv)
+    let call = c .before .before in
+    let at = call .before .before .before in
+    two-more (at .loop .i - 2) (room (at .before)) (omega arith) (call .put-two .ensures) (at .loop .inv)
 
 slice-write-out : tie.Need-slice-write-out Inv-loop μ-loop
 slice-write-out c =
@@ -60,9 +60,9 @@ alone {at} {rest} fits e is t =
 
 all-digits : (c : tie.Joined1 Inv-loop μ-loop)
     → let start = c .before .before .before in
-    let a = start .before .before .args in
+    let args = start .before .before .args in
     let n = start .digit-count .result in
-    Written (digitsOf 10 n (a .value)) (a .out .now) (a .at) (a .at + n) (c .if1 .out)
+    Written (digitsOf 10 n (args .value)) (args .out .now) (args .at) (args .at + n) (c .if1 .out)
 all-digits c =
     let at = c .before .before in
     let fits = room (at .before) in

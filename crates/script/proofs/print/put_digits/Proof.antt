@@ -12,27 +12,27 @@ abbrev μ-loop : tie.MeasureT-loop
 
 loop-holds : tie.Need-loop-holds Inv-loop μ-loop
 loop-holds c =
-    let a = c .before .args in none-yet 16 (a .out .now) (a .at) (a .count) (a .value)
+    let args = c .before .args in none-yet 16 (args .out .now) (args .at) (args .count) (args .value)
 
 slice-write-out : tie.Need-slice-write-out Inv-loop μ-loop
 slice-write-out c =
-    let at = c .before .before in rw (wide (at .before .before .pre) (at .loop .inv)) (omega arith)
+    let at = c .before .before in
+    rw (wide (at .before .before .pre) (at .loop .inv)) (omega arith)
 
 loop-again : tie.Need-loop-again Inv-loop μ-loop
 loop-again c =
     let at = c .before .before in
-    let l = at .loop in
-    let p : ℕ = at .before .before .args .at + (l .i - 1) in
-    one-more (at .before .before .pre) (l .i - 1) (omega arith)
-    (ap (λ (d : ℕ). set (l .out) p d) (c .digit .ensures)) (l .inv)
-
-same-length : tie.Need-same-length Inv-loop μ-loop
-same-length c = wide (c .before .before .before .pre) (c .before .loop .inv)
+    let loop = at .loop in
+    let place : ℕ = at .before .before .args .at + (loop .i - 1) in
+    one-more (at .before .before .pre) (loop .i - 1) (omega arith)
+    (ap (λ (d : ℕ). set (loop .out) place d) (c .hex-digit .ensures)) (loop .inv)
 
 returns : tie.Need-returns Inv-loop μ-loop
-returns c = all-written (c .before .before .before .pre) (omega arith) refl (c .before .loop .inv)
+returns here =
+    let at = here .before in
+    all-written (at .before .before .pre) (omega arith) refl (at .loop .inv)
 
 pub put-digits-spec : {M : Type 1} → statement M
 put-digits-spec = tie.close (tie.spec
     Inv-loop μ-loop loop-holds (search needs) (search needs) (search needs) slice-write-out
-    (λ c. omega arith) loop-again (search needs) same-length returns)
+    (λ here. omega arith) loop-again (search needs) (λ here. search wide) returns)

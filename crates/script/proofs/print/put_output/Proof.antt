@@ -7,14 +7,8 @@ use Rattle.script.proofs.print.put_output.Tie as tie
 
 pub put-output-spec : {M : Type 1} → statement M
 put-output-spec = tie.close (tie.spec
-    (search needs) (search needs) (λ c κs. omega arith) (search needs) (search needs)
-    (λ c κs. omega arith) (search needs) (λ c κs. omega arith)
-    (λ c. keeps (c .before .before .put-text .ensures))
-    (λ c. let call = c .before .before in
-    named behindNumber (call .before .before .before .enum-told .given .1) (call .put-text .ensures))
-    (λ c. keeps (c .before .before .put-text2 .ensures))
-    (λ c. let call = c .before .before in
-    named behindNumber (call .before .before .before .enum-told2 .given .1) (call .put-text2 .ensures))
-    (λ c. keeps (c .before .before .put-answer .ensures))
-    (λ c. let call = c .before .before in
-    named behindNumber (call .before .before .before .what .given .1) (call .put-answer .ensures)))
+    (search needs) (search needs) (λ here κs. omega arith) (search needs) (search needs)
+    (λ here κs. omega arith) (search needs) (λ here κs. omega arith)
+    (λ here. search keeps) (λ here. search (named behindNumber))
+    (λ here. search keeps) (λ here. search (named behindNumber))
+    (λ here. search keeps) (λ here. search (named behindNumber)))

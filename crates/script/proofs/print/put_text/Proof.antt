@@ -17,9 +17,9 @@ loop-holds c = (search needs, paste-zero (c .args .out .now) (c .args .at) (c .a
 -- the buffer has its length
 wide : (at : tie.At-loop Inv-loop μ-loop) → length (at .loop .out) ≡ length (at .before .args .out .now)
 wide at =
-    let a = at .before .args in
+    let args = at .before .args in
     ap length (at .loop .inv .1)
-    ∙ length-paste (a .out .now) (a .at) (a .text .now) (at .loop .i) (omega arith) (omega arith)
+    ∙ length-paste (args .out .now) (args .at) (args .text .now) (at .loop .i) (omega arith) (omega arith)
 
 slice-write-out : tie.Need-slice-write-out Inv-loop μ-loop
 slice-write-out c = rw (wide (c .before .before)) (omega arith)
@@ -27,11 +27,12 @@ slice-write-out c = rw (wide (c .before .before)) (omega arith)
 loop-again : tie.Need-loop-again Inv-loop μ-loop
 loop-again c =
     let at = c .before .before in
-    let a = at .before .args in
+    let args = at .before .args in
     let i = at .loop .i in (
       omega arith,
-      ap (λ (l : List ℕ). set l (a .at + i) (getD (a .text .now) i 0)) (at .loop .inv .1)
-          ∙ rw (add-one i) (paste-suc (a .out .now) (a .at) (a .text .now) i 0 (omega arith) (omega arith)),
+      ap (λ (bytes : List ℕ). set bytes (args .at + i) (getD (args .text .now) i 0)) (at .loop .inv .1)
+          ∙ rw (add-one i)
+          (paste-suc (args .out .now) (args .at) (args .text .now) i 0 (omega arith) (omega arith)),
     )
 
 same-length : tie.Need-same-length Inv-loop μ-loop
@@ -39,13 +40,13 @@ same-length c = wide (c .before)
 
 returns : tie.Need-returns Inv-loop μ-loop
 returns c =
-    let a = c .before .before .args in
-    let l = c .before .loop in
-    let all : l .i ≡ length (a .text .now) = omega arith in
+    let args = c .before .before .args in
+    let loop = c .before .loop in
+    let all : loop .i ≡ length (args .text .now) = omega arith in
     record {
       fits = c .before .before .pre;
-      ends = ap (λ (n : ℕ). a .at + n) all;
-      holds = rw (all, take-all (length (a .text .now)) (a .text .now) (omega arith)) at (l .inv .1);
+      ends = ap (λ (n : ℕ). args .at + n) all;
+      holds = rw (all, take-all (length (args .text .now)) (args .text .now) (omega arith)) at (loop .inv .1);
     }
 
 pub put-text-spec : {M : Type 1} → statement M

@@ -9,10 +9,10 @@ slice-write-out-2 c = simp length-set (omega arith)
 
 returns : tie.Need-returns
 returns c =
-    let a = c .args in
-    let ones = digit-below-ten (a .two % 10) (omega arith) in
-    let tens = digit-below-ten (a .two / 10) (omega arith) in
-    λ i. set (set (a .out .now) (a .at + 1) (ones i)) (a .at) (tens i)
+    let args = c .args in
+    let ones = digit-below-ten (args .two % 10) (omega arith) in
+    let tens = digit-below-ten (args .two / 10) (omega arith) in
+    λ i. set (set (args .out .now) (args .at + 1) (ones i)) (args .at) (tens i)
 
 pub put-two-spec : {M : Type 1} → statement M
 put-two-spec = tie.close (tie.spec

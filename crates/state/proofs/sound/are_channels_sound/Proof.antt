@@ -1,9 +1,8 @@
 -- `are_channels_sound`: the clients passed have sound channels, and then the channels' own test. Assumes
 -- nothing.
 use Rattle.basics.proofs.Prelude.{_≡_, sym, true, _-_, _≤_, arith, needs}
-use Rattle.basics.specs.Tests.{allBelow}
+use Rattle.register.proofs.Vocabulary.{allBelow, mostClients}
 use Rattle.channel.proofs.Passing.{none-passed, one-more, fails-here, all-passed}
-use Rattle.register.specs.Settings.{mostClients}
 use Rattle.state.specs.Sound.{areLinksSound, areChannelsSound}
 use Rattle.state.proofs.sound.are_channels_sound.Statement.{statement}
 use Rattle.state.proofs.sound.are_channels_sound.Tie as tie

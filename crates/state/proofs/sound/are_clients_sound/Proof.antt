@@ -3,11 +3,10 @@ use Rattle.basics.proofs.Prelude.{_≡_, _∙_, Bool, true, List, getD, take, d
 use Rattle.basics.proofs.Prelude.{ltb, lt-ltb, needs}
 use mir.Syntax.{w64}
 use mir.Val.{Fits}
-use Rattle.basics.specs.Tests.{allBelow}
+use Rattle.register.proofs.Vocabulary.{allBelow, mostClients}
 use Rattle.basics.proofs.Tests.{below-of}
 use Rattle.channel.proofs.Passing.{none-passed, one-more, fails-here, all-passed}
-use Rattle.client.specs.Memory as client
-use Rattle.register.specs.Settings.{mostClients}
+use Rattle.client.specs.Memory.{clientLength}
 use Rattle.state.specs.declared.Settings.{Settings}
 use Rattle.state.specs.State.{clientStart, clientsLength}
 use Rattle.state.specs.Sound.{isClientSound, areSmall, clientTest, areClientsSound}
@@ -28,8 +27,8 @@ abbrev μ-loop : tie.MeasureT-loop
 
 -- what the test of one client says: the part that the code lends is the client's
 tested : (settings : Settings) (l : List ℕ) (i : ℕ) {at : ℕ} {r : Bool} → at ≡ clientStart i
-    → r ≡ isClientSound settings i (take (at + client.words - at) (drop at l)) → r ≡ clientTest settings l i
-tested settings l i {at} e h = let n : at + client.words - at ≡ client.words = omega arith in h ∙ rw (n, e)
+    → r ≡ isClientSound settings i (take (at + clientLength - at) (drop at l)) → r ≡ clientTest settings l i
+tested settings l i {at} e h = let n : at + clientLength - at ≡ clientLength = omega arith in h ∙ rw (n, e)
 
 pub are-clients-sound-spec : {M : Type 1} → statement M
 unfolding areClientsSound

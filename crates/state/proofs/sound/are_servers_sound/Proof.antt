@@ -1,8 +1,7 @@
 -- `are_servers_sound`: the servers passed are sound. Assumes nothing.
 use Rattle.basics.proofs.Prelude.{_≡_, ap, _∙_, Bool, true, List, ℕ, _-_, _≤_, arith, needs}
-use Rattle.basics.specs.Tests.{allBelow}
+use Rattle.register.proofs.Vocabulary.{allBelow, mostServers}
 use Rattle.channel.proofs.Passing.{none-passed, one-more, fails-here, all-passed}
-use Rattle.register.specs.Settings.{mostServers}
 use Rattle.state.specs.declared.Settings.{Settings}
 use Rattle.state.specs.State.{serverStart}
 use Rattle.state.specs.Sound.{serverTest, areServersSound}

@@ -1,10 +1,8 @@
 -- `count_faulty`: the loop counts the bits. The invariant is that the count so far is the definition's.
 -- Assumes nothing.
+use Rattle.register.proofs.Vocabulary.{countBelow, contains, mostServers}
 use Rattle.basics.proofs.Prelude.{_≡_, suc, _-_, _≤_, arith, needs}
-use Rattle.basics.specs.Counting.{countBelow}
-use Rattle.register.specs.Settings.{mostServers}
 use Rattle.replies.proofs.Steps.{bool-le, count-step, count-end}
-use Rattle.server.specs.State.{contains}
 use Rattle.state.proofs.sound.count_faulty.Statement.{statement}
 use Rattle.state.proofs.sound.count_faulty.Tie as tie
 

@@ -1,6 +1,6 @@
 -- `has`: the one with number n is at place n - 1. Assumes nothing.
+use Rattle.basics.specs.BitSets.{contains}
 use Rattle.basics.proofs.Prelude.{_≡_, ap, _∙_, suc, _-_, arith, needs}
-use Rattle.server.specs.State.{contains}
 use Rattle.steps.proofs.process.has.Statement.{statement}
 use Rattle.steps.proofs.process.has.Tie as tie
 

@@ -2,12 +2,10 @@
 -- Assumes nothing.
 use Rattle.basics.proofs.Prelude.{_≡_, sym, ap, _∙_, _++_, drop, ℕ, _+_, _-_, leb, leb-false, not-true}
 use Rattle.basics.proofs.Prelude.{not-false, needs}
-use Rattle.message.specs.declared.Message.the-variants.{GetInfo}
-use Rattle.message.specs.declared.ReadNumber.{ReadNumber}
-use Rattle.message.specs.Layout.{lastRead}
+use Rattle.register.proofs.Vocabulary.{GetInfo, ReadNumber, lastRead}
 use Rattle.register.specs.declared.Answer.the-variants.{Went}
 use Rattle.client.specs.declared.Client.{Client}
-use Rattle.client.specs.Memory.{headOf}
+use Rattle.client.specs.Memory.{headOf, clientLength, repliesAt}
 use Rattle.state.specs.State.{clientStart}
 use Rattle.steps.specs.InMemory.{sendUp, toAll, result, shown, nextOf}
 use Rattle.steps.proofs.Lent.{lent, put-back}
@@ -18,9 +16,9 @@ abbrev start-of : tie.After-is-last-read → tie.Start
 start-of c = c .before .before .before
 
 -- the read number that was loaded is the one that the memory shows
-shows : (s : tie.Start) → let a = s .args in
+shows : (start : tie.Start) → let a = start .args in
     a .client .reads .0 ≡ shown (a .settings) (a .clients .now) (a .slots .now) (a .d) .reads .0
-shows s = ap (λ (x : Client). x .reads .0) (s .pre .5)
+shows start = ap (λ (x : Client). x .reads .0) (start .pre .5)
 
 -- whether it is the last
 last : (c : tie.After-is-last-read) → let a = start-of c .args in
@@ -53,15 +51,15 @@ returns-3 c =
     let at-next = at-start .before .before .before in
     let at-if2 = at-next .before in
     let at-if1 = at-if2 .before .before .before in
-    let s = start-of (at-if1 .before) in
-    let a = s .args in
+    let start = start-of (at-if1 .before) in
+    let a = start .args in
     let next : at-next .next-read .result ≡ nextOf (a .settings) (a .clients .now) (a .slots .now) (a .d) =
-    at-next .next-read .ensures ∙ ap (λ (n : ℕ). record { 0 = n + 1 }) (shows s) in
+    at-next .next-read .ensures ∙ ap (λ (n : ℕ). record { 0 = n + 1 }) (shows start) in
     let place = at-start .client-start .ensures in
-    let stored = put-back (clientStart (a .d - 1)) 95 (a .clients .now) _ place _ _
+    let stored = put-back (clientStart (a .d - 1)) clientLength (a .clients .now) _ place _ _
     (at-store .store .ensures
-    ∙ (λ j. headOf (a .phase) (next j) ++ drop 4
-    (lent (clientStart (a .d - 1)) 95 (a .clients .now) _ place j))) in
+    ∙ (λ j. headOf (a .phase) (next j) ++ drop repliesAt
+    (lent (clientStart (a .d - 1)) clientLength (a .clients .now) _ place j))) in
     let sent = at-start .before .broadcast .ensures
     ∙ ap (λ (n : ReadNumber). toAll (a .settings) (a .slots .now) (a .d - 1) (GetInfo n)) next in
     rw (

@@ -1,61 +1,45 @@
 -- `lie`: the rungs in turn, and the message sent. Assumes nothing.
-use Rattle.basics.proofs.Prelude.{sym, _∙_, arith, not-true, not-false, needs}
-use Rattle.steps.specs.InMemory.{lieStep}
+use Rattle.basics.proofs.Prelude.{arith, needs}
+use Rattle.refusal.proofs.Ladders.{stop, next}
+use Rattle.client.proofs.Facts.{holds}
+use Rattle.client.proofs.Ladders.{rung}
 use Rattle.steps.proofs.Lying.{reply-small}
-use Rattle.steps.proofs.Named.{There, both-there}
+use Rattle.steps.proofs.Named.{There, both-told}
+use Rattle.steps.proofs.Rungs.{lie-refused, lie-on}
 use Rattle.steps.proofs.step.lie.Statement.{statement}
 use Rattle.steps.proofs.step.lie.Tie as tie
 
--- who is named is there
-there : (c : tie.Else1) → There (c .before .before .args .settings) (c .before .before .args .d)
-    (c .before .before .args .k)
-there c =
-    let a = c .before .before .args in
-    both-there (a .settings) (a .d) (a .k) (sym (c .before .both-exist .ensures) ∙ not-false _ (c .if1 .left))
-
 returns : tie.Need-returns
-unfolding lieStep
-returns c = rw (sym (c .before .both-exist .ensures) ∙ not-true _ (c .if1 .taken))
+returns c = lie-refused _ _ _ _ _ _ _ (stop (search rung))
 
 returns-2 : tie.Need-returns-2
-unfolding lieStep
-returns-2 c =
-    let at-if1 = c .before .before .before in
-    rw (
-      sym (at-if1 .before .both-exist .ensures) ∙ not-false _ (at-if1 .if1 .left),
-      sym (c .before .has .ensures) ∙ not-true _ (c .if2 .taken),
-    )
+returns-2 c = lie-refused _ _ _ _ _ _ _ (next (search rung) (stop (search rung)))
 
 returns-3 : tie.Need-returns-3
-unfolding lieStep
-returns-3 c =
-    let at-has = c .before .before .before in
-    let at-if1 = at-has .before .before in
-    rw (
-      sym (at-if1 .before .both-exist .ensures) ∙ not-false _ (at-if1 .if1 .left),
-      sym (at-has .has .ensures) ∙ not-false _ (c .before .before .if2 .left),
-      sym (c .before .is-reply .ensures) ∙ not-true _ (c .if3 .taken),
-    )
+returns-3 c = lie-refused _ _ _ _ _ _ _ (next (search rung) (next (search rung) (stop (search rung))))
+
+-- who is named is there
+abbrev start-of : tie.Else1 → tie.Start
+start-of c = c .before .before
+
+there : (c : tie.Else1) → let a = start-of c .args in There (a .settings) (a .d) (a .k)
+there c = search both-told
+
+-- where a place comes from
+abbrev named : tie.Else3 → tie.Else1
+named c = c .before .before .before .before .before
 
 lie-with-requires : tie.Need-lie-with-requires
 lie-with-requires c κs =
-    let at-if3 = c .before in
-    let at-has = at-if3 .before .before .before in
-    let named = there (at-has .before .before) in
-    let reply = sym (at-if3 .before .is-reply .ensures) ∙ not-false _ (at-if3 .if3 .left) in
-    omega (arith, reply-small _ reply)
+    let found = named (c .before) in
+    let both = there found in
+    omega (arith, reply-small (start-of found .args .words) (search holds))
 
 returns-4 : tie.Need-returns-4
-unfolding lieStep
 returns-4 c =
-    let at-if3 = c .before .before in
-    let at-has = at-if3 .before .before .before in
-    let at-if1 = at-has .before .before in
-    rw (
-      sym (at-if1 .before .both-exist .ensures) ∙ not-false _ (at-if1 .if1 .left),
-      sym (at-has .has .ensures) ∙ not-false _ (at-if3 .before .before .if2 .left),
-      sym (at-if3 .before .is-reply .ensures) ∙ not-false _ (at-if3 .if3 .left),
-    ) (c .lie-with .ensures)
+    let a = start-of (named (c .before .before)) .args in
+    lie-on (a .settings) (a .stopped) (a .slots .now) (a .k) (a .d) (a .words) _ (c .lie-with .ensures)
+    (search rung) (search rung) (search rung)
 
 pub lie-spec : {M : Type 1} → statement M
 lie-spec =

@@ -1,87 +1,63 @@
 -- `serve`: the rungs in turn, and what is left to refuse. Assumes nothing.
-use Rattle.basics.proofs.Prelude.{_≡_, sym, ap, _∙_, true, _&&_, ℕ, _-_, arith, eq-eqb, ne-eqb, not-true}
-use Rattle.basics.proofs.Prelude.{not-false, needs}
-use Rattle.channel.specs.Memory.{countAt}
-use Rattle.register.specs.Settings.{isClient, isServer}
-use Rattle.state.specs.State.{settingsOf, upIndex}
-use Rattle.steps.specs.InMemory.{serveStep}
-use Rattle.steps.proofs.Named.{There, both-there}
+use Rattle.basics.proofs.Prelude.{_-_, arith, needs}
+use Rattle.refusal.proofs.Ladders.{stop, next}
+use Rattle.client.proofs.Ladders.{rung}
+use Rattle.steps.proofs.Named.{There, both-told}
+use Rattle.steps.proofs.Rungs.{member-rung, empty-rung, waiting-rung, one-waits}
+use Rattle.steps.proofs.Rungs.{serve-refused, serve-on}
 use Rattle.steps.proofs.Ways.{request-goes}
 use Rattle.steps.proofs.step.serve.Statement.{statement}
 use Rattle.steps.proofs.step.serve.Tie as tie
 
--- who is named is there
-both-exist : (c : tie.Else1) → let a = c .before .before .before .args in
-    isClient (settingsOf (a .settings)) (a .d) && isServer (settingsOf (a .settings)) (a .k) ≡ true
-both-exist c = sym (c .before .both-exist .ensures) ∙ not-false _ (c .if1 .left)
+returns : tie.Need-returns
+returns c = serve-refused _ _ _ _ _ _ _ (stop (search rung))
 
-there : (c : tie.Else1) → let a = c .before .before .before .args in There (a .settings) (a .d) (a .k)
-there c = let a = c .before .before .before .args in both-there (a .settings) (a .d) (a .k) (both-exist c)
+returns-2 : tie.Need-returns-2
+returns-2 c = serve-refused _ _ _ _ _ _ _ (next (search rung) (stop (search member-rung)))
+
+returns-3 : tie.Need-returns-3
+returns-3 c =
+    serve-refused _ _ _ _ _ _ _ (next (search rung) (next (search member-rung) (stop (search empty-rung))))
+
+-- who is named is there
+abbrev start-of : tie.Else1 → tie.Start
+start-of c = c .before .before .before
+
+there : (c : tie.Else1) → let a = start-of c .args in There (a .settings) (a .d) (a .k)
+there c = search both-told
 
 -- where a place comes from
 abbrev passed : tie.Else2 → tie.Else1
 passed c = c .before .before .before
 
-abbrev honest-of : tie.After-count → tie.Else2
-honest-of c = c .before .before .before
-
--- how many messages wait
-waiting : (c : tie.After-count) → let a = passed (honest-of c) .before .before .before .args in
-    countAt (a .slots .now) (upIndex (a .d - 1) (a .k - 1)) ≡ c .count .result
-waiting c =
-    let a = passed (honest-of c) .before .before .before .args in
-    sym (c .count .ensures ∙ ap (λ (n : ℕ). countAt (a .slots .now) n) (c .before .up .ensures))
-
-returns : tie.Need-returns
-unfolding serveStep
-returns c = rw (sym (c .before .both-exist .ensures) ∙ not-true _ (c .if1 .taken))
-
-returns-2 : tie.Need-returns-2
-unfolding serveStep
-returns-2 c = rw (both-exist (c .before .before .before), sym (c .before .has .ensures) ∙ c .if2 .taken)
-
-returns-3 : tie.Need-returns-3
-unfolding serveStep
-returns-3 c =
-    let h = honest-of (c .before) in
-    rw (
-      both-exist (passed h),
-      sym (h .before .has .ensures) ∙ h .if2 .left,
-      eq-eqb _ 0 (waiting (c .before) ∙ c .if3 .taken),
-    )
+abbrev waits : tie.Else3 → tie.Else1
+waits c = passed (c .before .before .before .before)
 
 serve-oldest-requires : tie.Need-serve-oldest-requires
 serve-oldest-requires c κs =
-    let p = passed (honest-of (c .before .before .before)) in
-    let s = p .before .before .before in
-    let named = there p in
-    let goes-up = request-goes (s .args .slots .now) (s .pre .5) (s .args .d) (s .args .k)
-    (omega (arith, named))
-    (omega (arith, named, s .pre .1)) (omega (arith, named)) (omega (arith, named, s .pre .0))
-    (omega (arith, waiting (c .before .before .before))) in
-    let sound = s .pre .3 (s .args .k - 1) (omega (arith, named, s .pre .0)) in (
-      s .pre .1,
+    let found = waits (c .before .before) in
+    let start = start-of found in
+    let named = there found in (
+      start .pre .1,
       omega (arith, named),
       omega (arith, named),
       omega (arith, named),
-      omega (arith, named, s .pre .0),
-      s .pre .2,
-      sound,
-      s .pre .4,
-      goes-up,
+      omega (arith, named, start .pre .0),
+      start .pre .2,
+      start .pre .3 (start .args .k - 1) (omega (arith, named, start .pre .0)),
+      start .pre .4,
+      request-goes (start .args .slots .now) (start .pre .5) (start .args .d) (start .args .k)
+          (omega (arith, named))
+          (omega (arith, named, start .pre .1)) (omega (arith, named)) (omega (arith, named, start .pre .0))
+          (search one-waits),
     )
 
 returns-4 : tie.Need-returns-4
-unfolding serveStep
 returns-4 c =
-    let at-serve-oldest = c .before .before in
-    let at-if3 = at-serve-oldest .before .before .before in
-    let h = honest-of (at-if3 .before) in
-    rw (
-      both-exist (passed h),
-      sym (h .before .has .ensures) ∙ h .if2 .left,
-      ne-eqb _ 0 (λ e. at-if3 .if3 .left (sym (waiting (at-if3 .before)) ∙ e)),
-    ) (at-serve-oldest .serve-oldest .ensures)
+    let served = c .before .before in
+    let a = start-of (waits (served .before .before .before)) .args in
+    serve-on (a .settings) (a .stopped) (a .servers .now) (a .slots .now) (a .k) (a .d) _
+    (served .serve-oldest .ensures) (search rung) (search member-rung) (search waiting-rung)
 
 pub serve-spec : {M : Type 1} → statement M
 serve-spec =

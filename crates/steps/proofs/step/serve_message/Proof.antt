@@ -5,6 +5,7 @@ use Rattle.server.specs.Memory as server
 use Rattle.server.specs.State.{sound}
 use Rattle.server.specs.Serving.{afterOf, servedOf}
 use Rattle.server.proofs.Memory.{loaded-sound}
+use Rattle.server.specs.Memory.{serverLength}
 use Rattle.state.specs.State.{serverStart, serverAt}
 use Rattle.steps.proofs.Lent.{lent, put-back}
 use Rattle.steps.proofs.Serving.{serve-refused, serve-gives}
@@ -24,16 +25,16 @@ loaded : (c : tie.After-load) → let a = start-of c .args in
 loaded c =
     let a = start-of c .args in
     c .load .ensures
-    ∙ ap server.loaded (lent (serverStart (a .k - 1)) 2 (a .servers .now) _
+    ∙ ap server.loaded (lent (serverStart (a .k - 1)) serverLength (a .servers .now) _
     (place-of c .server-start .ensures))
 
 after-requires : tie.Need-after-requires
 after-requires c κs =
-    let s = start-of c in (
-      ap sound (loaded c) ∙ loaded-sound (serverAt (s .args .servers .now) (s .args .k - 1))
-          (s .pre .6),
-      s .pre .1,
-      omega (arith, s .pre .0, s .pre .2),
+    let start = start-of c in (
+      ap sound (loaded c) ∙ loaded-sound (serverAt (start .args .servers .now) (start .args .k - 1))
+          (start .pre .6),
+      start .pre .1,
+      omega (arith, start .pre .0, start .pre .2),
     )
 
 -- what the server makes of the message
@@ -50,10 +51,10 @@ makes c =
 returns : tie.Need-returns
 returns c =
     let made = after-of (c .before) in
-    let s = start-of (made .before) in
-    let a = s .args in
+    let start = start-of (made .before) in
+    let a = start .args in
     serve-refused (a .settings) (a .stopped) (a .servers .now) (a .slots .now) (a .k) (a .d) _ _ _ _
-    (s .pre .1) (s .pre .7) (makes made)
+    (start .pre .1) (start .pre .7) (makes made)
     (c .before .deliver .ensures) (not-true _ (c .if1 .taken))
 
 returns-2 : tie.Need-returns-2
@@ -61,12 +62,12 @@ returns-2 c =
     let at-store = c .before .before in
     let at-if1 = at-store .before .before in
     let made = after-of (at-if1 .before) in
-    let s = start-of (made .before) in
-    let a = s .args in
-    serve-gives (a .settings) (a .stopped) (a .servers .now) (a .slots .now) (a .k) (a .d) _ _ _ _ (s .pre .1)
-    (s .pre .7) (makes made)
+    let start = start-of (made .before) in
+    let a = start .args in
+    serve-gives (a .settings) (a .stopped) (a .servers .now) (a .slots .now) (a .k) (a .d) _ _ _ _
+    (start .pre .1) (start .pre .7) (makes made)
     (at-if1 .before .deliver .ensures) (not-false _ (at-if1 .if1 .left)) _
-    (put-back (serverStart (a .k - 1)) 2 (a .servers .now) _
+    (put-back (serverStart (a .k - 1)) serverLength (a .servers .now) _
     (place-of (made .before) .server-start .ensures) _ _
     (at-store .store .ensures))
 

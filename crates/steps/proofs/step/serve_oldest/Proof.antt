@@ -9,9 +9,10 @@ use Rattle.steps.proofs.step.serve_oldest.Tie as tie
 
 oldest-request-requires : tie.Need-oldest-request-requires
 oldest-request-requires c κs =
-    let s = c .before .before .before in (
-      omega (arith, c .before .up .ensures, s .pre),
-      ap (λ (n : ℕ). goes false (messageAt (s .args .slots .now) n)) (c .before .up .ensures) ∙ s .pre .8,
+    let start = c .before .before .before in (
+      omega (arith, c .before .up .ensures, start .pre),
+      ap (λ (n : ℕ). goes false (messageAt (start .args .slots .now) n)) (c .before .up .ensures)
+          ∙ start .pre .8,
     )
 
 abbrev start-of : tie.After-oldest-request → tie.Start
@@ -25,27 +26,29 @@ oldest-is c = c .oldest-request .ensures
 
 returns : tie.Need-returns
 returns c =
-    let o = c .before .before .before .before in
-    let s = start-of o in
-    let a = s .args in
-    let told = c .before .before .enum-told .given in
-    drop-gives (a .settings) (a .stopped) (a .servers .now) (a .slots .now) (a .k) (a .d) (s .pre .3)
-    (s .pre .4) (s .pre .0) (s .pre .7)
-    (s .pre .6) _ (sym (oldest-is o) ∙ told .1) _ _ (o .before .before .up .ensures) (c .take .ensures)
+    let told = c .before .before in
+    let found = told .before .before in
+    let start = start-of found in
+    let a = start .args in
+    drop-gives (a .settings) (a .stopped) (a .servers .now) (a .slots .now) (a .k) (a .d) (start .pre .3)
+    (start .pre .4) (start .pre .0) (start .pre .7)
+    (start .pre .6) _ (sym (oldest-is found) ∙ told .enum-told .given .1) _ _
+    (found .before .before .up .ensures) (c .remove .ensures)
 
 serve-message-requires : tie.Need-serve-message-requires
 serve-message-requires c κs =
-    let o = c .before .before .before .before .before in
-    let s = start-of o in (
-      s .pre .0,
-      s .pre .1,
-      s .pre .2,
-      s .pre .3,
-      s .pre .4,
-      s .pre .5,
-      s .pre .6,
-      sym (oldest-is o) ∙ c .before .before .before .message .given .1,
-      s .pre .7,
+    let told = c .before .before .before in
+    let found = told .before .before in
+    let start = start-of found in (
+      start .pre .0,
+      start .pre .1,
+      start .pre .2,
+      start .pre .3,
+      start .pre .4,
+      start .pre .5,
+      start .pre .6,
+      sym (oldest-is found) ∙ told .message .given .1,
+      start .pre .7,
     )
 
 returns-2 : tie.Need-returns-2

@@ -1,10 +1,9 @@
 -- `start`: the rungs in turn, and what is left to refuse. Assumes nothing.
+use Rattle.register.proofs.Vocabulary.{contains, isIdle, isClient, mostClients}
 use Rattle.basics.proofs.Prelude.{_≡_, sym, ap, _∙_, true, _-_, _≤_, arith, not-true, not-false, needs}
-use Rattle.register.specs.Client.{isIdle}
-use Rattle.register.specs.Settings.{isClient}
-use Rattle.server.specs.State.{contains}
 use Rattle.client.specs.declared.Client.{Client}
 use Rattle.client.specs.Memory as client
+use Rattle.client.specs.Memory.{clientLength}
 use Rattle.state.specs.State.{settingsOf, stoppedIn, clientStart, clientAt}
 use Rattle.steps.specs.InMemory.{shown}
 use Rattle.steps.proofs.Lent.{lent}
@@ -35,11 +34,15 @@ loaded c =
     let a = start-of c .args in
     c .load .ensures
     ∙ ap (client.loaded (a .d) (a .settings .f))
-    (lent (clientStart (a .d - 1)) 95 (a .clients .now) _ (c .before .before .before .client-start .ensures))
+    (lent (clientStart (a .d - 1)) clientLength (a .clients .now) _
+    (c .before .before .before .client-start .ensures))
 
 -- whether it is idle
 abbrev load-of : tie.After-is-idle → tie.After-load
 load-of c = c .before .before .before
+
+abbrev idle-at : tie.Else4 → tie.After-is-idle
+idle-at c = c .before .before .before
 
 idle : (c : tie.After-is-idle) → let a = start-of (load-of c) .args in
     isIdle (shown (a .settings) (a .clients .now) (a .slots .now) (a .d) .phase) ≡ c .is-idle .result
@@ -58,36 +61,40 @@ returns-2 c = rw (is-there (passed (load-of (c .before))), stopped (c .before) �
 
 returns-3 : tie.Need-returns-3
 returns-3 c =
-    let i = c .before .before in
-    rw (is-there (passed (load-of i)), stopped i ∙ c .before .if2 .left, idle i ∙ not-true _ (c .if3 .taken))
+    let at-idle = c .before .before in
+    rw (
+      is-there (passed (load-of at-idle)),
+      stopped at-idle ∙ c .before .if2 .left,
+      idle at-idle ∙ not-true _ (c .if3 .taken),
+    )
 
 returns-4 : tie.Need-returns-4
 returns-4 c =
-    let i = c .before .before .before in
+    let at-idle = c .before .before .before in
     rw (
-      is-there (passed (load-of i)),
-      stopped i ∙ c .before .before .if2 .left,
-      idle i ∙ not-false _ (c .before .if3 .left),
+      is-there (passed (load-of at-idle)),
+      stopped at-idle ∙ c .before .before .if2 .left,
+      idle at-idle ∙ not-false _ (c .before .if3 .left),
       c .if4 .taken,
     )
 
 begin-requires : tie.Need-begin-requires
 begin-requires c κs =
-    let l = load-of (c .before .before .before .before .before) in
-    let named = there (passed l) in
-    let high : start-of l .args .d ≤ 6 = omega (arith, named, start-of l .pre .1) in
-    let same = loaded l in
+    let loaded-at = load-of (idle-at (c .before .before)) in
+    let named = there (passed loaded-at) in
+    let high : start-of loaded-at .args .d ≤ mostClients = omega (arith, named, start-of loaded-at .pre .1) in
+    let same = loaded loaded-at in
     search needs
 
 returns-5 : tie.Need-returns-5
 returns-5 c =
     let at-begin = c .before .before in
     let at-if4 = at-begin .before .before .before in
-    let i = at-if4 .before .before .before in
+    let at-idle = idle-at at-if4 in
     rw (
-      is-there (passed (load-of i)),
-      stopped i ∙ at-if4 .before .before .if2 .left,
-      idle i ∙ not-false _ (at-if4 .before .if3 .left),
+      is-there (passed (load-of at-idle)),
+      stopped at-idle ∙ at-if4 .before .before .if2 .left,
+      idle at-idle ∙ not-false _ (at-if4 .before .if3 .left),
       at-if4 .if4 .left,
     ) (at-begin .begin .ensures)
 

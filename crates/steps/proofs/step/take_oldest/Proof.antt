@@ -3,16 +3,13 @@
 -- Assumes nothing.
 use Rattle.basics.proofs.Prelude.{_≡_, refl, sym, ap, _∙_, true, List, take, drop, ℕ, _+_, _-_, arith}
 use Rattle.basics.proofs.Prelude.{not-true, needs}
-use Rattle.message.specs.declared.Message.{Message}
-use Rattle.message.specs.declared.Unpacked.the-variants.{Good}
-use Rattle.message.specs.Layout.{goes}
-use Rattle.channel.specs.Memory.{taken}
-use Rattle.register.specs.Thresholds.{size}
+use Rattle.register.proofs.Vocabulary.{Message, Good, goes, size}
 use Rattle.client.specs.declared.Client.{Client}
 use Rattle.client.specs.Memory as client
 use Rattle.client.specs.Sound.{isSoundMemory}
 use Rattle.client.specs.Taking.{isTaken}
 use Rattle.client.proofs.Dropping.{not-taken}
+use Rattle.client.specs.Memory.{clientLength}
 use Rattle.state.specs.State.{clientStart, clientAt, messageAt}
 use Rattle.steps.specs.InMemory.{result, replyAt, takeOldest}
 use Rattle.steps.proofs.Lent.{lent}
@@ -33,11 +30,15 @@ start-of c = start-at (first-of c)
 abbrev place-of : tie.After-load → tie.After-client-start
 place-of c = c .before .before .before
 
+abbrev load-of : tie.After-is-taken → tie.After-load
+load-of c = c .before .before .before
+
 oldest-reply-requires : tie.Need-oldest-reply-requires
 oldest-reply-requires c κs =
-    let s = c .before .before .before in (
-      omega (arith, c .before .down .ensures, s .pre),
-      ap (λ (n : ℕ). goes true (messageAt (s .args .slots .now) n)) (c .before .down .ensures) ∙ s .pre .9,
+    let start = c .before .before .before in (
+      omega (arith, c .before .down .ensures, start .pre),
+      ap (λ (n : ℕ). goes true (messageAt (start .args .slots .now) n)) (c .before .down .ensures)
+          ∙ start .pre .9,
     )
 
 -- what is found is the oldest reply
@@ -58,11 +59,11 @@ message-is c = sym (oldest-is (first-of c)) ∙ c .before .before .message .give
 abbrev part : tie.After-client-start → List ℕ
 part c =
     let at = c .client-start .result in
-    take (at + 95 - at) (drop at (start-of c .args .clients .now))
+    take (at + clientLength - at) (drop at (start-of c .args .clients .now))
 
 part-is : (c : tie.After-client-start)
     → part c ≡ clientAt (start-of c .args .clients .now) (start-of c .args .d - 1)
-part-is c = lent (clientStart (start-of c .args .d - 1)) 95 (start-of c .args .clients .now) _
+part-is c = lent (clientStart (start-of c .args .d - 1)) clientLength (start-of c .args .clients .now) _
     (c .client-start .ensures)
 
 -- the client that is loaded
@@ -77,67 +78,68 @@ number c = ap (λ (x : Client). x .number) (loaded c)
 
 is-taken-requires : tie.Need-is-taken-requires
 is-taken-requires c κs =
-    let l = c .before .before in
-    let s = start-of (place-of l) in (
+    let load = c .before .before in
+    let start = start-of (place-of load) in (
       search needs,
-      s .pre .4,
-      omega (arith, s .pre .0, s .pre .5),
-      l .load .ensures
-          ∙ ap (λ (x : Client). client.loaded (x .number) (x .f) (part (place-of l)))
-          (sym (l .load .ensures)),
+      start .pre .4,
+      omega (arith, start .pre .0, start .pre .5),
+      load .load .ensures ∙ ap (λ (x : Client). client.loaded (x .number) (x .f) (part (place-of load)))
+          (sym (load .load .ensures)),
     )
 
 returns : tie.Need-returns
 returns c =
-    let o = c .before .before .before .before in
-    let s = start-at o in
-    let a = s .args in
-    off-gives (a .settings) (a .clients .now) (a .slots .now) (a .d) (a .k) (s .pre .0) (s .pre .7)
-    (s .pre .2) (s .pre .3) (s .pre .6) _ (sym (oldest-is o) ∙ c .before .before .enum-told .given .1) refl _
-    _ (o .before .before .down .ensures) (c .take .ensures)
+    let told = c .before .before in
+    let found = told .before .before in
+    let start = start-at found in
+    let a = start .args in
+    off-gives (a .settings) (a .clients .now) (a .slots .now) (a .d) (a .k) (start .pre .0) (start .pre .7)
+    (start .pre .2) (start .pre .3) (start .pre .6) _ (sym (oldest-is found) ∙ told .enum-told .given .1) refl
+    _ _ (found .before .before .down .ensures) (c .remove .ensures)
 
 returns-2 : tie.Need-returns-2
 returns-2 c =
     let at-is-taken = c .before .before .before in
-    let p = place-of (at-is-taken .before .before .before) in
-    let s = start-of p in
-    let a = s .args in
+    let place = place-of (load-of at-is-taken) in
+    let start = start-of place in
+    let a = start .args in
     let other = sym (at-is-taken .is-taken .ensures
-    ∙ ap (λ (l : List ℕ). isTaken (client.view l) (a .k) (message p)) (part-is p))
+    ∙ ap (λ (l : List ℕ). isTaken (client.view l) (a .k) (message place)) (part-is place))
     ∙ not-true _ (c .before .before .if1 .taken) in
-    off-gives (a .settings) (a .clients .now) (a .slots .now) (a .d) (a .k) (s .pre .0) (s .pre .7)
-    (s .pre .2) (s .pre .3) (s .pre .6) _ (message-is p)
-    (not-taken (size (a .settings .f)) (a .settings .f) (a .d) _ (a .k) (message p) other) _ _
-    (first-of p .before .before .down .ensures) (c .take2 .ensures)
+    off-gives (a .settings) (a .clients .now) (a .slots .now) (a .d) (a .k) (start .pre .0) (start .pre .7)
+    (start .pre .2) (start .pre .3) (start .pre .6) _ (message-is place)
+    (not-taken (size (a .settings .f)) (a .settings .f) (a .d) _ (a .k) (message place) other) _ _
+    (first-of place .before .before .down .ensures) (c .remove2 .ensures)
 
 take-message-requires : tie.Need-take-message-requires
 take-message-requires c κs =
-    let l = c .before .before .before .before .before .before in
-    let s = start-of (place-of l) in
-    let a = s .args in
-    let n = number l in (
-      s .pre .0,
-      s .pre .1,
-      omega (arith, n, s .pre .2),
-      omega (arith, n, s .pre .3),
-      s .pre .4,
-      s .pre .5,
-      loaded l ∙ ap (λ (d : ℕ). client.loaded d (a .settings .f) (clientAt (a .clients .now) (d - 1)))
-          (sym n),
-      ap (λ (d : ℕ). isSoundMemory (a .settings .f) (clientAt (a .clients .now) (d - 1))) n ∙ s .pre .6,
-      ap (λ (d : ℕ). replyAt (a .slots .now) d (a .k)) n ∙ message-is (place-of l),
-      s .pre .7,
-      s .pre .8,
+    let load = load-of (c .before .before .before) in
+    let start = start-of (place-of load) in
+    let a = start .args in
+    let same = number load in (
+      start .pre .0,
+      start .pre .1,
+      omega (arith, same, start .pre .2),
+      omega (arith, same, start .pre .3),
+      start .pre .4,
+      start .pre .5,
+      loaded load ∙ ap (λ (d : ℕ). client.loaded d (a .settings .f) (clientAt (a .clients .now) (d - 1)))
+          (sym same),
+      ap (λ (d : ℕ). isSoundMemory (a .settings .f) (clientAt (a .clients .now) (d - 1))) same
+          ∙ start .pre .6,
+      ap (λ (d : ℕ). replyAt (a .slots .now) d (a .k)) same ∙ message-is (place-of load),
+      start .pre .7,
+      start .pre .8,
     )
 
 returns-3 : tie.Need-returns-3
 returns-3 c =
     let at-take-message = c .before .before in
-    let at-is-taken = at-take-message .before .before .before .before in
-    let l = at-is-taken .before .before .before in
-    let a = start-of (place-of l) .args in
+    let at-if1 = at-take-message .before .before .before in
+    let load = load-of (at-if1 .before) in
+    let a = start-of (place-of load) .args in
     at-take-message .take-message .ensures
-    ∙ ap (λ (d : ℕ). takeOldest (a .settings) (a .clients .now) (a .slots .now) d (a .k)) (number l)
+    ∙ ap (λ (d : ℕ). takeOldest (a .settings) (a .clients .now) (a .slots .now) d (a .k)) (number load)
 
 pub take-oldest-spec : {M : Type 1} → statement M
 take-oldest-spec =

@@ -1,7 +1,6 @@
 -- `oldest_reply`: the two words of the first slot, which go down. Assumes nothing.
-use Rattle.basics.proofs.Prelude.{sym, ap, _∙_, true, needs}
-use Rattle.message.specs.declared.Words.{Words}
-use Rattle.message.specs.Layout.{goes, messageOf, wordsNumber}
+use Rattle.basics.proofs.Prelude.{ap, _∙_, true, needs}
+use Rattle.register.proofs.Vocabulary.{Words, goes, messageOf, wordsNumber}
 use Rattle.steps.proofs.transport.oldest_reply.Statement.{statement}
 use Rattle.steps.proofs.transport.oldest_reply.Tie as tie
 

@@ -1,6 +1,6 @@
 -- `reply_all`: the pair forwarded and acknowledged, where there is room for both. Assumes nothing.
 use Rattle.basics.proofs.Prelude.{refl, sym, ap, _∙_, List, ℕ, suc, not-true, not-false, needs}
-use Rattle.channel.specs.Memory.{taken}
+use Rattle.channel.specs.Memory.{removed}
 use Rattle.server.specs.declared.Sends.the-variants.{Forward}
 use Rattle.server.specs.Serving.{sentBy}
 use Rattle.steps.specs.InMemory.{sendDown}
@@ -16,8 +16,8 @@ returns c =
 returns-2 : tie.Need-returns-2
 returns-2 c =
     let at-forward = c .before .before .before in
-    let at-take = at-forward .before .before in
-    let at-if1 = at-take .before .before .before in
+    let at-remove = at-forward .before .before in
+    let at-if1 = at-remove .before .before .before in
     let a = at-if1 .before .before .before .args in (
       sym (not-false _ (at-if1 .if1 .left)) ∙ at-if1 .before .all-have-room .ensures (a .pair),
       reply-forward (a .stopped) _ (a .j) (suc (a .i)) (a .set) (a .pair) _ _ _
@@ -25,7 +25,7 @@ returns-2 c =
           (at-forward .forward .ensures) (c .send-one .ensures)
           ∙ ap (λ (l : List ℕ). sendDown (a .stopped) l (a .j)
           (sentBy (suc (a .i)) (Forward (a .set) (a .pair))))
-          (at-take .take .ensures ∙ ap (taken (a .slots .now)) (at-take .before .up .ensures)),
+          (at-remove .remove .ensures ∙ ap (removed (a .slots .now)) (at-remove .before .up .ensures)),
     )
 
 pub reply-all-spec : {M : Type 1} → statement M

@@ -1,9 +1,8 @@
 -- `reply_one`: to a stopped client the message is dropped; else it goes where there is room. Assumes nothing.
+use Rattle.register.proofs.Vocabulary.{contains, sent, capacity}
 use Rattle.basics.proofs.Prelude.{_≡_, refl, sym, ap, _∙_, false, List, ℕ, suc, _+_, leb, not-true, not-false}
 use Rattle.basics.proofs.Prelude.{needs}
-use Rattle.channel.specs.Memory.{countAt, taken}
-use Rattle.register.specs.Server.{sent}
-use Rattle.server.specs.State.{contains}
+use Rattle.channel.specs.Memory.{countAt, removed}
 use Rattle.state.specs.State.{downIndex}
 use Rattle.steps.specs.InMemory.{sendOne}
 use Rattle.steps.proofs.SendLaws.{put-message, send-working, send-stopped}
@@ -19,18 +18,20 @@ works c = let at-if1 = c .before .before .before in sym (at-if1 .before .is-in .
 
 -- whether its channel has room
 room : (c : tie.After-has-room) → let a = start-of c .args in
-    c .has-room .result ≡ leb (countAt (a .slots .now) (downIndex (a .i) (a .j)) + 1) 8
+    c .has-room .result ≡ leb (countAt (a .slots .now) (downIndex (a .i) (a .j)) + 1) capacity
 room c =
     c .has-room .ensures
-    ∙ ap (λ (n : ℕ). leb (countAt (start-of c .args .slots .now) n + 1) 8) (c .before .before .down .ensures)
+    ∙ ap (λ (n : ℕ). leb (countAt (start-of c .args .slots .now) n + 1) capacity)
+    (c .before .before .down .ensures)
 
 returns : tie.Need-returns
 returns c =
-    let at-is-in = c .before .before .before .before in
+    let at-if1 = c .before .before .before in
+    let at-is-in = at-if1 .before in
     let a = at-is-in .before .args in
-    let gone = sym (at-is-in .is-in .ensures) ∙ c .before .before .before .if1 .taken in (
+    let gone = sym (at-is-in .is-in .ensures) ∙ at-if1 .if1 .taken in (
       rw gone refl,
-      c .take .ensures ∙ ap (taken (a .slots .now)) (c .before .up .ensures)
+      c .remove .ensures ∙ ap (removed (a .slots .now)) (c .before .up .ensures)
           ∙ sym (send-stopped (a .stopped) _ (a .i) (a .j) (a .message) gone),
     )
 
@@ -39,16 +40,17 @@ returns-2 c = (rw (works (c .before)) (sym (not-true _ (c .if2 .taken)) ∙ room
 
 returns-3 : tie.Need-returns-3
 returns-3 c =
-    let at-take = c .before .before .before in
-    let at-if2 = at-take .before .before .before in
-    let r = at-if2 .before in
-    let a = start-of r .args in (
-      rw (works r) (sym (not-false _ (at-if2 .if2 .left)) ∙ room r),
-      put-message _ _ _ _ _ (a .message) (r .before .before .down .ensures) (c .before .words-of .ensures)
+    let at-remove = c .before .before .before in
+    let at-if2 = at-remove .before .before .before in
+    let tested = at-if2 .before in
+    let a = start-of tested .args in (
+      rw (works tested) (sym (not-false _ (at-if2 .if2 .left)) ∙ room tested),
+      put-message _ _ _ _ _ (a .message) (tested .before .before .down .ensures)
+          (c .before .words-of .ensures)
           (c .put .ensures)
-          ∙ sym (send-working (a .stopped) _ (a .i) (a .j) (a .message) (works r))
+          ∙ sym (send-working (a .stopped) _ (a .i) (a .j) (a .message) (works tested))
           ∙ ap (λ (l : List ℕ). sendOne (a .stopped) l (a .j) (sent (suc (a .i)) (a .message)))
-          (at-take .take2 .ensures ∙ ap (taken (a .slots .now)) (at-take .before .up2 .ensures)),
+          (at-remove .remove2 .ensures ∙ ap (removed (a .slots .now)) (at-remove .before .up2 .ensures)),
     )
 
 pub reply-one-spec : {M : Type 1} → statement M

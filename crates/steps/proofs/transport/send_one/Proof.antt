@@ -6,14 +6,15 @@ use Rattle.steps.proofs.transport.send_one.Tie as tie
 
 returns : tie.Need-returns
 returns c =
-    let at-if1 = c .before .before .before .before in
-    let s = at-if1 .before in
-    let a = s .before .args in
-    put-message (a .slots .now) _ _ _ _ (a .message) (c .before .before .down .ensures)
+    let placed = c .before .before in
+    let at-if1 = placed .before .before in
+    let tested = at-if1 .before in
+    let a = tested .before .args in
+    put-message (a .slots .now) _ _ _ _ (a .message) (placed .down .ensures)
     (c .before .words-of .ensures)
     (c .put .ensures)
     ∙ sym (send-working (a .stopped) (a .slots .now) (a .i) (a .j) (a .message)
-    (sym (s .is-in .ensures) ∙ not-true _ (at-if1 .if1 .taken)))
+    (sym (tested .is-in .ensures) ∙ not-true _ (at-if1 .if1 .taken)))
 
 returns-2 : tie.Need-returns-2
 returns-2 c =

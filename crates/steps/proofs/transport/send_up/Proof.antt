@@ -18,25 +18,25 @@ returns c = ap (sent (c .before .before)) (sym (c .enum-told .given .1))
 returns-2 : tie.Need-returns-2
 unfolding sendUp
 returns-2 c =
-    let at-5 = c .before .before .before .before .before in
-    c .broadcast .ensures ∙ ap (sent at-5) (sym (c .before .before .before .sends .given .1))
+    let told = c .before .before .before in
+    c .broadcast .ensures ∙ ap (sent (told .before .before)) (sym (told .sends .given .1))
 
 returns-3 : tie.Need-returns-3
 unfolding sendUp
 returns-3 c =
-    let at-4 = c .before .before .before .before in
-    c .broadcast2 .ensures ∙ ap (sent at-4) (sym (c .before .before .enum-told2 .given .1))
+    let told = c .before .before in
+    c .broadcast2 .ensures ∙ ap (sent (told .before .before)) (sym (told .enum-told2 .given .1))
 
 returns-4 : tie.Need-returns-4
 unfolding sendUp
 returns-4 c =
-    let at-s2 = c .before .before .before .before .before in
-    let s = at-s2 .before .before in
-    let a = s .args in
+    let first = c .before .before in
+    let told = first .before .before .before in
+    let start = told .before .before in
+    let a = start .args in
     c .broadcast4 .ensures
-    ∙ ap (λ (y : List ℕ). toAll (a .settings) y (a .i) (WriteInfo (at-s2 .sends2 .given .0 .0)))
-    (c .before .before .broadcast3 .ensures)
-    ∙ ap (sent s) (sym (at-s2 .sends2 .given .1))
+    ∙ ap (λ (y : List ℕ). toAll (a .settings) y (a .i) (WriteInfo (told .sends2 .given .0 .0)))
+    (first .broadcast3 .ensures) ∙ ap (sent start) (sym (told .sends2 .given .1))
 
 pub send-up-spec : {M : Type 1} → statement M
 send-up-spec =

@@ -13,9 +13,11 @@ use Rattle.system.proofs.run.run.Statement.{statement}
 use Rattle.system.proofs.run.run.Tie as tie
 
 -- a run of as many steps
-run-for : (t : Settings) (xs out : List ℕ) (n m : ℕ) → n ≡ m
-    → (s c b new : List ℕ) → Run t xs out n n s c b new → Run t xs out m m s c b new
-run-for t xs out n m e s c b new = subst (λ (k : ℕ). Run t xs out k k s c b new) e
+run-for : (settings : Settings) (list out : List ℕ) (n many : ℕ) → n ≡ many
+    → (servers clients slots written : List ℕ) → Run settings list out n n servers clients slots written
+    → Run settings list out many many servers clients slots written
+run-for settings list out n many e servers clients slots written =
+    subst (λ (k : ℕ). Run settings list out k k servers clients slots written) e
 
 -- where places come from
 abbrev start : tie.After-set-up → tie.Start

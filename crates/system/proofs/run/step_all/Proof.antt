@@ -4,7 +4,7 @@
 use Rattle.basics.proofs.Prelude.{_≡_, refl, length, _-_, _≤_, arith, needs}
 use Rattle.state.proofs.SoundFacts.{allowed-facts}
 use Rattle.system.specs.Run.{Run}
-use Rattle.system.proofs.RunLaws.{run-none, run-ready, inner-turn}
+use Rattle.system.proofs.RunLaws.{run-none, run-ready, made-turn}
 use Rattle.system.proofs.run.step_all.Statement.{statement}
 use Rattle.system.proofs.run.step_all.Tie as tie
 
@@ -19,14 +19,14 @@ abbrev μ-loop : tie.MeasureT-loop
 abbrev start : tie.At-loop Inv-loop μ-loop → tie.Start Inv-loop μ-loop
 start c = c .before .before .before
 
-abbrev read : tie.After-take-step Inv-loop μ-loop → tie.After-step-in Inv-loop μ-loop
+abbrev read : tie.After-make-step Inv-loop μ-loop → tie.After-step-in Inv-loop μ-loop
 read c = c .before .before .before .before
 
 loop-holds : tie.Need-loop-holds Inv-loop μ-loop
 loop-holds c = (omega arith, refl, run-none _ _ _ _ _ _ _ (c .before .before .pre .1))
 
-take-step-requires : tie.Need-take-step-requires Inv-loop μ-loop
-take-step-requires c κs =
+make-step-requires : tie.Need-make-step-requires Inv-loop μ-loop
+make-step-requires c κs =
     let tested = c .before .before .before .before in
     let l = tested .before in
     run-ready _ _ _ _ (l .loop .i) (tested .loop-test .taken) (allowed-facts _ (start l .pre .0)) _ _ _ _
@@ -34,15 +34,16 @@ take-step-requires c κs =
 
 loop-again : tie.Need-loop-again Inv-loop μ-loop
 loop-again c =
-    let w = c .before .before in
-    let y = w .before .before in
-    let x = read y .step-in in
-    let tested = read y .before in
+    let written = c .before .before in
+    let made = written .before .before in
+    let asked = read made .step-in in
+    let tested = read made .before in
     let l = tested .before in (
       omega arith,
       search needs,
-      inner-turn _ _ _ _ (l .loop .i) (tested .loop-test .taken) (allowed-facts _ (start l .pre .0)) _ _ _ _
-          (l .loop .inv .2) (x .result) (x .ensures) _ _ (w .write-answer .ensures) (y .take-step .ensures),
+      made-turn _ _ _ _ (l .loop .i) (tested .loop-test .taken) (allowed-facts _ (start l .pre .0)) _ _ _ _
+          (l .loop .inv .2) (asked .result) (asked .ensures) _ _ (written .write-answer .ensures)
+          (made .make-step .ensures),
     )
 
 returns : tie.Need-returns Inv-loop μ-loop
@@ -52,5 +53,5 @@ returns c =
 
 pub step-all-spec : {M : Type 1} → statement M
 step-all-spec = tie.close (tie.spec
-    Inv-loop μ-loop loop-holds (search needs) take-step-requires (search needs) (search needs)
+    Inv-loop μ-loop loop-holds (search needs) make-step-requires (search needs) (search needs)
     (search needs) loop-again (search needs) returns)

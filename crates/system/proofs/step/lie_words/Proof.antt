@@ -1,8 +1,7 @@
 -- `lie_words`: eleven bytes are loaded whole. Assumes nothing.
 use Rattle.basics.proofs.Prelude.{ap, _∙_, List, length, ℕ, arith, eq-eqb, ne-eqb, needs}
 use lib.Seq.{take-all}
-use Rattle.basics.specs.Bytes.{spelt}
-use Rattle.message.specs.Layout.{words}
+use Rattle.register.proofs.Vocabulary.{spelt, words}
 use Rattle.system.specs.Step.{wordsIn}
 use Rattle.system.proofs.step.lie_words.Statement.{statement}
 use Rattle.system.proofs.step.lie_words.Tie as tie

@@ -22,11 +22,15 @@ sound : (c : tie.Else1) → let a = start (c .before) .args in
     isSound (a .settings) (a .servers .now) (a .clients .now) (a .slots .now) ≡ true
 sound c = sym (c .before .is-sound .ensures) ∙ not-false _ (c .if1 .left)
 
-take-step-requires : tie.Need-take-step-requires
-take-step-requires c κs = ready _ _ _ _ (facts _ _ _ _ (sound (c .before .before .before)))
+make-step-requires : tie.Need-make-step-requires
+make-step-requires c κs = ready _ _ _ _ (facts _ _ _ _ (sound (c .before .before .before)))
+
+-- where the step was called
+abbrev passed : tie.After-make-step → tie.Else1
+passed c = c .before .before .before .before
 
 returns-2 : tie.Need-returns-2
-returns-2 c = step-law _ _ _ _ (sound (c .before .before .before .before)) _ _ (c .take-step .ensures)
+returns-2 c = step-law _ _ _ _ (sound (passed c)) _ _ (c .make-step .ensures)
 
 pub step-spec : {M : Type 1} → statement M
-step-spec = tie.close (tie.spec (search needs) returns take-step-requires returns-2)
+step-spec = tie.close (tie.spec (search needs) returns make-step-requires returns-2)

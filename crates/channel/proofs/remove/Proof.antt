@@ -1,12 +1,12 @@
--- `channel::take` meets its contract: shifted, zeroed, and the count lowered. Assumes nothing.
+-- `channel::remove` meets its contract: shifted, zeroed, and the count lowered. Assumes nothing.
 use Rattle.basics.proofs.Prelude.{arith, eq-eqb, ne-eqb, needs}
-use Rattle.channel.specs.Memory.{taken, countAt}
-use Rattle.channel.proofs.take.Statement.{statement}
-use Rattle.channel.proofs.take.Tie as tie
+use Rattle.channel.specs.Memory.{removed, countAt}
+use Rattle.channel.proofs.remove.Statement.{statement}
+use Rattle.channel.proofs.remove.Tie as tie
 
-pub take-spec : {M : Type 1} → statement M
-unfolding taken
-take-spec =
+pub remove-spec : {M : Type 1} → statement M
+unfolding removed
+remove-spec =
     tie.close
     (tie.spec (search needs) (search needs) (search needs) (search needs) (search needs) (search needs)
     (search needs) (search needs) (search needs) (search needs)
