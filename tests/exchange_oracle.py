@@ -6,7 +6,8 @@
 
 Nothing here is taken from the crates: servers and clients (01: keepers, desks) are 01's sentences, and every message goes over a channel
 (01: wire), first in first out. A line for each message when it is put on a channel, and a line for each outcome. First one client writes,
-reads, writes and reads, and then two clients work at once, each with f = 0 and with f = 1.
+reads, writes and reads, and then two clients work at once, each with f = 0 and n = 1 and with f = 1 and n = 4; then both once more with
+f = 1 and n = 5, where one server is to spare.
 """
 import collections
 import pathlib
@@ -66,8 +67,8 @@ class Server:
 class Client:
     """Algorithms 1 and 2. What it sends goes to every server."""
 
-    def __init__(self, number, f):
-        self.number, self.f, self.n = number, f, 3 * f + 1
+    def __init__(self, number, f, n):
+        self.number, self.f, self.n = number, f, n
         self.phase, self.reads = "idle", 0
 
     def start(self, entry=None):
@@ -116,10 +117,10 @@ class Client:
 
 
 class Exchange:
-    def __init__(self, title, f):
-        self.lines = [f"{title}, f = {f}"]
-        self.servers = {k: Server() for k in range(1, 3 * f + 2)}
-        self.clients = {d: Client(d, f) for d in range(1, CLIENTS + 1)}
+    def __init__(self, title, f, n):
+        self.lines = [f"{title}, f = {f}, n = {n}"]
+        self.servers = {k: Server() for k in range(1, n + 1)}
+        self.clients = {d: Client(d, f, n) for d in range(1, CLIENTS + 1)}
         self.up, self.down = collections.defaultdict(collections.deque), collections.defaultdict(collections.deque)
 
     def put(self, client, messages):
@@ -158,9 +159,9 @@ class Exchange:
                 self.server_takes(k, client)
 
 
-def one_client(f):
+def one_client(f, n):
     """Client 1 alone; every server takes every message."""
-    x = Exchange("one client", f)
+    x = Exchange("one client", f, n)
     for year in (2024, 2028):
         x.write(1, licence(year, 2, 29, 40, 1))
         x.each(1, x.servers, times=3)  # GET_INFO, DONE, WRITE_INFO
@@ -169,9 +170,9 @@ def one_client(f):
     return x.lines
 
 
-def two_clients(f):
-    """With f = 1 server 4 takes nothing: 2f + 1 = n - f servers work."""
-    x, working = Exchange("two clients", f), range(1, 2 * f + 2)
+def two_clients(f, n):
+    """With f = 1 the last server takes nothing: n - f servers work."""
+    x, working = Exchange("two clients", f, n), range(1, n - f + 1)
     x.write(1, licence(2024, 2, 29, 40, 1))
     x.each(1, working, times=3)  # GET_INFO, DONE, WRITE_INFO
     x.read(1)
@@ -189,7 +190,10 @@ def two_clients(f):
 
 
 def main():
-    text = "".join(line + "\n" for scenario in (one_client, two_clients) for f in (0, 1) for line in scenario(f))
+    settings = [(0, 1), (1, 4)]
+    runs = [scenario(f, n) for scenario in (one_client, two_clients) for f, n in settings]
+    runs += [scenario(1, 5) for scenario in (one_client, two_clients)]
+    text = "".join(line + "\n" for lines in runs for line in lines)
     if sys.argv[1:] == ["--check"]:
         if STDOUT.read_text() != text:
             sys.exit("exchange_oracle: crates/exchange/stdout is not what 01 gives")

@@ -4,11 +4,12 @@
 /// A message: kind, tag, counter, client, entry.
 pub type Fields = [u64; 5];
 
-/// Settings: f, the number of clients, and bit k − 1 for a faulty server k.
+/// Settings: f, n, the number of clients, and bit k − 1 for a faulty server k.
 #[derive(Clone, Copy, Debug, PartialEq, Eq)]
 #[allow(missing_docs)] // the fields say what they are
 pub struct Setup {
     pub f: u32,
+    pub n: u32,
     pub clients: u32,
     pub faulty: u32,
 }
@@ -22,6 +23,7 @@ mod c {
         pub fn exports_unpack(bytes: *const u8, length: usize, fields: *mut Fields) -> u32;
         pub fn exports_run(
             f: u32,
+            n: u32,
             clients: u32,
             faulty: u32,
             steps: *const u64,
@@ -31,6 +33,7 @@ mod c {
         ) -> u32;
         pub fn exports_run_by_steps(
             f: u32,
+            n: u32,
             clients: u32,
             faulty: u32,
             steps: *const u64,
@@ -53,12 +56,12 @@ pub fn unpack(bytes: &[u8], fields: &mut Fields) -> u32 {
 
 /// `system::run`, five numbers a step and two an answer: 0, or the number of the setup's refusal.
 pub fn run(setup: Setup, steps: &[u64], out: &mut [u64]) -> u32 {
-    let Setup { f, clients, faulty } = setup;
-    unsafe { c::exports_run(f, clients, faulty, steps.as_ptr(), steps.len(), out.as_mut_ptr(), out.len()) }
+    let Setup { f, n, clients, faulty } = setup;
+    unsafe { c::exports_run(f, n, clients, faulty, steps.as_ptr(), steps.len(), out.as_mut_ptr(), out.len()) }
 }
 
 /// The same run, each step through `system::step`.
 pub fn run_by_steps(setup: Setup, steps: &[u64], out: &mut [u64]) -> u32 {
-    let Setup { f, clients, faulty } = setup;
-    unsafe { c::exports_run_by_steps(f, clients, faulty, steps.as_ptr(), steps.len(), out.as_mut_ptr(), out.len()) }
+    let Setup { f, n, clients, faulty } = setup;
+    unsafe { c::exports_run_by_steps(f, n, clients, faulty, steps.as_ptr(), steps.len(), out.as_mut_ptr(), out.len()) }
 }

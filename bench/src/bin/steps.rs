@@ -48,7 +48,7 @@ fn stretches(script: &[u8]) -> Vec<Stretch> {
         match (parse(line), all.last_mut()) {
             (Some(Command::Setup(settings)), _) if System::new(settings, None).is_ok() => {
                 let faulty = (0..).zip(settings.faulty).map(|(bit, yes)| u32::from(yes) << bit).sum();
-                let setup = Setup { f: settings.f, clients: settings.clients, faulty };
+                let setup = Setup { f: settings.f, n: settings.n, clients: settings.clients, faulty };
                 all.push(Stretch { settings, setup, steps: Vec::new(), numbers: Vec::new() });
             }
             (Some(Command::Step(step)), Some(stretch)) => {

@@ -3,7 +3,7 @@
 -- Assumes nothing.
 use mathlib.Core.Bool.{and-true}
 use Rattle.register.proofs.Vocabulary.{allPass, Entry, WriteCounter, tagBits, counterBits, clientBits}
-use Rattle.register.proofs.Vocabulary.{entryBits, mostClients, mostFaulty, size, entryOf, isReading}
+use Rattle.register.proofs.Vocabulary.{entryBits, mostClients, areServersInRange, entryOf, isReading}
 use Rattle.register.proofs.Vocabulary.{isStoring}
 use Rattle.register.specs.declared.Phase.{Phase}
 use Rattle.register.specs.declared.Phase.the-variants.{Idle, Reading, ReadingForWrite, Storing}
@@ -46,13 +46,13 @@ storing-is (Storing entry own) count e = refl
 pub record ClientSound (client : Client) : Type 0 where
   pub low : 1 ≤ client .number
   pub high : client .number ≤ mostClients
-  pub few : client .f ≤ mostFaulty
+  pub range : areServersInRange (client .n) (client .f) ≡ true
   pub reads : client .reads .0 < 2 ^ tagBits
   pub phase : isSoundPhase (client .phase) ≡ true
 
 abbrev tests : Client → List Bool
 tests client =
-    leb 1 (client .number) ∷ leb (client .number) mostClients ∷ leb (client .f) mostFaulty
+    leb 1 (client .number) ∷ leb (client .number) mostClients ∷ areServersInRange (client .n) (client .f)
     ∷ ltb (client .reads .0) (2 ^ tagBits)
     ∷ isSoundPhase (client .phase) ∷ []
 
@@ -75,11 +75,11 @@ writing-fits client entry e h =
 
 -- the client, and its memory in its phase
 abbrev pub MemorySound : Client → List ℕ → Type 0
-MemorySound client replies = Sound (size (client .f)) (isReading (client .phase))
+MemorySound client replies = Sound (client .n) (isReading (client .phase))
     (stores (client .phase)) replies
 
 abbrev pub soundIn : Client → List ℕ → Bool
-soundIn client replies = areSound (size (client .f)) (isReading (client .phase))
+soundIn client replies = areSound (client .n) (isReading (client .phase))
     (stores (client .phase)) replies
 
 pub of-client : (client : Client) (replies : List ℕ) → isSound client replies ≡ true
@@ -91,7 +91,7 @@ pub of-memory : (client : Client) (replies : List ℕ) → isSound client replie
     → MemorySound client replies
 unfolding isSound
 of-memory client replies h =
-    facts (size (client .f)) (isReading (client .phase)) (stores (client .phase)) replies
+    facts (client .n) (isReading (client .phase)) (stores (client .phase)) replies
     (both (isSoundClient client) (soundIn client replies) h .1)
 
 pub of-both : (client : Client) (replies : List ℕ) → isSoundClient client ≡ true → MemorySound client replies
@@ -99,7 +99,7 @@ pub of-both : (client : Client) (replies : List ℕ) → isSoundClient client �
 unfolding isSound
 of-both client replies h s =
     both-of (isSoundClient client) (soundIn client replies) h
-    (sound (size (client .f)) (isReading (client .phase)) (stores (client .phase)) replies s)
+    (sound (client .n) (isReading (client .phase)) (stores (client .phase)) replies s)
 
 -- ---- what a test of the code says
 

@@ -10,7 +10,7 @@ use Rattle.basics.proofs.Cases.{by-test, by-option, both, both-of, true-or-fals
 use Rattle.licence.specs.Entry.{isLicence}
 use Rattle.register.proofs.Vocabulary.{Message, GetInfo, Info, Done, WriteInfo, Fwd, WriteAck, Pair}
 use Rattle.register.proofs.Vocabulary.{ReadNumber, WriteCounter, pairBits, counter, tagBits, counterBits}
-use Rattle.register.proofs.Vocabulary.{lastRead, lastCounter, wellFormed, size, counted, enough, isReading}
+use Rattle.register.proofs.Vocabulary.{lastRead, lastCounter, wellFormed, counted, enough, isReading}
 use Rattle.register.proofs.Vocabulary.{isStoring, cleared, withPair, withInfo, withAck, chosen, concluded}
 use Rattle.register.proofs.Vocabulary.{afterChoice, acknowledged, usesInfo, clientTakes, started, nextRead}
 use Rattle.register.specs.declared.Phase.{Phase}
@@ -37,17 +37,18 @@ use Rattle.client.proofs.Taking.{takes-reading}
 
 -- the model's client, as the next state of a client
 pub record Kept (client : Client) (self : model.Client) : Type 0 where
-  pub shows : view (storeClient (client .number) (client .f) self) (storeReplies self) ≡ self
-  pub sound : isSound (storeClient (client .number) (client .f) self) (storeReplies self) ≡ true
+  pub shows : view (storeClient (client .number) (client .n) (client .f) self) (storeReplies self) ≡ self
+  pub sound : isSound (storeClient (client .number) (client .n) (client .f) self) (storeReplies self) ≡ true
 
--- it in its memory, where f servers may be faulty
-pub record KeptMemory (f : ℕ) (self : model.Client) : Type 0 where
+-- it in its memory, of n servers of which f may be faulty
+pub record KeptMemory (n f : ℕ) (self : model.Client) : Type 0 where
   pub shows : memory.view (store self) ≡ self
-  pub sound : isSoundMemory f (store self) ≡ true
+  pub sound : isSoundMemory n f (store self) ≡ true
 
-pub kept-memory : (client : Client) (self : model.Client) → Kept client self → KeptMemory (client .f) self
+pub kept-memory : (client : Client) (self : model.Client) → Kept client self
+    → KeptMemory (client .n) (client .f) self
 kept-memory client self kept =
-    let next = storeClient (client .number) (client .f) self in
+    let next = storeClient (client .number) (client .n) (client .f) self in
     let facts = client-facts next (of-client next (storeReplies self) (kept .sound)) in
     let small = facts .reads in
     record {
@@ -75,10 +76,10 @@ empty-shows phase reads =
     }
 
 pub kept-cleared : (client : Client) (phase : Phase) (reads : ReadNumber)
-    → isSoundClient (storeClient (client .number) (client .f) (cleared phase reads)) ≡ true
+    → isSoundClient (storeClient (client .number) (client .n) (client .f) (cleared phase reads)) ≡ true
     → Kept client (cleared phase reads)
 kept-cleared client phase reads h =
-    let next = storeClient (client .number) (client .f) (cleared phase reads) in
+    let next = storeClient (client .number) (client .n) (client .f) (cleared phase reads) in
     record {
       shows = ap (view next) (store-cleared phase reads) ∙ empty-shows phase reads;
       sound = ap (isSound next) (store-cleared phase reads) ∙ empty-keeps next h;
@@ -90,7 +91,7 @@ in-phase : (client : Client) (phase : Phase) → isSoundClient client ≡ true �
 in-phase client phase h e =
     let facts = client-facts client h in
     client-sound (inPhase client phase)
-    (record { low = facts .low; high = facts .high; few = facts .few; reads = facts .reads; phase = e })
+    (record { low = facts .low; high = facts .high; range = facts .range; reads = facts .reads; phase = e })
 
 pub kept-idle : (client : Client) → isSoundClient client ≡ true → Kept client (cleared Idle (client .reads))
 unfolding isSoundPhase
@@ -105,8 +106,8 @@ kept-started client replies phase h room e =
     let facts = client-facts client h in
     let next : ReadNumber = record { 0 = client .reads .0 + 1 } in
     kept-cleared client phase next
-    (client-sound (storeClient (client .number) (client .f) (cleared phase next))
-    (record { low = facts .low; high = facts .high; few = facts .few; reads = omega arith; phase = e }))
+    (client-sound (storeClient (client .number) (client .n) (client .f) (cleared phase next))
+    (record { low = facts .low; high = facts .high; range = facts .range; reads = omega arith; phase = e }))
 
 -- ---- a chosen pair
 
@@ -114,7 +115,7 @@ module _ (client : Client) (h : isSoundClient client ≡ true) (self : model.Cli
     (same : self .reads ≡ client .reads) where
   kept-concluded : (phase : Phase) (pair : Pair) → client .phase ≡ phase → isReading phase ≡ true
       → pair .0 < 2 ^ pairBits
-      → Kept client (concluded (size (client .f)) (client .f) (client .number) self phase pair .client)
+      → Kept client (concluded (client .n) (client .f) (client .number) self phase pair .client)
   unfolding concluded isReading isSoundPhase
   kept-concluded Idle pair e reading fits = absurd (true-or-false false reading refl)
   kept-concluded Reading pair e reading fits = rw same (kept-idle client h)
@@ -135,16 +136,16 @@ kept-followed : (client : Client) (replies : List ℕ) → isSound client replie
     → Kept client (followed client (view client replies) .client)
 unfolding afterChoice
 kept-followed client replies h reading fit =
-    by-option (chosen (size (client .f)) (client .f) (client .number) (view client replies))
+    by-option (chosen (client .n) (client .f) (client .number) (view client replies))
     (λ e. rw e (kept-view client replies h))
     (λ pair e. rw e
     (kept-concluded client (of-client client replies h) (view client replies) refl (client .phase) pair refl
-    reading (chosen-fits (size (client .f)) (client .f) (client .number) (view client replies) pair fit e)))
+    reading (chosen-fits (client .n) (client .f) (client .number) (view client replies) pair fit e)))
 
 -- ---- one message of a server
 
 module _ (client : Client) (replies : List ℕ) (k : ℕ) (h : isSound client replies ≡ true) (low : 1 ≤ k)
-    (high : k ≤ size (client .f)) (words : Words replies) where
+    (high : k ≤ client .n) (words : Words replies) where
   abbrev next : model.Client → model.Client
   next self = followed client self .client
 
@@ -156,21 +157,21 @@ module _ (client : Client) (replies : List ℕ) (k : ℕ) (h : isSound client re
       (kept-followed client left sound reading (subst SetsFit (sym e) fit))
 
   kept-ack : (count : WriteCounter) → isStoring (client .phase) count ≡ true
-      → Kept client (acknowledged (size (client .f)) (client .f) (client .number)
+      → Kept client (acknowledged (client .n) (client .f) (client .number)
       (withAck (view client replies) k) count .client)
   unfolding acknowledged
   kept-ack count storing =
       let left = putAck replies (k - 1) in
-      subst (λ (self : model.Client). Kept client (acknowledged (size (client .f)) (client .f)
+      subst (λ (self : model.Client). Kept client (acknowledged (client .n) (client .f)
       (client .number) self count .client))
       (ack-view client replies k h low high)
-      (by-test (enough (size (client .f)) (client .f) (counted (view client left .acks) (size (client .f))))
+      (by-test (enough (client .n) (client .f) (counted (view client left .acks) (client .n)))
       (λ t. rw t (kept-idle client (of-client client replies h)))
       (λ t. rw t (kept-view client left (ack-sound client replies k h low high
       (storing-is (client .phase) count storing)))))
 
   pub kept-taken : (message : Message) → wellFormed message ≡ true
-      → Kept client (clientTakes (size (client .f)) (client .f) (client .number)
+      → Kept client (clientTakes (client .n) (client .f) (client .number)
       (view client replies) k message .client)
   unfolding clientTakes usesInfo wellFormed
   kept-taken (GetInfo tag) formed = kept-view client replies h

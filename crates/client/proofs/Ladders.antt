@@ -5,7 +5,7 @@ use Rattle.basics.proofs.Prelude.{_≡_, refl, sym, ap, _∙_, Bool, true, fals
 use Rattle.basics.proofs.Prelude.{some, length, ℕ, _≤_, _<_, leb, leb-true, leb-false, not-false}
 use Rattle.basics.proofs.Cases.{both}
 use Rattle.register.proofs.Vocabulary.{Refusal, Rung, lowest, Entry, Message, Unpacked, unpackOf, lastRead}
-use Rattle.register.proofs.Vocabulary.{goes, goesDown, mostClients, size, isIdle}
+use Rattle.register.proofs.Vocabulary.{goes, goesDown, mostClients, isIdle}
 use Rattle.register.specs.declared.Answer.the-variants.{Refused}
 use Rattle.register.specs.declared.Phase.{Phase}
 use Rattle.register.specs.declared.Phase.the-variants.{ReadingForWrite}
@@ -27,16 +27,16 @@ use Rattle.client.proofs.Memory.{memory-facts}
 
 -- ---- in the table's order
 
-pub read-ladder-rises : (d f : ℕ) (memory : List ℕ) → rising 0 (readRefusals d f memory) ≡ true
-read-ladder-rises d f memory = refl
+pub read-ladder-rises : (d n f : ℕ) (memory : List ℕ) → rising 0 (readRefusals d n f memory) ≡ true
+read-ladder-rises d n f memory = refl
 
-pub write-ladder-rises : (d f : ℕ) (memory : List ℕ) (entry : Entry)
-    → rising 0 (writeRefusals d f memory entry) ≡ true
-write-ladder-rises d f memory entry = refl
+pub write-ladder-rises : (d n f : ℕ) (memory : List ℕ) (entry : Entry)
+    → rising 0 (writeRefusals d n f memory entry) ≡ true
+write-ladder-rises d n f memory entry = refl
 
-pub take-ladder-rises : (d f : ℕ) (memory : List ℕ) (k : ℕ) (bytes : List ℕ)
-    → rising 0 (takeRefusals d f memory k bytes) ≡ true
-take-ladder-rises d f memory k bytes = refl
+pub take-ladder-rises : (d n f : ℕ) (memory : List ℕ) (k : ℕ) (bytes : List ℕ)
+    → rising 0 (takeRefusals d n f memory k bytes) ≡ true
+take-ladder-rises d n f memory k bytes = refl
 
 -- ---- refused or not
 
@@ -47,13 +47,13 @@ pub either : (P : After → Type 0) (memory : List ℕ) (refusal : Option Refusa
 either P memory none otherwise refused done = done refl
 either P memory (some why) otherwise refused done = refused why
 
-pub by-take : (P : After → Type 0) (d f : ℕ) (memory : List ℕ) (k : ℕ) (bytes : List ℕ)
+pub by-take : (P : After → Type 0) (d n f : ℕ) (memory : List ℕ) (k : ℕ) (bytes : List ℕ)
     → ((why : Refusal) → P (refusedBy memory why))
-    → (lowest (takeRefusals d f memory k bytes) ≡ none → P (receivedAs d f memory k (unpackOf bytes)))
-    → P (takeOf d f memory k bytes)
+    → (lowest (takeRefusals d n f memory k bytes) ≡ none → P (receivedAs d n f memory k (unpackOf bytes)))
+    → P (takeOf d n f memory k bytes)
 unfolding takeOf
-by-take P d f memory k bytes =
-    either P memory (lowest (takeRefusals d f memory k bytes)) (receivedAs d f memory k (unpackOf bytes))
+by-take P d n f memory k bytes =
+    either P memory (lowest (takeRefusals d n f memory k bytes)) (receivedAs d n f memory k (unpackOf bytes))
 
 -- ---- a ladder climbed
 
@@ -61,25 +61,26 @@ by-take P d f memory k bytes =
 pub rung : (b t u : Bool) → b ≡ t → not b ≡ u → not t ≡ u
 rung b t u e n = ap not (sym e) ∙ n
 
-module _ (client : Client) (d f : ℕ) (memory : List ℕ) (b u : Bool) (e : client ≡ loaded d f memory) where
+module _ (client : Client) (d n f : ℕ) (memory : List ℕ) (b u : Bool) (e : client ≡ loaded d n f memory) where
   pub idle-rung : b ≡ isIdle (client .phase) → not b ≡ u → not (isIdle (phaseIn memory)) ≡ u
-  idle-rung told n = ap (λ (x : Client). not (isIdle (x .phase))) (sym e) ∙ ap not (sym told) ∙ n
+  idle-rung told left = ap (λ (x : Client). not (isIdle (x .phase))) (sym e) ∙ ap not (sym told) ∙ left
 
   pub reads-rung : b ≡ leb lastRead (client .reads .0) → b ≡ u → leb lastRead (readsIn memory .0) ≡ u
-  reads-rung told n = ap (λ (x : Client). leb lastRead (x .reads .0)) (sym e) ∙ sym told ∙ n
+  reads-rung told left = ap (λ (x : Client). leb lastRead (x .reads .0)) (sym e) ∙ sym told ∙ left
 
 -- what it says where it passes
 pub room : (b : Bool) (n : ℕ) → b ≡ leb lastRead n → b ≡ false → n < lastRead
 room b n e left = leb-false lastRead n (sym e ∙ left)
 
-module _ (f : ℕ) (memory : List ℕ) (b : Bool) (told : b ≡ isSoundMemory f memory) (left : not b ≡ false) where
+module _ (n f : ℕ) (memory : List ℕ) (b : Bool) (told : b ≡ isSoundMemory n f memory)
+    (left : not b ≡ false) where
   pub long : length memory ≡ clientLength
-  long = memory-facts f memory (holds b (isSoundMemory f memory) told left) .long
+  long = memory-facts n f memory (holds b (isSoundMemory n f memory) told left) .long
 
-  pub own-sound : (client : Client) (d : ℕ) → client ≡ loaded d f memory
-      → isSoundMemory (client .f) memory ≡ true
-  own-sound client d e = ap (λ (x : Client). isSoundMemory (x .f) memory) e
-      ∙ holds b (isSoundMemory f memory) told left
+  pub own-sound : (client : Client) (d : ℕ) → client ≡ loaded d n f memory
+      → isSoundMemory (client .n) (client .f) memory ≡ true
+  own-sound client d e = ap (λ (x : Client). isSoundMemory (x .n) (x .f) memory) e
+      ∙ holds b (isSoundMemory n f memory) told left
 
 abbrev refusal : Refusal → Outcome
 refusal why = record { sends = Nothing; answer = Refused why }
@@ -96,17 +97,17 @@ module _ (memory : List ℕ) (rungs : List Rung) (otherwise : After) where
       → given ≡ decided memory (lowest rungs) otherwise
   done given e climb = e ∙ ap (λ (y : Option Refusal). decided memory y otherwise) (climbs rungs climb)
 
-module _ (d f : ℕ) (memory : List ℕ) (phase : Phase) (licensed : Bool) where
+module _ (d n f : ℕ) (memory : List ℕ) (phase : Phase) (licensed : Bool) where
   pub start-refused : (why : Refusal) (result : Outcome) → result ≡ refusal why
-      → Climbs (startRefusals d f memory licensed) (some why)
-      → after result memory ≡ startOf d f memory phase licensed
+      → Climbs (startRefusals d n f memory licensed) (some why)
+      → after result memory ≡ startOf d n f memory phase licensed
   unfolding startOf
-  start-refused = refused memory (startRefusals d f memory licensed) (startedOf memory phase)
+  start-refused = refused memory (startRefusals d n f memory licensed) (startedOf memory phase)
 
   pub start-done : (given : After) → given ≡ startedOf memory phase
-      → Climbs (startRefusals d f memory licensed) none → given ≡ startOf d f memory phase licensed
+      → Climbs (startRefusals d n f memory licensed) none → given ≡ startOf d n f memory phase licensed
   unfolding startOf
-  start-done = done memory (startRefusals d f memory licensed) (startedOf memory phase)
+  start-done = done memory (startRefusals d n f memory licensed) (startedOf memory phase)
 
 -- what a start that is not refused has passed
 pub record Passed (d : ℕ) (memory : List ℕ) (licensed : Bool) : Type 0 where
@@ -114,10 +115,10 @@ pub record Passed (d : ℕ) (memory : List ℕ) (licensed : Bool) : Type 0 where
   pub entry : licensed ≡ true
   pub room : readsIn memory .0 < lastRead
 
-pub start-facts : (d f : ℕ) (memory : List ℕ) (licensed : Bool)
-    → lowest (startRefusals d f memory licensed) ≡ none → Passed d memory licensed
-start-facts d f memory licensed e =
-    let passed = none-applies (startRefusals d f memory licensed) e in
+pub start-facts : (d n f : ℕ) (memory : List ℕ) (licensed : Bool)
+    → lowest (startRefusals d n f memory licensed) ≡ none → Passed d memory licensed
+start-facts d n f memory licensed e =
+    let passed = none-applies (startRefusals d n f memory licensed) e in
     record {
       there = not-false (isClient d) (passed .1 .0);
       entry = not-false licensed (passed .1 .1 .1 .1 .0);
@@ -125,20 +126,21 @@ start-facts d f memory licensed e =
     }
 
 -- a write is a start, whose entry was tested
-pub write-is : (d f : ℕ) (memory : List ℕ) (entry : Entry) (licensed : Bool) (given : After)
-    → licensed ≡ isLicence (entry .0) → given ≡ startOf d f memory (ReadingForWrite entry) licensed
-    → given ≡ writeOf d f memory entry
+pub write-is : (d n f : ℕ) (memory : List ℕ) (entry : Entry) (licensed : Bool) (given : After)
+    → licensed ≡ isLicence (entry .0) → given ≡ startOf d n f memory (ReadingForWrite entry) licensed
+    → given ≡ writeOf d n f memory entry
 unfolding writeOf
-write-is d f memory entry licensed given told is = is ∙ ap (startOf d f memory (ReadingForWrite entry)) told
+write-is d n f memory entry licensed given told is =
+    is ∙ ap (startOf d n f memory (ReadingForWrite entry)) told
 
 -- bytes from a server: the rungs of processes and of replies
-module _ (b : Bool) (d f k : ℕ) (told : b ≡ isClient d) where
-  pub no-client : not b ≡ true → not (isClient d && isServer f k) ≡ true
-  no-client n = rw (fails b (isClient d) told n)
+module _ (b : Bool) (d n k : ℕ) (told : b ≡ isClient d) where
+  pub no-client : not b ≡ true → not (isClient d && isServer n k) ≡ true
+  no-client taken = rw (fails b (isClient d) told taken)
 
-  module _ (n : not b ≡ false) (server : Bool) (told-too : server ≡ isServer f k) where
-    pub server-rung : (u : Bool) → not server ≡ u → not (isClient d && isServer f k) ≡ u
-    server-rung u o = rw (holds b (isClient d) told n) (ap not (sym told-too) ∙ o)
+  module _ (left : not b ≡ false) (server : Bool) (told-too : server ≡ isServer n k) where
+    pub server-rung : (u : Bool) → not server ≡ u → not (isClient d && isServer n k) ≡ u
+    server-rung u o = rw (holds b (isClient d) told left) (ap not (sym told-too) ∙ o)
 
 module _ (result : Unpacked) (bytes : List ℕ) (is : result ≡ unpackOf bytes) where
   pub malformed-rung : (why : Refusal) → result ≡ unpacked.Refused why
@@ -160,32 +162,33 @@ module _ (d : ℕ) (b : Bool) (told : b ≡ isClient d) (n : not b ≡ false) wh
   pub client-high : d ≤ mostClients
   client-high = leb-true d mostClients (both (leb 1 d) (leb d mostClients) (holds b (isClient d) told n) .1)
 
-module _ (f k : ℕ) (b : Bool) (told : b ≡ isServer f k) (n : not b ≡ false) where
+module _ (n k : ℕ) (b : Bool) (told : b ≡ isServer n k) (left : not b ≡ false) where
   pub server-low : 1 ≤ k
-  server-low = leb-true 1 k (both (leb 1 k) (leb k (size f)) (holds b (isServer f k) told n) .0)
+  server-low = leb-true 1 k (both (leb 1 k) (leb k n) (holds b (isServer n k) told left) .0)
 
-  pub server-high : k ≤ size f
-  server-high = leb-true k (size f) (both (leb 1 k) (leb k (size f)) (holds b (isServer f k) told n) .1)
+  pub server-high : k ≤ n
+  server-high = leb-true k n (both (leb 1 k) (leb k n) (holds b (isServer n k) told left) .1)
 
 -- what the bytes bring is taken
-pub received-as : (client : Client) (d f : ℕ) (memory : List ℕ) (k : ℕ) (result : Unpacked) (bytes : List ℕ)
+pub received-as : (client : Client) (d n f : ℕ) (memory : List ℕ) (k : ℕ) (result : Unpacked) (bytes : List ℕ)
     (message : Message) (given : After)
-    → client ≡ loaded d f memory → result ≡ unpackOf bytes → result ≡ unpacked.Good message
-    → given ≡ takenOf (client .number) (client .f) memory k message
-    → given ≡ receivedAs d f memory k (unpackOf bytes)
-received-as client d f memory k result bytes message given e is good step =
-    step ∙ ap (λ (y : Client). takenOf (y .number) (y .f) memory k message) e
-    ∙ ap (receivedAs d f memory k) (sym good ∙ is)
+    → client ≡ loaded d n f memory → result ≡ unpackOf bytes → result ≡ unpacked.Good message
+    → given ≡ takenOf (client .number) (client .n) (client .f) memory k message
+    → given ≡ receivedAs d n f memory k (unpackOf bytes)
+received-as client d n f memory k result bytes message given e is good step =
+    step ∙ ap (λ (y : Client). takenOf (y .number) (y .n) (y .f) memory k message) e
+    ∙ ap (receivedAs d n f memory k) (sym good ∙ is)
 
-module _ (d f : ℕ) (memory : List ℕ) (k : ℕ) (bytes : List ℕ) where
+module _ (d n f : ℕ) (memory : List ℕ) (k : ℕ) (bytes : List ℕ) where
   pub take-refused : (why : Refusal) (result : Outcome) → result ≡ refusal why
-      → Climbs (takeRefusals d f memory k bytes) (some why)
-      → after result memory ≡ takeOf d f memory k bytes
+      → Climbs (takeRefusals d n f memory k bytes) (some why)
+      → after result memory ≡ takeOf d n f memory k bytes
   unfolding takeOf
-  take-refused = refused memory (takeRefusals d f memory k bytes) (receivedAs d f memory k (unpackOf bytes))
+  take-refused =
+      refused memory (takeRefusals d n f memory k bytes) (receivedAs d n f memory k (unpackOf bytes))
 
-  pub take-done : (given : After) → given ≡ receivedAs d f memory k (unpackOf bytes)
-      → Climbs (takeRefusals d f memory k bytes) none
-      → given ≡ takeOf d f memory k bytes
+  pub take-done : (given : After) → given ≡ receivedAs d n f memory k (unpackOf bytes)
+      → Climbs (takeRefusals d n f memory k bytes) none
+      → given ≡ takeOf d n f memory k bytes
   unfolding takeOf
-  take-done = done memory (takeRefusals d f memory k bytes) (receivedAs d f memory k (unpackOf bytes))
+  take-done = done memory (takeRefusals d n f memory k bytes) (receivedAs d n f memory k (unpackOf bytes))

@@ -13,7 +13,7 @@ use Rattle.basics.proofs.Cases.{by-test, by-option}
 use Rattle.licence.specs.Entry.{isLicence}
 use Rattle.register.proofs.Vocabulary.{Entry, Message, GetInfo, Info, Done, WriteInfo, Fwd, WriteAck, Pair}
 use Rattle.register.proofs.Vocabulary.{ReadNumber, Unpacked, Good, WriteCounter, counter, unpackOf}
-use Rattle.register.proofs.Vocabulary.{lastCounter, Refusal, lowest, size, counted, enough, Response, isIdle}
+use Rattle.register.proofs.Vocabulary.{lastCounter, Refusal, lowest, counted, enough, Response, isIdle}
 use Rattle.register.proofs.Vocabulary.{isReading, isStoring, sendsNothing, withInfo, withPair, withAck}
 use Rattle.register.proofs.Vocabulary.{chosen, concluded, afterChoice, acknowledged, usesInfo, clientTakes}
 use Rattle.register.proofs.Vocabulary.{started, nextRead, entryOf}
@@ -114,16 +114,16 @@ module _ (n f d : ℕ) where
 twice : (n : ℕ) → n % 2 ^ 32 % 2 ^ 32 ≡ n % 2 ^ 32
 twice n = omega arith
 
-module _ (d f : ℕ) (memory : List ℕ) (k : ℕ) (h : isIdle (phaseIn memory) ≡ false) where
+module _ (d n f : ℕ) (memory : List ℕ) (k : ℕ) (h : isIdle (phaseIn memory) ≡ false) where
   -- of an outcome
   abbrev ProceedsTo : After → Type 0
   ProceedsTo outcome =
       Proceeds (readsIn memory) (phaseIn (outcome .memory)) (readsIn (outcome .memory)) (outcome .answer)
 
-  proceeds : (unpacked : Unpacked) → ProceedsTo (receivedAs d f memory k unpacked)
+  proceeds : (unpacked : Unpacked) → ProceedsTo (receivedAs d n f memory k unpacked)
   proceeds (Good message) =
-      let follows = taken-ends (size f) f d (view memory) k message h in
-      let phase = clientTakes (size f) f d (view memory) k message .client .phase in
+      let follows = taken-ends n f d (view memory) k message h in
+      let phase = clientTakes n f d (view memory) k message .client .phase in
       record {
         ends = idle-again phase (entryOf phase .0) (counterIn phase % 2 ^ 32) ∙ follows .ends;
         number =
@@ -132,35 +132,36 @@ module _ (d f : ℕ) (memory : List ℕ) (k : ℕ) (h : isIdle (phaseIn memory) 
       }
   proceeds (Refused why) = record { ends = h; number = refl }
 
-  take-proceeds : (bytes : List ℕ) → ProceedsTo (takeOf d f memory k bytes)
+  take-proceeds : (bytes : List ℕ) → ProceedsTo (takeOf d n f memory k bytes)
   take-proceeds bytes =
-      by-take ProceedsTo d f memory k bytes (λ x. record { ends = h; number = refl })
+      by-take ProceedsTo d n f memory k bytes (λ x. record { ends = h; number = refl })
       (λ e. proceeds (unpackOf bytes))
 
-pub take-ends : (d f : ℕ) (memory : List ℕ) (k : ℕ) (bytes : List ℕ) → isIdle (phaseIn memory) ≡ false
-    → isIdle (phaseIn (takeOf d f memory k bytes .memory)) ≡ isEnding (takeOf d f memory k bytes .answer)
-take-ends d f memory k bytes h = take-proceeds d f memory k h bytes .ends
+pub take-ends : (d n f : ℕ) (memory : List ℕ) (k : ℕ) (bytes : List ℕ) → isIdle (phaseIn memory) ≡ false
+    → isIdle (phaseIn (takeOf d n f memory k bytes .memory)) ≡ isEnding (takeOf d n f memory k bytes .answer)
+take-ends d n f memory k bytes h = take-proceeds d n f memory k h bytes .ends
 
 -- ---- read numbers
 
 -- a start has a read number left to rise to
-start-rises : (d f : ℕ) (memory : List ℕ) (phase : Phase) (licensed : Bool)
-    → lowest (startRefusals d f memory licensed) ≡ none
-    → readsIn (startOf d f memory phase licensed .memory) .0 ≡ readsIn memory .0 + 1
+start-rises : (d n f : ℕ) (memory : List ℕ) (phase : Phase) (licensed : Bool)
+    → lowest (startRefusals d n f memory licensed) ≡ none
+    → readsIn (startOf d n f memory phase licensed .memory) .0 ≡ readsIn memory .0 + 1
 unfolding startOf started nextRead
-start-rises d f memory phase licensed e =
-    let room = start-facts d f memory licensed e .room in
+start-rises d n f memory phase licensed e =
+    let room = start-facts d n f memory licensed e .room in
     rw e (mod-small (readsIn memory .0 + 1) (omega arith))
 
-pub read-rises : (d f : ℕ) (memory : List ℕ) → lowest (readRefusals d f memory) ≡ none
-    → readsIn (readOf d f memory .memory) .0 ≡ readsIn memory .0 + 1
+pub read-rises : (d n f : ℕ) (memory : List ℕ) → lowest (readRefusals d n f memory) ≡ none
+    → readsIn (readOf d n f memory .memory) .0 ≡ readsIn memory .0 + 1
 unfolding readOf startOf
-read-rises d f memory e = start-rises d f memory Reading true e
+read-rises d n f memory e = start-rises d n f memory Reading true e
 
-pub write-rises : (d f : ℕ) (memory : List ℕ) (entry : Entry) → lowest (writeRefusals d f memory entry) ≡ none
-    → readsIn (writeOf d f memory entry .memory) .0 ≡ readsIn memory .0 + 1
+pub write-rises : (d n f : ℕ) (memory : List ℕ) (entry : Entry)
+    → lowest (writeRefusals d n f memory entry) ≡ none
+    → readsIn (writeOf d n f memory entry .memory) .0 ≡ readsIn memory .0 + 1
 unfolding writeOf
-write-rises d f memory entry h = start-rises d f memory (ReadingForWrite entry) (isLicence (entry .0)) h
+write-rises d n f memory entry h = start-rises d n f memory (ReadingForWrite entry) (isLicence (entry .0)) h
 
 -- ---- what changes nothing
 
@@ -176,41 +177,41 @@ pub by-unpacked : {A : Type 0} (unpacked : Unpacked) → ((message : Message) �
 by-unpacked (Good message) good refused = good message refl
 by-unpacked (Refused why) good refused = refused why refl
 
-module _ (d f : ℕ) (memory : List ℕ) (k : ℕ) (bytes : List ℕ) where
+module _ (d n f : ℕ) (memory : List ℕ) (k : ℕ) (bytes : List ℕ) where
   -- an accepted message came to a sound memory
-  sound-then : lowest (takeRefusals d f memory k bytes) ≡ none → isSoundMemory f memory ≡ true
-  sound-then e = not-false (isSoundMemory f memory) (none-applies (takeRefusals d f memory k bytes) e .0)
+  sound-then : lowest (takeRefusals d n f memory k bytes) ≡ none → isSoundMemory n f memory ≡ true
+  sound-then e = not-false (isSoundMemory n f memory) (none-applies (takeRefusals d n f memory k bytes) e .0)
 
   dropped-unchanged : (message : Message) → unpackOf bytes ≡ Good message
       → isTaken (view memory) k message ≡ false
-      → Unchanged memory (takeOf d f memory k bytes)
+      → Unchanged memory (takeOf d n f memory k bytes)
   dropped-unchanged message good e =
-      by-take (Unchanged memory) d f memory k bytes (refused-unchanged memory)
-      (λ none. rw (good, not-taken (size f) f d (view memory) k message e)
-      record { memory = store-view f memory (sound-then none); sends = refl })
+      by-take (Unchanged memory) d n f memory k bytes (refused-unchanged memory)
+      (λ none. rw (good, not-taken n f d (view memory) k message e)
+      record { memory = store-view n f memory (sound-then none); sends = refl })
 
   pub old-info : (tag : ReadNumber) (pair : Pair) → unpackOf bytes ≡ Good (Info tag pair)
       → (tag .0 ≡ readsIn memory .0 → ⊥)
-      → Unchanged memory (takeOf d f memory k bytes)
+      → Unchanged memory (takeOf d n f memory k bytes)
   old-info tag pair good other =
       dropped-unchanged (Info tag pair) good (other-read (view memory) k tag pair other)
 
   pub late-ack : (count : WriteCounter) → unpackOf bytes ≡ Good (WriteAck count)
       → isStoring (phaseIn memory) count ≡ false
-      → Unchanged memory (takeOf d f memory k bytes)
+      → Unchanged memory (takeOf d n f memory k bytes)
   late-ack count good late = dropped-unchanged (WriteAck count) good (other-write (view memory) k count late)
 
-  pub idle-drops : isIdle (phaseIn memory) ≡ true → Unchanged memory (takeOf d f memory k bytes)
+  pub idle-drops : isIdle (phaseIn memory) ≡ true → Unchanged memory (takeOf d n f memory k bytes)
   idle-drops h =
       by-unpacked (unpackOf bytes)
       (λ message good. dropped-unchanged message good (idle-takes-none (view memory) k message h))
-      (λ why bad. by-take (Unchanged memory) d f memory k bytes (refused-unchanged memory)
+      (λ why bad. by-take (Unchanged memory) d n f memory k bytes (refused-unchanged memory)
       (λ none. rw bad (refused-unchanged memory why)))
 
 -- ---- every client at any time
 
-pub take-keeps-number : (d f : ℕ) (memory : List ℕ) (k : ℕ) (bytes : List ℕ)
-    → readsIn (takeOf d f memory k bytes .memory) ≡ readsIn memory
-take-keeps-number d f memory k bytes =
-    by-test (isIdle (phaseIn memory)) (λ e. ap readsIn (idle-drops d f memory k bytes e .memory))
-    (λ e. take-proceeds d f memory k e bytes .number)
+pub take-keeps-number : (d n f : ℕ) (memory : List ℕ) (k : ℕ) (bytes : List ℕ)
+    → readsIn (takeOf d n f memory k bytes .memory) ≡ readsIn memory
+take-keeps-number d n f memory k bytes =
+    by-test (isIdle (phaseIn memory)) (λ e. ap readsIn (idle-drops d n f memory k bytes e .memory))
+    (λ e. take-proceeds d n f memory k e bytes .number)

@@ -9,7 +9,7 @@ use Rattle.basics.proofs.Prelude.{length-drop, length-take-le, ℕ, _-_, _≤_,
 use lib.Seq.{take-all, drop-length, drop-at}
 use borrow.Rule.Slice.PartMut.{putMid}
 use Rattle.register.proofs.Vocabulary.{Message, Info, Fwd, WriteAck, Pair, ReadNumber, WriteCounter}
-use Rattle.register.proofs.Vocabulary.{mostClients, size, isReading, isStoring, usesInfo}
+use Rattle.register.proofs.Vocabulary.{mostClients, isReading, isStoring, usesInfo}
 use Rattle.register.specs.Client as model
 use Rattle.replies.specs.Replies.{held, repliesLength}
 use Rattle.replies.specs.Sound.{areSound}
@@ -43,9 +43,9 @@ rest-put memory replies long =
 
 -- ---- its length
 
-module _ (f : ℕ) (memory : List ℕ) (h : isSoundMemory f memory ≡ true) where
+module _ (n f : ℕ) (memory : List ℕ) (h : isSoundMemory n f memory ≡ true) where
   pub memory-long : length memory ≡ clientLength
-  memory-long = memory-facts f memory h .long
+  memory-long = memory-facts n f memory h .long
 
   pub memory-room : repliesAt ≤ length memory
   memory-room = omega (arith, memory-long)
@@ -59,16 +59,17 @@ rest-long memory long = ap length (rest-whole memory) ∙ length-drop repliesAt 
 -- ---- a client that was loaded
 
 -- the test of the replies, from what the calls answer
-pub replies-by : (client : Client) (d f : ℕ) (memory : List ℕ) (n : ℕ) (reading storing b : Bool)
-    → client ≡ loaded d f memory → n ≡ size f → reading ≡ isReading (client .phase)
+pub replies-by : (client : Client) (d n f : ℕ) (memory : List ℕ) (reading storing b : Bool)
+    → client ≡ loaded d n f memory → reading ≡ isReading (client .phase)
     → storing ≡ stores (client .phase) → b ≡ areSound n reading storing (rest memory)
-    → b ≡ areSoundReplies f memory
-replies-by client d f memory n reading storing b e en er es told =
-    told ∙ rw (en, er, es, rest-whole memory)
-    (ap (λ (x : Client). areSound (size f) (isReading (x .phase)) (stores (x .phase)) (drop repliesAt memory))
+    → b ≡ areSoundReplies n memory
+replies-by client d n f memory reading storing b e er es told =
+    told ∙ rw (er, es, rest-whole memory)
+    (ap (λ (x : Client). areSound n (isReading (x .phase)) (stores (x .phase)) (drop repliesAt memory))
     e)
 
-module _ (client : Client) (memory : List ℕ) (e : client ≡ loaded (client .number) (client .f) memory) where
+module _ (client : Client) (memory : List ℕ)
+    (e : client ≡ loaded (client .number) (client .n) (client .f) memory) where
   -- it shows what the memory shows
   rest-view : byValue.view client (rest memory) ≡ view memory
   rest-view =
@@ -96,32 +97,32 @@ module _ (client : Client) (memory : List ℕ) (e : client ≡ loaded (client .n
         told ∙ ap (λ (y : model.Client). usesInfo y k tag) rest-view
         ∙ ap (isTaken (view memory) k) (sym kind)
 
-  module _ (h : isSoundMemory (client .f) memory ≡ true) (low : 1 ≤ client .number)
+  module _ (h : isSoundMemory (client .n) (client .f) memory ≡ true) (low : 1 ≤ client .number)
       (high : client .number ≤ mostClients) where
     -- it is sound with its replies, and with a copy of them
     pub rest-sound : isSound client (rest memory) ≡ true
     rest-sound =
         ap (isSound client) (rest-whole memory) ∙ ap (λ (x : Client). isSound x (drop repliesAt memory)) e
-        ∙ sound-parts (client .number) (client .f) memory low high h
+        ∙ sound-parts (client .number) (client .n) (client .f) memory low high h
 
     pub copy-sound : (copy : List ℕ) → copy ≡ rest memory → isSound client copy ≡ true
     copy-sound copy same = ap (isSound client) same ∙ rest-sound
 
   -- a step on them is one on the memory
   abbrev receivedBy : (k : ℕ) (message : Message) → model.Client → After
-  receivedBy k message y = sends.stored client (model.clientTakes (size (client .f)) (client .f)
+  receivedBy k message y = sends.stored client (model.clientTakes (client .n) (client .f)
       (client .number) y k message)
 
-  pub taken-in-memory : isSoundMemory (client .f) memory ≡ true
+  pub taken-in-memory : isSoundMemory (client .n) (client .f) memory ≡ true
       → (k : ℕ) (message : Message) (transition : Transition) (replies left : List ℕ)
       → sends.after transition replies ≡ receivedOf client (rest memory) k message
       → left ≡ stored (putMid repliesAt (length memory - repliesAt) memory replies) (transition .client)
       → outcome.after (record { sends = transition .sends; answer = transition .answer }) left
-      ≡ outcome.takenOf (client .number) (client .f) memory k message
+      ≡ outcome.takenOf (client .number) (client .n) (client .f) memory k message
   taken-in-memory h k message transition replies left step put =
       ap (λ (z : List ℕ). outcome.after (record { sends = transition .sends; answer = transition .answer }) z)
       (put ∙ ap (λ (z : List ℕ). headOf (transition .client .phase) (transition .client .reads) ++ z)
-      (rest-put memory replies (memory-long (client .f) memory h)))
+      (rest-put memory replies (memory-long (client .n) (client .f) memory h)))
       ∙ ap (λ (a : After). record {
         memory = headOf (a .client .phase) (a .client .reads) ++ a .replies;
         sends = a .sends;
@@ -131,7 +132,7 @@ module _ (client : Client) (memory : List ℕ) (e : client ≡ loaded (client .n
   -- and one on a copy sends the same
   pub copy-sends : (k : ℕ) (message : Message) (sent : List Message) (copy : List ℕ) → copy ≡ rest memory
       → sent ≡ receivedPairOf client copy k message .sends
-      → sent ≡ outcome.takenOf (client .number) (client .f) memory k message .sends
+      → sent ≡ outcome.takenOf (client .number) (client .n) (client .f) memory k message .sends
   copy-sends k message sent copy same step =
       step ∙ ap (λ (z : List ℕ). receivedPairOf client z k message .sends) same
       ∙ pair-sends client (rest memory) k message

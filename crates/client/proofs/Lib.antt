@@ -13,3 +13,4 @@ pub mod Keeping
 pub mod Ladders
 pub mod Laws
 pub mod Steadiness
+pub mod OutOfRange

@@ -14,7 +14,7 @@ use Rattle.basics.proofs.Prelude.{replicate, length-append, ℕ, _%_, _^_, _≤
 use Rattle.basics.proofs.Prelude.{eqb-true, eq-eqb, leb-true, le-leb}
 use lib.Seq.{drop-cons, sets-eq}
 use Rattle.basics.proofs.Tests.{each, all-of}
-use Rattle.register.proofs.Vocabulary.{ReadNumber, WriteCounter, tagBits, mostClients, mostFaulty, size}
+use Rattle.register.proofs.Vocabulary.{ReadNumber, WriteCounter, tagBits, mostClients, areServersInRange}
 use Rattle.register.proofs.Vocabulary.{isReading, newClient, entryOf}
 use Rattle.register.specs.declared.Phase.{Phase}
 use Rattle.register.specs.declared.Phase.the-variants.{Idle}
@@ -36,11 +36,11 @@ use Rattle.client.proofs.Heads.{Head, head-facts, head-sound, counter-f
 -- ---- the head and the rest
 
 -- what `load` and `store` make, from what the calls answer
-pub loaded-by : (d f : ℕ) (memory : List ℕ) (count : WriteCounter) (phase : Phase) (reads : ReadNumber)
+pub loaded-by : (d n f : ℕ) (memory : List ℕ) (count : WriteCounter) (phase : Phase) (reads : ReadNumber)
     → count ≡ record { 0 = getD memory counterAt 0 % 2 ^ 32 }
     → phase ≡ phaseOf (getD memory phaseAt 0) (getD memory entryAt 0) (count .0) → reads ≡ readsIn memory
-    → record { phase = phase; reads = reads; number = d; f = f } ≡ loaded d f memory
-loaded-by d f memory count phase reads ec ep er = rw (ep, ec, er)
+    → record { phase = phase; reads = reads; number = d; n = n; f = f } ≡ loaded d n f memory
+loaded-by d n f memory count phase reads ec ep er = rw (ep, ec, er)
 
 pub stored-by : (memory : List ℕ) (client : Client) (reads code entry count : ℕ)
     → length memory ≡ clientLength → reads ≡ client .reads .0 → code ≡ codeOf (client .phase)
@@ -59,58 +59,59 @@ head-rest memory long =
 
 -- ---- a sound memory
 
-pub record SoundMemory (f : ℕ) (memory : List ℕ) : Type 0 where
-  pub few : f ≤ mostFaulty
+pub record SoundMemory (n f : ℕ) (memory : List ℕ) : Type 0 where
+  pub range : areServersInRange n f ≡ true
   pub long : length memory ≡ clientLength
   pub reads : getD memory readsAt 0 < 2 ^ tagBits
   pub head : Head (getD memory phaseAt 0) (getD memory entryAt 0) (getD memory counterAt 0)
-  pub replies : areSound (size f) (isReading (phaseIn memory)) (stores (phaseIn memory))
+  pub replies : areSound n (isReading (phaseIn memory)) (stores (phaseIn memory))
       (drop repliesAt memory) ≡ true
 
-abbrev tests : ℕ → List ℕ → List Bool
-tests f memory =
-    leb f mostFaulty
+abbrev tests : ℕ → ℕ → List ℕ → List Bool
+tests n f memory =
+    areServersInRange n f
     ∷ eqb (length memory) clientLength
     ∷ ltb (getD memory readsAt 0) (2 ^ tagBits)
     ∷ isSoundHead (getD memory phaseAt 0) (getD memory entryAt 0) (getD memory counterAt 0)
-    ∷ areSound (size f) (isReading (phaseIn memory)) (stores (phaseIn memory)) (drop repliesAt memory)
+    ∷ areSound n (isReading (phaseIn memory)) (stores (phaseIn memory)) (drop repliesAt memory)
     ∷ []
 
-pub memory-facts : (f : ℕ) (memory : List ℕ) → isSoundMemory f memory ≡ true → SoundMemory f memory
+pub memory-facts : (n f : ℕ) (memory : List ℕ) → isSoundMemory n f memory ≡ true → SoundMemory n f memory
 unfolding isSoundMemory
-memory-facts f memory h = let passed = each (tests f memory) h in search (leb-true, eqb-true, head-facts)
+memory-facts n f memory h = let passed = each (tests n f memory) h in search (leb-true, eqb-true, head-facts)
 
-pub sound-by : (f : ℕ) (memory : List ℕ) {b : Bool} → Passes (tests f memory) b → b ≡ isSoundMemory f memory
+pub sound-by : (n f : ℕ) (memory : List ℕ) {b : Bool} → Passes (tests n f memory) b
+    → b ≡ isSoundMemory n f memory
 unfolding isSoundMemory
-sound-by f memory p = passes (tests f memory) p
+sound-by n f memory p = passes (tests n f memory) p
 
 -- its client and its replies are sound
-pub sound-parts : (d f : ℕ) (memory : List ℕ) → 1 ≤ d → d ≤ mostClients → isSoundMemory f memory ≡ true
-    → isSound (loaded d f memory) (drop repliesAt memory) ≡ true
-sound-parts d f memory low high h =
-    let s = memory-facts f memory h in
+pub sound-parts : (d n f : ℕ) (memory : List ℕ) → 1 ≤ d → d ≤ mostClients → isSoundMemory n f memory ≡ true
+    → isSound (loaded d n f memory) (drop repliesAt memory) ≡ true
+sound-parts d n f memory low high h =
+    let s = memory-facts n f memory h in
     let small = s .reads in
-    of-both (loaded d f memory) (drop repliesAt memory)
-    (client-sound (loaded d f memory)
-    (record { low = low; high = high; few = s .few; reads = omega arith; phase = s .head .sound }))
-    (facts (size f) (isReading (phaseIn memory)) (stores (phaseIn memory)) (drop repliesAt memory)
+    of-both (loaded d n f memory) (drop repliesAt memory)
+    (client-sound (loaded d n f memory)
+    (record { low = low; high = high; range = s .range; reads = omega arith; phase = s .head .sound }))
+    (facts n (isReading (phaseIn memory)) (stores (phaseIn memory)) (drop repliesAt memory)
     (s .replies))
 
 -- a client that is sound with its replies makes a sound memory
 pub sound-whole : (client : Client) (replies : List ℕ) → isSound client replies ≡ true
-    → isSoundMemory (client .f) (headOf (client .phase) (client .reads) ++ replies) ≡ true
+    → isSoundMemory (client .n) (client .f) (headOf (client .phase) (client .reads) ++ replies) ≡ true
 unfolding isSoundMemory
 sound-whole client replies h =
     let memory = headOf (client .phase) (client .reads) ++ replies in
     let s = client-facts client (of-client client replies h) in
     let o = of-memory client replies h in
     let long : length memory ≡ clientLength = omega (arith, o .long) in
-    let replies : areSound (size (client .f)) (isReading (phaseIn memory))
+    let replies : areSound (client .n) (isReading (phaseIn memory))
     (stores (phaseIn memory)) replies ≡ true =
-    ap (λ (phase : Phase). areSound (size (client .f)) (isReading phase) (stores phase) replies)
+    ap (λ (phase : Phase). areSound (client .n) (isReading phase) (stores phase) replies)
     (phase-again (client .phase) (counter-fits (client .phase) (s .phase)))
-    ∙ sound (size (client .f)) (isReading (client .phase)) (stores (client .phase)) replies o in
-    all-of (tests (client .f) memory) (search (le-leb, eq-eqb, head-sound))
+    ∙ sound (client .n) (isReading (client .phase)) (stores (client .phase)) replies o in
+    all-of (tests (client .n) (client .f) memory) (search (le-leb, eq-eqb, head-sound))
 
 -- ---- loading what was stored
 
@@ -121,16 +122,16 @@ view-store self count reads e = rw (phase-again (self .phase) count, mod-small (
 
 pub load-stored : (client : Client) (memory : List ℕ) → counterIn (client .phase) < 2 ^ 32
     → client .reads .0 < 2 ^ 32
-    → loaded (client .number) (client .f) (stored memory client) ≡ client
+    → loaded (client .number) (client .n) (client .f) (stored memory client) ≡ client
 load-stored client memory count reads =
     rw (phase-again (client .phase) count, mod-small (client .reads .0) reads)
 
 -- ---- storing what was loaded
 
-module _ (f : ℕ) (memory : List ℕ) (h : isSoundMemory f memory ≡ true) where
-  pub store-load : (d : ℕ) → stored memory (loaded d f memory) ≡ memory
+module _ (n f : ℕ) (memory : List ℕ) (h : isSoundMemory n f memory ≡ true) where
+  pub store-load : (d : ℕ) → stored memory (loaded d n f memory) ≡ memory
   store-load d =
-      let s = memory-facts f memory h in
+      let s = memory-facts n f memory h in
       let reads : getD memory readsAt 0 % 2 ^ 32 ≡ getD memory readsAt 0 =
       mod-small (getD memory readsAt 0) (let small = s .reads in omega arith) in
       rw (reads, s .head .same-code, s .head .same-entry, s .head .same-counter) (head-rest memory (s .long))
@@ -140,8 +141,8 @@ module _ (f : ℕ) (memory : List ℕ) (h : isSoundMemory f memory ≡ true) whe
       let phase = phaseIn memory in
       let rest = drop repliesAt memory in
       ap (λ (replies : List ℕ). headOf phase (readsIn memory) ++ replies)
-      (store-held (size f) (isReading phase) (stores phase) rest
-      (facts (size f) (isReading phase) (stores phase) rest (memory-facts f memory h .replies)) phase
+      (store-held n (isReading phase) (stores phase) rest
+      (facts n (isReading phase) (stores phase) rest (memory-facts n f memory h .replies)) phase
       (readsIn memory))
       ∙ store-load 0
 
@@ -158,6 +159,6 @@ store-new = ap (λ (replies : List ℕ). headOf Idle (record { 0 = 0 }) ++ repli
 
 -- ---- a client that is loaded from its memory
 
-pub loaded-self : (client : Client) (d f : ℕ) (memory : List ℕ) → client ≡ loaded d f memory
-    → client ≡ loaded (client .number) (client .f) memory
-loaded-self client d f memory e = e ∙ ap (λ (x : Client). loaded (x .number) (x .f) memory) (sym e)
+pub loaded-self : (client : Client) (d n f : ℕ) (memory : List ℕ) → client ≡ loaded d n f memory
+    → client ≡ loaded (client .number) (client .n) (client .f) memory
+loaded-self client d n f memory e = e ∙ ap (λ (x : Client). loaded (x .number) (x .n) (x .f) memory) (sym e)

@@ -7,7 +7,7 @@ use types.Run.{OneOf, miss}
 use denote.Enum.Declared.{tagOf}
 use Rattle.basics.proofs.Cases.{true-or-false}
 use Rattle.register.proofs.Vocabulary.{Entry, Pair, WriteCounter, lastCounter, pairBits, counter, pairOf}
-use Rattle.register.proofs.Vocabulary.{size, Response, isReading, cleared, sendsNothing, counts, chosen}
+use Rattle.register.proofs.Vocabulary.{Response, isReading, cleared, sendsNothing, counts, chosen}
 use Rattle.register.proofs.Vocabulary.{concluded, afterChoice}
 use Rattle.register.specs.declared.Answer.{Answer}
 use Rattle.register.specs.declared.Answer.the-variants.{Went, Read, Spent}
@@ -37,7 +37,7 @@ use Rattle.client.proofs.Facts.{of-memory}
 pub store-view : (client : Client) (replies : List ℕ) → isSound client replies ≡ true
     → storeReplies (view client replies) ≡ replies
 store-view client replies h =
-    store-held (size (client .f)) (isReading (client .phase)) (stores (client .phase)) replies
+    store-held (client .n) (isReading (client .phase)) (stores (client .phase)) replies
     (of-memory client replies h) (client .phase) (client .reads)
 
 -- nothing follows
@@ -62,7 +62,7 @@ empties client phase sends answer = rw (store-cleared phase (client .reads))
 
 module _ (client : Client) (pair : Pair) where
   abbrev concludedIn : Phase → After
-  concludedIn phase = stored client (concluded (size (client .f)) (client .f) (client .number)
+  concludedIn phase = stored client (concluded (client .n) (client .f) (client .number)
       (view client empty) phase pair)
 
   -- a read ends; the tags of the other phases than reading for a write
@@ -146,11 +146,11 @@ concluded-same n f d self other (ReadingForWrite entry) pair e h = rw e
 concluded-same n f d self other (Storing entry count) pair e h = absurd (true-or-false false h refl)
 
 module _ (client : Client) (replies : List ℕ) (found : Choice)
-    (choice-is : choiceOf found ≡ chosen (size (client .f)) (client .f) 0 (heldIn replies))
+    (choice-is : choiceOf found ≡ chosen (client .n) (client .f) 0 (heldIn replies))
     (step : Transition) where
   abbrev chosenBy : Option Pair → After
   chosenBy pick = stored client
-      (afterChoice (size (client .f)) (client .f) (client .number) (view client replies) pick)
+      (afterChoice (client .n) (client .f) (client .number) (view client replies) pick)
 
   -- it depends on the replies alone
   same-choice : (pick : Choice) → found ≡ pick → chosenBy (choiceOf pick) ≡ chosenOf client replies
@@ -168,13 +168,13 @@ module _ (client : Client) (replies : List ℕ) (found : Choice)
   unfolding afterChoice
   choice-leads pair reading e left el et =
       ap (after step) el ∙ et ∙ ap (λ (response : Response). stored client response)
-      (concluded-same (size (client .f)) (client .f) (client .number) (view client empty)
+      (concluded-same (client .n) (client .f) (client .number) (view client empty)
       (view client replies) (client .phase) pair refl reading)
       ∙ same-choice (choice.Found pair) e
 
 -- what is sent in each case
 module _ (client : Client) (replies : List ℕ) (found : Choice)
-    (choice-is : choiceOf found ≡ chosen (size (client .f)) (client .f) 0 (heldIn replies)) where
+    (choice-is : choiceOf found ≡ chosen (client .n) (client .f) 0 (heldIn replies)) where
   pub no-choice-sends : isSound client replies ≡ true → found ≡ choice.Nothing
       → [] ≡ chosenOf client replies .sends
   no-choice-sends h e =

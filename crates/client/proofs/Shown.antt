@@ -3,11 +3,12 @@
 -- Assumes nothing.
 use Rattle.basics.proofs.Prelude.{_≡_, ap, _∙_, true, List, length, replicate, ℕ, suc, _-_, _^_, _≤_, _<_}
 use Rattle.basics.proofs.Prelude.{arith}
-use Rattle.register.proofs.Vocabulary.{Pair, stampBits, pairBits, stamp, size, add, mostServers, mostFaulty}
+use Rattle.register.proofs.Vocabulary.{Pair, stampBits, pairBits, stamp, add, mostServers}
 use Rattle.register.proofs.Vocabulary.{setLimit, isReading, withPair, withInfo, withAck}
 use Rattle.message.specs.Pair.{clientBits}
 use Rattle.message.proofs.Pairs.{stamp-fits}
 use Rattle.replies.specs.Replies.{setIn, putNote, putAck, putSet, Padded, repliesLength}
+use Rattle.register.proofs.Bounds.{servers-in-range}
 use Rattle.replies.proofs.Places.{size-most}
 use Rattle.replies.proofs.Soundness as soundness
 use Rattle.replies.proofs.Soundness.{set-sound, empty-sound, add-length, padded}
@@ -71,21 +72,22 @@ module _ (client : Client) (replies : List ℕ) (h : isSound client replies ≡ 
   pub sound-long : length replies ≡ repliesLength
   sound-long = of-memory client replies h .long
 
-  pub sound-few : client .f ≤ mostFaulty
-  sound-few = client-facts client (of-client client replies h) .few
+  pub few-servers : client .n ≤ mostServers
+  few-servers =
+      servers-in-range (client .n) (client .f) (client-facts client (of-client client replies h) .range) .1
 
   pub sound-number : client .number < 2 ^ clientBits
   sound-number = client-number client (of-client client replies h)
 
   pub padded-at : (i : ℕ) → i < mostServers → Padded replies i
-  padded-at = padded (size (client .f)) (isReading (client .phase)) (stores (client .phase)) replies
+  padded-at = padded (client .n) (isReading (client .phase)) (stores (client .phase)) replies
       (of-memory client replies h)
 
 -- what server k changes
 module _ (client : Client) (replies : List ℕ) (k : ℕ) (h : isSound client replies ≡ true) (low : 1 ≤ k)
-    (high : k ≤ size (client .f)) where
+    (high : k ≤ client .n) where
   pub place : k - 1 < mostServers
-  place = omega (arith, sound-few client replies h)
+  place = omega (arith, few-servers client replies h)
 
   pub at-most : k ≤ mostServers
   at-most = omega (arith, place)
@@ -93,7 +95,7 @@ module _ (client : Client) (replies : List ℕ) (k : ℕ) (h : isSound client re
   number : suc (k - 1) ≡ k
   number = omega arith
 
-  inside : k - 1 < size (client .f)
+  inside : k - 1 < client .n
   inside = omega arith
 
   pub pair-view : (pair : Pair) → view client (paired replies (k - 1) pair) ≡ withPair
@@ -116,26 +118,26 @@ module _ (client : Client) (replies : List ℕ) (k : ℕ) (h : isSound client re
       → isSound client (paired replies (k - 1) pair) ≡ true
   pair-sound reading pair =
       of-both client (paired replies (k - 1) pair) (of-client client replies h)
-      (rw reading (set-sound (size (client .f)) replies (k - 1) inside place (stores (client .phase)) pair
+      (rw reading (set-sound (client .n) replies (k - 1) inside place (stores (client .phase)) pair
       (rw reading at (of-memory client replies h))))
 
   pub note-sound : isReading (client .phase) ≡ true → (noted : ℕ) → noted < 2 ^ stampBits
       → isSound client (putNote replies (k - 1) noted) ≡ true
   note-sound reading noted fits =
       of-both client (putNote replies (k - 1) noted) (of-client client replies h)
-      (rw reading (soundness.note-sound (size (client .f)) replies (k - 1) inside place
+      (rw reading (soundness.note-sound (client .n) replies (k - 1) inside place
       (stores (client .phase)) noted fits
       (rw reading at (of-memory client replies h))))
 
   pub ack-sound : stores (client .phase) ≡ true → isSound client (putAck replies (k - 1)) ≡ true
   ack-sound storing =
       of-both client (putAck replies (k - 1)) (of-client client replies h)
-      (rw storing (soundness.ack-sound (size (client .f)) replies (k - 1) inside place
+      (rw storing (soundness.ack-sound (client .n) replies (k - 1) inside place
       (isReading (client .phase))
       (rw storing at (of-memory client replies h))))
 
 pub info-sound : (client : Client) (replies : List ℕ) (k : ℕ) → isSound client replies ≡ true → 1 ≤ k
-    → k ≤ size (client .f)
+    → k ≤ client .n
     → isReading (client .phase) ≡ true → (pair : Pair) → pair .0 < 2 ^ pairBits
     → isSound client (informed replies (k - 1) pair) ≡ true
 info-sound client replies k h low high reading pair fits =
@@ -145,5 +147,5 @@ info-sound client replies k h low high reading pair fits =
 pub empty-keeps : (client : Client) → isSoundClient client ≡ true
     → isSound client (replicate repliesLength 0) ≡ true
 empty-keeps client h =
-    of-both client (replicate repliesLength 0) h (empty-sound (size (client .f)) (isReading (client .phase))
+    of-both client (replicate repliesLength 0) h (empty-sound (client .n) (isReading (client .phase))
     (stores (client .phase)))

@@ -7,7 +7,7 @@
 use Rattle.basics.proofs.Prelude.{_≡_, refl, sym, ap, _∙_, Bool, true, List, drop, replicate, ℕ}
 use Rattle.basics.proofs.Prelude.{_≤_, arith, leb, leb-true, not-false}
 use Rattle.basics.proofs.Cases.{both}
-use Rattle.register.proofs.Vocabulary.{lowest, Entry, unpackOf, mostClients, mostFaulty, size, newClient}
+use Rattle.register.proofs.Vocabulary.{lowest, Entry, unpackOf, mostClients, areServersInRange, newClient}
 use Rattle.register.proofs.Vocabulary.{clientTakes, started}
 use Rattle.register.specs.declared.Phase.{Phase}
 use Rattle.register.specs.declared.Phase.the-variants.{Idle, Reading, ReadingForWrite}
@@ -28,56 +28,56 @@ use Rattle.client.proofs.Laws.{by-unpacked}
 use Rattle.client.proofs.Memory.{sound-parts, store-new}
 
 -- the memory after a step is sound
-abbrev pub Steady : ℕ → After → Type 0
-Steady f outcome = isSoundMemory f (outcome .memory) ≡ true
+abbrev pub Steady : ℕ → ℕ → After → Type 0
+Steady n f outcome = isSoundMemory n f (outcome .memory) ≡ true
 
 -- the setup
-pub new-sound : (f : ℕ) → f ≤ mostFaulty → isSoundMemory f (replicate clientLength 0) ≡ true
+pub new-sound : (n f : ℕ) → areServersInRange n f ≡ true → isSoundMemory n f (replicate clientLength 0) ≡ true
 unfolding isSoundPhase
-new-sound f few =
-    let client = storeClient 1 f newClient in
-    ap (isSoundMemory f) (sym store-new)
+new-sound n f range =
+    let client = storeClient 1 n f newClient in
+    ap (isSoundMemory n f) (sym store-new)
     ∙ kept-memory client newClient
     (kept-cleared client Idle (record { 0 = 0 })
     (client-sound client
-    (record { low = omega arith; high = omega arith; few = few; reads = omega arith; phase = refl })))
+    (record { low = omega arith; high = omega arith; range = range; reads = omega arith; phase = refl })))
     .sound
 
-module _ (d f : ℕ) (memory : List ℕ) (h : isSoundMemory f memory ≡ true) where
+module _ (d n f : ℕ) (memory : List ℕ) (h : isSoundMemory n f memory ≡ true) where
   -- of a client that there is
-  sound-client : isClient d ≡ true → isSound (loaded d f memory) (drop repliesAt memory) ≡ true
+  sound-client : isClient d ≡ true → isSound (loaded d n f memory) (drop repliesAt memory) ≡ true
   sound-client e =
       let there = both (leb 1 d) (leb d mostClients) e in
-      sound-parts d f memory (leb-true 1 d (there .0)) (leb-true d mostClients (there .1)) h
+      sound-parts d n f memory (leb-true 1 d (there .0)) (leb-true d mostClients (there .1)) h
 
   start-sound : (phase : Phase) (licensed : Bool) → (licensed ≡ true → isSoundPhase phase ≡ true)
-      → Steady f (startOf d f memory phase licensed)
+      → Steady n f (startOf d n f memory phase licensed)
   unfolding startOf
   start-sound phase licensed entry =
-      either (Steady f) memory (lowest (startRefusals d f memory licensed)) (startedOf memory phase)
-      (λ why. h) (λ e. let passed = start-facts d f memory licensed e in
-      let client = loaded d f memory in
+      either (Steady n f) memory (lowest (startRefusals d n f memory licensed)) (startedOf memory phase)
+      (λ why. h) (λ e. let passed = start-facts d n f memory licensed e in
+      let client = loaded d n f memory in
       kept-memory client (started (view memory) phase) (kept-started client (drop repliesAt memory) phase
       (of-client client (drop repliesAt memory) (sound-client (passed .there))) (passed .room)
       (entry (passed .entry))) .sound)
 
-  pub read-sound : Steady f (readOf d f memory)
+  pub read-sound : Steady n f (readOf d n f memory)
   unfolding readOf startOf isSoundPhase
   read-sound = start-sound Reading true (λ e. refl)
 
-  pub write-sound : (entry : Entry) → Steady f (writeOf d f memory entry)
+  pub write-sound : (entry : Entry) → Steady n f (writeOf d n f memory entry)
   unfolding writeOf isSoundPhase
   write-sound entry = start-sound (ReadingForWrite entry) (isLicence (entry .0)) (λ e. e)
 
-  pub take-sound : (k : ℕ) (bytes : List ℕ) → Words memory → Steady f (takeOf d f memory k bytes)
+  pub take-sound : (k : ℕ) (bytes : List ℕ) → Words memory → Steady n f (takeOf d n f memory k bytes)
   take-sound k bytes words =
-      by-take (Steady f) d f memory k bytes (λ why. h)
-      (λ e. let there = both (isClient d) (isServer f k)
-      (not-false _ (none-applies (takeRefusals d f memory k bytes) e .1 .0)) in
-      let server = both (leb 1 k) (leb k (size f)) (there .1) in
+      by-take (Steady n f) d n f memory k bytes (λ why. h)
+      (λ e. let there = both (isClient d) (isServer n k)
+      (not-false _ (none-applies (takeRefusals d n f memory k bytes) e .1 .0)) in
+      let server = both (leb 1 k) (leb k n) (there .1) in
       by-unpacked (unpackOf bytes)
       (λ message good. rw good
-      (kept-memory (loaded d f memory) (clientTakes (size f) f d (view memory) k message .client)
-      (kept-taken (loaded d f memory) (drop repliesAt memory) k (sound-client (there .0))
-      (leb-true 1 k (server .0)) (leb-true k (size f) (server .1)) (drop-words repliesAt memory words) message
+      (kept-memory (loaded d n f memory) (clientTakes n f d (view memory) k message .client)
+      (kept-taken (loaded d n f memory) (drop repliesAt memory) k (sound-client (there .0))
+      (leb-true 1 k (server .0)) (leb-true k n (server .1)) (drop-words repliesAt memory words) message
       (pack-unpack bytes message good .within)) .sound)) (λ why bad. rw bad h))

@@ -5,7 +5,7 @@ use Rattle.basics.proofs.Prelude.{[], length, replicate, ℕ, suc, _-_, _^_, _�
 use Rattle.basics.proofs.Prelude.{not-false}
 use Rattle.basics.proofs.Cases.{by-test, both, true-or-false}
 use Rattle.register.proofs.Vocabulary.{Message, GetInfo, Info, Done, WriteInfo, Fwd, WriteAck, Pair}
-use Rattle.register.proofs.Vocabulary.{ReadNumber, WriteCounter, pairBits, stamp, pairOf, size, counted}
+use Rattle.register.proofs.Vocabulary.{ReadNumber, WriteCounter, pairBits, stamp, pairOf, counted}
 use Rattle.register.proofs.Vocabulary.{enough, isReading, isStoring, isNoted, cleared, sendsNothing, withAck}
 use Rattle.register.proofs.Vocabulary.{entryOf, acknowledged, usesInfo, clientTakes}
 use Rattle.register.specs.declared.Answer.the-variants.{Wrote}
@@ -70,7 +70,7 @@ module _ (client : Client) (replies : List ℕ) (k : ℕ) where
 
   -- a FWD adds its pair
   pub fwd-collected : (pair : Pair) (left : List ℕ) → isSound client replies ≡ true → 1 ≤ k
-      → k ≤ size (client .f)
+      → k ≤ client .n
       → isReading (client .phase) ≡ true → left ≡ paired replies (k - 1) pair
       → Collected client replies k (Fwd pair) true left
   unfolding isCollected withReply
@@ -85,7 +85,7 @@ module _ (client : Client) (replies : List ℕ) (k : ℕ) where
   module _ (noted : List ℕ) (number : ℕ) (pair : Pair) (tag : ReadNumber) (b : Bool)
       (noted-is : noted ≡ putNote replies (k - 1) number) (stamp-is : number ≡ stamp pair)
       (fits : pair .0 < 2 ^ pairBits) (told : b ≡ takes tag) (n : not b ≡ false)
-      (h : isSound client replies ≡ true) (low : 1 ≤ k) (high : k ≤ size (client .f)) where
+      (h : isSound client replies ≡ true) (low : 1 ≤ k) (high : k ≤ client .n) where
     taken : takes tag ≡ true
     taken = holds b (takes tag) told n
 
@@ -166,8 +166,8 @@ module _ (client : Client) (replies : List ℕ) (k : ℕ) where
   pair-sends (Fwd pair) = refl
   pair-sends (WriteAck count) =
       by-test (isStoring (client .phase) count)
-      (λ t. rw t (by-test (enough (size (client .f)) (client .f)
-      (counted (withAck (view client replies) k .acks) (size (client .f))))
+      (λ t. rw t (by-test (enough (client .n) (client .f)
+      (counted (withAck (view client replies) k .acks) (client .n)))
       (λ u. rw u) (λ u. rw u))) (λ t. rw t)
 
 -- ---- WRITE_ACK
@@ -182,7 +182,7 @@ module _ (client : Client) (replies : List ℕ) (k : ℕ) (h : isSound client re
       rw (fails b (isStoring (client .phase) counter) told n) (unchanged-is client replies step h e)
 
   -- otherwise it is noted
-  module _ (low : 1 ≤ k) (high : k ≤ size (client .f)) (n : not b ≡ false) (left : List ℕ)
+  module _ (low : 1 ≤ k) (high : k ≤ client .n) (n : not b ≡ false) (left : List ℕ)
       (noted : left ≡ putAck replies (k - 1))
     where
       storing : isStoring (client .phase) counter ≡ true
@@ -207,8 +207,8 @@ module _ (client : Client) (replies : List ℕ) (k : ℕ) (h : isSound client re
       ack-long = sound-long client left ack-sound
 
       -- and enough of them end the write
-      module _ (count : ℕ) (counted-is : count ≡ counted (ackIn left) (size (client .f))) (is-enough : Bool)
-          (enough-is : is-enough ≡ enough (size (client .f)) (client .f) count) (step : Transition) where
+      module _ (count : ℕ) (counted-is : count ≡ counted (ackIn left) (client .n)) (is-enough : Bool)
+          (enough-is : is-enough ≡ enough (client .n) (client .f) count) (step : Transition) where
         abbrev acked : Bool → After
         acked ended =
             stored client (cond ended
@@ -223,8 +223,8 @@ module _ (client : Client) (replies : List ℕ) (k : ℕ) (h : isSound client re
             → acked ended ≡ receivedOf client replies k (WriteAck counter)
         unfolding clientTakes acknowledged
         acked-is ended e =
-            ap acked (sym e ∙ enough-is ∙ ap (enough (size (client .f)) (client .f)) counted-is)
-            ∙ ap (λ (self : model.Client). stored client (acknowledged (size (client .f)) (client .f)
+            ap acked (sym e ∙ enough-is ∙ ap (enough (client .n) (client .f)) counted-is)
+            ∙ ap (λ (self : model.Client). stored client (acknowledged (client .n) (client .f)
             (client .number) self counter))
             (ap (view client) noted ∙ ack-view client replies k h low high)
             ∙ rw storing

@@ -85,9 +85,9 @@ phaseIn memory = phaseOf (getD memory phaseAt 0) (getD memory entryAt 0) (getD m
 abbrev pub readsIn : List ℕ → ReadNumber
 readsIn memory = record { 0 = getD memory readsAt 0 % 2 ^ 32 }
 
--- the client with a number and for f, loaded
-abbrev pub loaded : ℕ → ℕ → List ℕ → Client
-loaded d f memory = record { number = d; f = f; phase = phaseIn memory; reads = readsIn memory }
+-- the client with its number, n and f, loaded
+abbrev pub loaded : ℕ → ℕ → ℕ → List ℕ → Client
+loaded d n f memory = record { number = d; n = n; f = f; phase = phaseIn memory; reads = readsIn memory }
 
 -- the four numbers before the replies
 abbrev pub headOf : Phase → ReadNumber → List ℕ

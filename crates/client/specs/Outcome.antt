@@ -11,7 +11,6 @@ use Rattle.message.specs.declared.Message.the-variants as message
 use Rattle.register.specs.declared.Answer.{Answer}
 use Rattle.register.specs.declared.Answer.the-variants.{Went}
 use Rattle.register.specs.declared.Phase.{Phase}
-use Rattle.register.specs.Thresholds.{size}
 use Rattle.register.specs.Client.{Response, nextRead, started, clientTakes}
 use Rattle.client.specs.declared.Outcome.{Outcome}
 use Rattle.client.specs.declared.Sends.{Sends}
@@ -50,6 +49,6 @@ startedOf memory phase =
       answer = Went;
     })
 
--- one message of server k, for the client with number d, for f
-abbrev pub takenOf : ℕ → ℕ → List ℕ → ℕ → Message → After
-takenOf d f memory k given = leaves (clientTakes (size f) f d (view memory) k given)
+-- one message of server k, for the client with number d, of n servers of which f may be faulty
+abbrev pub takenOf : ℕ → ℕ → ℕ → List ℕ → ℕ → Message → After
+takenOf d n f memory k given = leaves (clientTakes n f d (view memory) k given)

@@ -12,7 +12,6 @@ use Rattle.message.specs.declared.Message.{Message}
 use Rattle.message.specs.declared.Pair.{Pair}
 use Rattle.register.specs.declared.Answer.{Answer}
 use Rattle.register.specs.declared.Phase.the-variants.{Idle}
-use Rattle.register.specs.Thresholds.{size}
 use Rattle.register.specs.Client as model
 use Rattle.register.specs.Client.{Response, chosen, concluded, afterChoice, clientTakes}
 use Rattle.replies.specs.Replies.{storeReplies, repliesLength}
@@ -42,11 +41,11 @@ after transition replies = record {
 abbrev pub endsWith : Client → Sends → Answer → Transition
 endsWith client sends answer = record { client = inPhase client Idle; sends = sends; answer = answer }
 
--- the outcome of the model's step, for a client with this number and f
+-- the outcome of the model's step, for a client with this number, n and f
 abbrev pub stored : Client → Response → After
 stored client response =
     record {
-      client = storeClient (client .number) (client .f) (response .client);
+      client = storeClient (client .number) (client .n) (client .f) (response .client);
       replies = storeReplies (response .client);
       sends = response .sends;
       answer = response .answer;
@@ -55,18 +54,18 @@ stored client response =
 -- what a chosen pair leads to, from empty replies
 abbrev pub concludedOf : Client → Pair → After
 concludedOf client pair =
-    stored client (concluded (size (client .f)) (client .f) (client .number)
+    stored client (concluded (client .n) (client .f) (client .number)
     (view client (replicate repliesLength 0)) (client .phase) pair)
 
 -- what follows from the choice, if there is one, for what the model's client holds
 abbrev pub followed : Client → model.Client → Response
-followed client self = afterChoice (size (client .f)) (client .f) (client .number) self
-    (chosen (size (client .f)) (client .f) (client .number) self)
+followed client self = afterChoice (client .n) (client .f) (client .number) self
+    (chosen (client .n) (client .f) (client .number) self)
 
 abbrev pub chosenOf : Client → List ℕ → After
 chosenOf client replies = stored client (followed client (view client replies))
 
 -- one message of server k
 abbrev pub receivedOf : Client → List ℕ → ℕ → Message → After
-receivedOf client replies k message = stored client (clientTakes (size (client .f)) (client .f)
+receivedOf client replies k message = stored client (clientTakes (client .n) (client .f)
     (client .number) (view client replies) k message)

@@ -13,8 +13,7 @@ use Rattle.licence.specs.Entry.{isLicence}
 use Rattle.message.specs.Layout.{tagBits, counterBits}
 use Rattle.register.specs.declared.Phase.{Phase}
 use Rattle.register.specs.declared.Phase.the-variants.{Idle, Reading, ReadingForWrite, Storing}
-use Rattle.register.specs.Settings.{mostClients, mostFaulty}
-use Rattle.register.specs.Thresholds.{size}
+use Rattle.register.specs.Settings.{mostClients, areServersInRange}
 use Rattle.register.specs.Client.{isReading}
 use Rattle.replies.specs.Sound.{areSound}
 use Rattle.client.specs.declared.Client.{Client}
@@ -35,20 +34,20 @@ stores Reading = false
 stores (ReadingForWrite entry) = false
 stores (Storing entry count) = true
 
--- the client: its number, f and its read number are in range
+-- the client: its number, n and f, and its read number are in range
 unfoldable pub isSoundClient : Client → Bool
 isSoundClient client =
     allPass
     (leb 1 (client .number)
     ∷ leb (client .number) mostClients
-    ∷ leb (client .f) mostFaulty
+    ∷ areServersInRange (client .n) (client .f)
     ∷ ltb (client .reads .0) (2 ^ tagBits)
     ∷ isSoundPhase (client .phase)
     ∷ [])
 
 -- the client and its replies
 unfoldable pub isSound : Client → List ℕ → Bool
-isSound client replies = isSoundClient client && areSound (size (client .f)) (isReading (client .phase))
+isSound client replies = isSoundClient client && areSound (client .n) (isReading (client .phase))
     (stores (client .phase)) replies
 
 -- ---- the memory
@@ -68,16 +67,16 @@ isSoundHead code entry count =
 
 -- the replies, in the phase that the memory has
 abbrev pub areSoundReplies : ℕ → List ℕ → Bool
-areSoundReplies f memory = areSound (size f) (isReading (phaseIn memory)) (stores (phaseIn memory))
+areSoundReplies n memory = areSound n (isReading (phaseIn memory)) (stores (phaseIn memory))
     (drop repliesAt memory)
 
--- the whole memory of a client, where f servers may be faulty
-unfoldable pub isSoundMemory : ℕ → List ℕ → Bool
-isSoundMemory f memory =
+-- the whole memory of a client, of n servers of which f may be faulty
+unfoldable pub isSoundMemory : ℕ → ℕ → List ℕ → Bool
+isSoundMemory n f memory =
     allPass
-    (leb f mostFaulty
+    (areServersInRange n f
     ∷ eqb (length memory) clientLength
     ∷ ltb (getD memory readsAt 0) (2 ^ tagBits)
     ∷ isSoundHead (getD memory phaseAt 0) (getD memory entryAt 0) (getD memory counterAt 0)
-    ∷ areSoundReplies f memory
+    ∷ areSoundReplies n memory
     ∷ [])

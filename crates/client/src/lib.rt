@@ -1,14 +1,13 @@
 // The client end (01: desk): how it starts, and what it does with one message of a server. All of it stands
 // in memory that it is lent (specs/Memory). Inside a step the client is loaded, goes by value, and its head
 // is stored again. The inner functions ask for a sound client; the entry points, at the end, ask for nothing
-// and refuse. The memory has neither the client's number nor f: a caller gives the same ones at each call.
+// and refuse. The memory has neither the client's number nor n and f: a caller gives the same at each call.
 ghost use mathlib.Core.Path.{_≡_};
 ghost use mathlib.Core.Bool.{true, false};
 ghost use Prim.Native.Nat.{_+_, _<_, _≤_};
 ghost use lib.ListN.{length, replicate};
 ghost use Rattle.message.specs.Layout.{lastRead};
 ghost use Rattle.register.specs.Settings.{mostClients, mostServers};
-ghost use Rattle.register.specs.Thresholds.{size};
 ghost use Rattle.register.specs.Client.{isIdle, isReading, isStoring, entryOf, usesInfo};
 ghost use Rattle.replies.specs.Replies.{repliesLength};
 ghost use Rattle.client.specs.State as byValue;
@@ -32,7 +31,6 @@ use message::WriteCounter;
 use refusal::Refusal;
 use register::Answer;
 use register::MOST_CLIENTS;
-use register::MOST_FAULTY;
 use register::Phase;
 use replies::Choice;
 
@@ -59,11 +57,13 @@ const READING_FOR_WRITE: u64 = 2;
 
 const STORING: u64 = 3;
 
-// A client by its number, for f faulty servers, as a step loads it. What the servers replied stays in memory.
+// A client by its number, of n servers of which f may be faulty, as a step loads it. What the servers replied
+// stays in memory.
 pub struct Client {
     pub phase: Phase,
     pub reads: ReadNumber,
     pub number: u8,
+    pub n: u8,
     pub f: u8,
 }
 
@@ -149,6 +149,7 @@ fn in_phase(client: Client, phase: Phase) -> Client
     let reads = client.reads;
     Client {
         number: client.number,
+        n: client.n,
         f: client.f,
         phase,
         reads,
@@ -207,7 +208,7 @@ fn follow_choice(client: Client, replies: &mut [u64]) -> Transition
     requires { ⌜ (isSound client (now replies) ≡ true) × (isReading (client .phase) ≡ true) ⌝ }
     ensures { λ step. ⌜ after step (now (replies .exit)) ≡ chosenOf client (now (replies .entry)) ⌝ }
 {
-    let Choice::Found(pair) = replies::choose(replies, client.f) else {
+    let Choice::Found(pair) = replies::choose(replies, client.n, client.f) else {
         return unchanged(client);
     };
     replies::clear(replies);
@@ -233,7 +234,7 @@ fn takes_info(client: Client, k: u8, tag: ReadNumber, replies: &[u64]) -> bool
 
 // Collects an INFO: whether it is taken.
 fn info(client: Client, k: u8, tag: ReadNumber, pair: Pair, replies: &mut [u64]) -> bool
-    requires { ⌜ (isSound client (now replies) ≡ true) × (1 ≤ k) × (k ≤ size (client .f)) ⌝ }
+    requires { ⌜ (isSound client (now replies) ≡ true) × (1 ≤ k) × (k ≤ client .n) ⌝ }
     ensures { λ b. ⌜ Collected client (now (replies .entry)) k (Message.Info tag pair) b
         (now (replies .exit)) ⌝ }
 {
@@ -248,7 +249,7 @@ fn info(client: Client, k: u8, tag: ReadNumber, pair: Pair, replies: &mut [u64])
 
 // Collects a FWD: whether it is taken.
 fn forwarded(client: Client, k: u8, pair: Pair, replies: &mut [u64]) -> bool
-    requires { ⌜ (isSound client (now replies) ≡ true) × (1 ≤ k) × (k ≤ size (client .f)) ⌝ }
+    requires { ⌜ (isSound client (now replies) ≡ true) × (1 ≤ k) × (k ≤ client .n) ⌝ }
     ensures { λ b. ⌜ Collected client (now (replies .entry)) k (Message.Fwd pair) b (now (replies .exit)) ⌝ }
 {
     let phase = client.phase;
@@ -261,7 +262,7 @@ fn forwarded(client: Client, k: u8, pair: Pair, replies: &mut [u64]) -> bool
 
 // Collects an INFO or a FWD: whether it is taken. Another kind is not.
 fn collect(client: Client, k: u8, message: Message, replies: &mut [u64]) -> bool
-    requires { ⌜ (isSound client (now replies) ≡ true) × (1 ≤ k) × (k ≤ size (client .f)) ⌝ }
+    requires { ⌜ (isSound client (now replies) ≡ true) × (1 ≤ k) × (k ≤ client .n) ⌝ }
     ensures { λ b. ⌜ Collected client (now (replies .entry)) k message b (now (replies .exit)) ⌝ }
 {
     if let Message::Info(tag, pair) = message {
@@ -275,7 +276,7 @@ fn collect(client: Client, k: u8, message: Message, replies: &mut [u64]) -> bool
 
 // What a client does with an INFO or a FWD; another kind is dropped.
 fn receive_pair(client: Client, k: u8, message: Message, replies: &mut [u64]) -> Transition
-    requires { ⌜ (isSound client (now replies) ≡ true) × (1 ≤ k) × (k ≤ size (client .f)) ⌝ }
+    requires { ⌜ (isSound client (now replies) ≡ true) × (1 ≤ k) × (k ≤ client .n) ⌝ }
     ensures { λ step. ⌜ after step (now (replies .exit))
         ≡ receivedPairOf client (now (replies .entry)) k message ⌝ }
 {
@@ -287,7 +288,7 @@ fn receive_pair(client: Client, k: u8, message: Message, replies: &mut [u64]) ->
 
 // What a client does with a WRITE_ACK: enough of them end its write.
 fn acknowledged(client: Client, k: u8, counter: WriteCounter, replies: &mut [u64]) -> Transition
-    requires { ⌜ (isSound client (now replies) ≡ true) × (1 ≤ k) × (k ≤ size (client .f)) ⌝ }
+    requires { ⌜ (isSound client (now replies) ≡ true) × (1 ≤ k) × (k ≤ client .n) ⌝ }
     ensures { λ step. ⌜ after step (now (replies .exit))
         ≡ receivedOf client (now (replies .entry)) k (Message.WriteAck counter) ⌝ }
 {
@@ -296,7 +297,7 @@ fn acknowledged(client: Client, k: u8, counter: WriteCounter, replies: &mut [u64
         return unchanged(client);
     }
     replies::acknowledge(replies, (k - 1) as usize);
-    if !register::is_enough(client.f, replies::acknowledged(replies, client.f)) {
+    if !register::is_enough(client.n, client.f, replies::acknowledged(replies, client.n)) {
         return unchanged(client);
     }
     replies::clear(replies);
@@ -306,7 +307,7 @@ fn acknowledged(client: Client, k: u8, counter: WriteCounter, replies: &mut [u64
 
 // What a client does with one message of server k.
 fn receive(client: Client, k: u8, message: Message, replies: &mut [u64]) -> Transition
-    requires { ⌜ (isSound client (now replies) ≡ true) × (1 ≤ k) × (k ≤ size (client .f)) ⌝ }
+    requires { ⌜ (isSound client (now replies) ≡ true) × (1 ≤ k) × (k ≤ client .n) ⌝ }
     ensures { λ step. ⌜ after step (now (replies .exit))
         ≡ receivedOf client (now (replies .entry)) k message ⌝ }
 {
@@ -319,13 +320,13 @@ fn receive(client: Client, k: u8, message: Message, replies: &mut [u64]) -> Tran
 // What a message would have the client send, were the replies its own. It does not ask `receive_pair`: that
 // is called for every message, and the compiler inlines it only while it has one caller.
 fn foreseen(client: Client, k: u8, message: Message, replies: &mut [u64]) -> Sends
-    requires { ⌜ (isSound client (now replies) ≡ true) × (1 ≤ k) × (k ≤ size (client .f)) ⌝ }
+    requires { ⌜ (isSound client (now replies) ≡ true) × (1 ≤ k) × (k ≤ client .n) ⌝ }
     ensures { λ sends. ⌜ messagesOf sends ≡ receivedPairOf client (now (replies .entry)) k message .sends ⌝ }
 {
     if !collect(client, k, message, replies) {
         return Sends::Nothing;
     }
-    let Choice::Found(pair) = replies::choose(replies, client.f) else {
+    let Choice::Found(pair) = replies::choose(replies, client.n, client.f) else {
         return Sends::Nothing;
     };
     let step = conclude(client, pair);
@@ -350,15 +351,16 @@ fn phase_of(code: u64, entry: Entry, counter: WriteCounter) -> Phase
 }
 
 // The client of a step, from its memory.
-pub fn load(memory: &[u64], number: u8, f: u8) -> Client
+pub fn load(memory: &[u64], number: u8, n: u8, f: u8) -> Client
     requires { ⌜ length (now memory) ≡ clientLength ⌝ }
-    ensures { λ client. ⌜ client ≡ loaded number f (now (memory .entry)) ⌝ }
+    ensures { λ client. ⌜ client ≡ loaded number n f (now (memory .entry)) ⌝ }
 {
     let counter = message::counter_from(memory[COUNTER]);
     let phase = phase_of(memory[PHASE], Entry(memory[ENTRY]), counter);
     let reads = message::read_from(memory[READS]);
     Client {
         number,
+        n,
         f,
         phase,
         reads,
@@ -400,7 +402,7 @@ pub fn store(memory: &mut [u64], client: Client)
 // Whether a client takes a message of server k. One that it does not take changes nothing.
 pub fn is_taken(client: Client, k: u8, message: Message, memory: &[u64]) -> bool
     requires { ⌜ (length (now memory) ≡ clientLength) × (1 ≤ k) × (k ≤ mostServers)
-        × (client ≡ loaded (client .number) (client .f) (now memory)) ⌝ }
+        × (client ≡ loaded (client .number) (client .n) (client .f) (now memory)) ⌝ }
     ensures { λ b. ⌜ b ≡ isTaken (view (now (memory .entry))) k message ⌝ }
 {
     let phase = client.phase;
@@ -418,11 +420,11 @@ pub fn is_taken(client: Client, k: u8, message: Message, memory: &[u64]) -> bool
 
 // What a client does with one message of server k: the step on the client and its replies, in its memory.
 pub fn take_message(client: Client, k: u8, message: Message, memory: &mut [u64]) -> Outcome
-    requires { ⌜ (client ≡ loaded (client .number) (client .f) (now memory))
-        × (isSoundMemory (client .f) (now memory) ≡ true)
-        × (1 ≤ client .number) × (client .number ≤ mostClients) × (1 ≤ k) × (k ≤ size (client .f)) ⌝ }
+    requires { ⌜ (client ≡ loaded (client .number) (client .n) (client .f) (now memory))
+        × (isSoundMemory (client .n) (client .f) (now memory) ≡ true)
+        × (1 ≤ client .number) × (client .number ≤ mostClients) × (1 ≤ k) × (k ≤ client .n) ⌝ }
     ensures { λ result. ⌜ outcome.after result (now (memory .exit))
-        ≡ outcome.takenOf (client .number) (client .f) (now (memory .entry)) k message ⌝ }
+        ≡ outcome.takenOf (client .number) (client .n) (client .f) (now (memory .entry)) k message ⌝ }
 {
     let step = receive(client, k, message, &mut memory[REPLIES..]);
     let next = step.client;
@@ -434,11 +436,11 @@ pub fn take_message(client: Client, k: u8, message: Message, memory: &mut [u64])
 
 // What the message would have the client send. The memory is not touched: it is collected in a copy.
 pub fn would_send(client: Client, k: u8, message: Message, memory: &[u64]) -> Sends
-    requires { ⌜ (client ≡ loaded (client .number) (client .f) (now memory))
-        × (isSoundMemory (client .f) (now memory) ≡ true)
-        × (1 ≤ client .number) × (client .number ≤ mostClients) × (1 ≤ k) × (k ≤ size (client .f)) ⌝ }
+    requires { ⌜ (client ≡ loaded (client .number) (client .n) (client .f) (now memory))
+        × (isSoundMemory (client .n) (client .f) (now memory) ≡ true)
+        × (1 ≤ client .number) × (client .number ≤ mostClients) × (1 ≤ k) × (k ≤ client .n) ⌝ }
     ensures { λ sends. ⌜ messagesOf sends
-        ≡ outcome.takenOf (client .number) (client .f) (now (memory .entry)) k message .sends ⌝ }
+        ≡ outcome.takenOf (client .number) (client .n) (client .f) (now (memory .entry)) k message .sends ⌝ }
 {
     let mut trial = replies::copied(&memory[REPLIES..]);
     foreseen(client, k, message, &mut trial)
@@ -448,8 +450,8 @@ pub fn would_send(client: Client, k: u8, message: Message, memory: &[u64]) -> Se
 
 // An idle client starts in a phase. What the servers replied to it is empty, so only the head is stored.
 fn begin(client: Client, phase: Phase, memory: &mut [u64]) -> Outcome
-    requires { ⌜ (client ≡ loaded (client .number) (client .f) (now memory))
-        × (isSoundMemory (client .f) (now memory) ≡ true)
+    requires { ⌜ (client ≡ loaded (client .number) (client .n) (client .f) (now memory))
+        × (isSoundMemory (client .n) (client .f) (now memory) ≡ true)
         × (isIdle (client .phase) ≡ true) × (client .reads .0 < lastRead) ⌝ }
     ensures { λ result. ⌜ outcome.after result (now (memory .exit))
         ≡ outcome.startedOf (now (memory .entry)) phase ⌝ }
@@ -457,6 +459,7 @@ fn begin(client: Client, phase: Phase, memory: &mut [u64]) -> Outcome
     let reads = message::next_read(client.reads);
     let next = Client {
         number: client.number,
+        n: client.n,
         f: client.f,
         phase,
         reads,
@@ -500,21 +503,23 @@ fn is_sound_head(code: u64, entry: u64, counter: u64) -> bool
     is_sound_counter(code, counter)
 }
 
-fn are_replies_sound(f: u8, memory: &[u64]) -> bool
+// Whether the replies are sound, in the phase that is loaded; its client's number and f do not matter.
+fn are_replies_sound(n: u8, memory: &[u64]) -> bool
     requires { ⌜ length (now memory) ≡ clientLength ⌝ }
-    ensures { λ b. ⌜ b ≡ areSoundReplies f (now (memory .entry)) ⌝ }
+    ensures { λ b. ⌜ b ≡ areSoundReplies n (now (memory .entry)) ⌝ }
 {
-    let client = load(memory, 1, f);
+    let client = load(memory, 1, n, 0);
     let phase = client.phase;
-    let n = register::servers(f) as usize;
-    replies::are_sound(&memory[REPLIES..], n, is_reading(phase), is_storing(phase))
+    let reading = is_reading(phase);
+    let storing = is_storing(phase);
+    replies::are_sound(&memory[REPLIES..], n as usize, reading, storing)
 }
 
-// Whether a memory is sound, where f servers may be faulty.
-pub fn is_sound(f: u8, memory: &[u64]) -> bool
-    ensures { λ b. ⌜ b ≡ isSoundMemory f (now (memory .entry)) ⌝ }
+// Whether a memory is sound, of n servers of which f may be faulty.
+pub fn is_sound(n: u8, f: u8, memory: &[u64]) -> bool
+    ensures { λ b. ⌜ b ≡ isSoundMemory n f (now (memory .entry)) ⌝ }
 {
-    if MOST_FAULTY < f {
+    if !register::are_servers_in_range(n, f) {
         return false;
     }
     if memory.len() != LENGTH {
@@ -526,7 +531,7 @@ pub fn is_sound(f: u8, memory: &[u64]) -> bool
     if !is_sound_head(memory[PHASE], memory[ENTRY], memory[COUNTER]) {
         return false;
     }
-    are_replies_sound(f, memory)
+    are_replies_sound(n, memory)
 }
 
 // ---- entry points
@@ -549,27 +554,27 @@ fn is_client(number: u8) -> bool
     number <= MOST_CLIENTS
 }
 
-fn is_server(k: u8, f: u8) -> bool
-    ensures { λ b. ⌜ b ≡ isServer f k ⌝ }
+fn is_server(k: u8, n: u8) -> bool
+    ensures { λ b. ⌜ b ≡ isServer n k ⌝ }
 {
     if k < 1 {
         return false;
     }
-    k as u32 <= register::servers(f)
+    k <= n
 }
 
 // Client `number` starts in a phase, whose entry, if it has one, is a licence entry or not.
-fn start(number: u8, f: u8, phase: Phase, licensed: bool, memory: &mut [u64]) -> Outcome
+fn start(number: u8, n: u8, f: u8, phase: Phase, licensed: bool, memory: &mut [u64]) -> Outcome
     ensures { λ result. ⌜ outcome.after result (now (memory .exit))
-        ≡ startOf number f (now (memory .entry)) phase licensed ⌝ }
+        ≡ startOf number n f (now (memory .entry)) phase licensed ⌝ }
 {
-    if !is_sound(f, memory) {
+    if !is_sound(n, f, memory) {
         return refuse(Refusal::Unsound);
     }
     if !is_client(number) {
         return refuse(Refusal::NoSuchProcess);
     }
-    let client = load(memory, number, f);
+    let client = load(memory, number, n, f);
     let old = client.phase;
     if !is_idle(old) {
         return refuse(Refusal::Busy);
@@ -584,34 +589,41 @@ fn start(number: u8, f: u8, phase: Phase, licensed: bool, memory: &mut [u64]) ->
 }
 
 // Client `number` starts a read.
-pub fn read(number: u8, f: u8, memory: &mut [u64]) -> Outcome
+pub fn read(number: u8, n: u8, f: u8, memory: &mut [u64]) -> Outcome
     ensures { λ result. ⌜ outcome.after result (now (memory .exit))
-        ≡ readOf number f (now (memory .entry)) ⌝ }
+        ≡ readOf number n f (now (memory .entry)) ⌝ }
 {
-    start(number, f, Phase::Reading, true, memory)
+    start(number, n, f, Phase::Reading, true, memory)
 }
 
 // Client `number` starts a write of an entry.
-pub fn write(number: u8, f: u8, entry: Entry, memory: &mut [u64]) -> Outcome
+pub fn write(number: u8, n: u8, f: u8, entry: Entry, memory: &mut [u64]) -> Outcome
     ensures { λ result. ⌜ outcome.after result (now (memory .exit))
-        ≡ writeOf number f (now (memory .entry)) entry ⌝ }
+        ≡ writeOf number n f (now (memory .entry)) entry ⌝ }
 {
     let licensed = licence::is_licence(entry.0);
-    start(number, f, Phase::ReadingForWrite(entry), licensed, memory)
+    start(
+        number,
+        n,
+        f,
+        Phase::ReadingForWrite(entry),
+        licensed,
+        memory,
+    )
 }
 
 // Client `number` takes bytes from server k.
-pub fn take(number: u8, f: u8, k: u8, bytes: &[u8], memory: &mut [u64]) -> Outcome
+pub fn take(number: u8, n: u8, f: u8, k: u8, bytes: &[u8], memory: &mut [u64]) -> Outcome
     ensures { λ result. ⌜ outcome.after result (now (memory .exit))
-        ≡ takeOf number f (now (memory .entry)) k (now (bytes .entry)) ⌝ }
+        ≡ takeOf number n f (now (memory .entry)) k (now (bytes .entry)) ⌝ }
 {
-    if !is_sound(f, memory) {
+    if !is_sound(n, f, memory) {
         return refuse(Refusal::Unsound);
     }
     if !is_client(number) {
         return refuse(Refusal::NoSuchProcess);
     }
-    if !is_server(k, f) {
+    if !is_server(k, n) {
         return refuse(Refusal::NoSuchProcess);
     }
     let Unpacked::Good(message) = message::unpack(bytes) else {
@@ -620,6 +632,6 @@ pub fn take(number: u8, f: u8, k: u8, bytes: &[u8], memory: &mut [u64]) -> Outco
     if !message::is_reply(message) {
         return refuse(Refusal::Malformed);
     }
-    let client = load(memory, number, f);
+    let client = load(memory, number, n, f);
     take_message(client, k, message, memory)
 }

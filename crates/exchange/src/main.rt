@@ -1,6 +1,7 @@
-// Drives client 1 and 3f + 1 servers, and then clients 1 and 2, each with f = 0 and f = 1, through writes and
-// reads with the proved ends alone, and prints each message as it is sent and each outcome. With two clients
-// and f = 1 server 4 serves nothing, so that n - f have to be enough.
+// Drives client 1 and n servers, and then clients 1 and 2, through writes and reads with the proved ends
+// alone, and prints each message as it is sent and each outcome: with f = 0 and n = 1, with f = 1 and n = 4,
+// and with f = 1 and n = 5. With two clients and f = 1 the last server serves nothing, so that n - f have to
+// be enough.
 //
 // `tests/exchange_oracle.py` works the same lines out from 01, and `stdout` is what it wrote. That comparison
 // says that the lines are right; what is proved here is only that the program never stops short: its
@@ -22,10 +23,10 @@ const MOST_SENT: usize = 10;
 
 const SENT_BYTES: usize = MOST_SENT * MESSAGE_BYTES;
 
-// The messages of two clients, and the memory of four servers and of two clients.
+// The messages of two clients, and the memory of five servers and of two clients.
 const ALL_SENT: usize = 2 * SENT_BYTES;
 
-const SERVERS_LENGTH: usize = 4 * server::LENGTH;
+const SERVERS_LENGTH: usize = 5 * server::LENGTH;
 
 const CLIENTS_LENGTH: usize = 2 * client::LENGTH;
 
@@ -34,19 +35,20 @@ const FIRST: u64 = 0x7E_82E8_0141;
 
 const SECOND: u64 = 0x7E_C2E8_0141;
 
-// Four servers and two clients: the memory that they are lent, and the messages that each client sent, which
-// are the same for every server. With f = 0 only the first server is there. Clients, servers and messages are
+// Five servers and two clients: the memory that they are lent, and the messages that each client sent, which
+// are the same for every server. Only the first n servers are there. Clients, servers and messages are
 // counted from 0.
 struct Group {
     servers: [u64; SERVERS_LENGTH],
     clients: [u64; CLIENTS_LENGTH],
     sent: [u8; ALL_SENT],
     counts: [usize; 2],
+    n: u8,
     f: u8,
 }
 
 // All memory is zero at setup.
-fn new_group(f: u8) -> Group {
+fn new_group(n: u8, f: u8) -> Group {
     let servers = [0u64; SERVERS_LENGTH];
     let clients = [0u64; CLIENTS_LENGTH];
     let sent = [0u8; ALL_SENT];
@@ -56,6 +58,7 @@ fn new_group(f: u8) -> Group {
         clients,
         sent,
         counts,
+        n,
         f,
     }
 }
@@ -73,7 +76,7 @@ fn send(group: Group, i: usize, message: Message) -> Group
     requires { ⌜ i < 2 ⌝ }
 {
     let bytes = packed(message);
-    print_requests((i + 1) as u64, register::servers(group.f) as u64, &bytes);
+    print_requests((i + 1) as u64, group.n as u64, &bytes);
     let count = group.counts[i];
     if MOST_SENT <= count {
         return group;
@@ -127,6 +130,7 @@ fn read(group: Group, i: usize) -> Group
     let at = i * client::LENGTH;
     let outcome = client::read(
         (i + 1) as u8,
+        group.n,
         group.f,
         &mut clients[at..at + client::LENGTH],
     );
@@ -140,6 +144,7 @@ fn write(group: Group, i: usize, entry: u64) -> Group
     let at = i * client::LENGTH;
     let outcome = client::write(
         (i + 1) as u8,
+        group.n,
         group.f,
         Entry(entry),
         &mut clients[at..at + client::LENGTH],
@@ -149,12 +154,12 @@ fn write(group: Group, i: usize, entry: u64) -> Group
 
 // Client i takes bytes from server k.
 fn deliver(group: Group, i: usize, k: usize, bytes: [u8; MESSAGE_BYTES]) -> Group
-    requires { ⌜ (i < 2) × (k < 4) ⌝ }
+    requires { ⌜ (i < 2) × (k < 5) ⌝ }
 {
     let mut clients = group.clients;
     let at = i * client::LENGTH;
     let part = &mut clients[at..at + client::LENGTH];
-    let outcome = client::take((i + 1) as u8, group.f, (k + 1) as u8, &bytes, part);
+    let outcome = client::take((i + 1) as u8, group.n, group.f, (k + 1) as u8, &bytes, part);
     stepped(group, i, clients, outcome)
 }
 
@@ -168,7 +173,7 @@ fn is_reader(readers: u8, i: usize) -> bool
 }
 
 fn print_forward(k: usize, i: usize, readers: u8, bytes: [u8; MESSAGE_BYTES])
-    requires { ⌜ (i < 2) × (k < 4) ⌝ }
+    requires { ⌜ (i < 2) × (k < 5) ⌝ }
 {
     if is_reader(readers, i) {
         print_reply((k + 1) as u64, (i + 1) as u64, &bytes);
@@ -182,7 +187,7 @@ fn deliver_to_reader(
     readers: u8,
     bytes: [u8; MESSAGE_BYTES],
 ) -> Group
-    requires { ⌜ (i < 2) × (k < 4) ⌝ }
+    requires { ⌜ (i < 2) × (k < 5) ⌝ }
 {
     if !is_reader(readers, i) {
         return group;
@@ -192,7 +197,7 @@ fn deliver_to_reader(
 
 // A reply to one client.
 fn reply(group: Group, i: usize, k: usize, message: Message) -> Group
-    requires { ⌜ (i < 2) × (k < 4) ⌝ }
+    requires { ⌜ (i < 2) × (k < 5) ⌝ }
 {
     let bytes = packed(message);
     print_reply((k + 1) as u64, (i + 1) as u64, &bytes);
@@ -201,7 +206,7 @@ fn reply(group: Group, i: usize, k: usize, message: Message) -> Group
 
 // FWD to the readers, the lowest first, and WRITE_ACK to client i: all are sent before one is taken.
 fn forward(group: Group, i: usize, k: usize, readers: u8, pair: Pair) -> Group
-    requires { ⌜ (i < 2) × (k < 4) ⌝ }
+    requires { ⌜ (i < 2) × (k < 5) ⌝ }
 {
     let fwd = packed(Message::Fwd(pair));
     let ack = packed(Message::WriteAck(message::counter_of(pair)));
@@ -214,7 +219,7 @@ fn forward(group: Group, i: usize, k: usize, readers: u8, pair: Pair) -> Group
 }
 
 fn served(group: Group, i: usize, k: usize, outcome: server::Outcome) -> Group
-    requires { ⌜ (i < 2) × (k < 4) ⌝ }
+    requires { ⌜ (i < 2) × (k < 5) ⌝ }
 {
     let server::Outcome::Sent(sends) = outcome else {
         return group;
@@ -228,7 +233,7 @@ fn served(group: Group, i: usize, k: usize, outcome: server::Outcome) -> Group
 
 // Server k serves message j of client i.
 fn serve(group: Group, i: usize, j: usize, k: usize) -> Group
-    requires { ⌜ (i < 2) × (j < 10) × (k < 4) ⌝ }
+    requires { ⌜ (i < 2) × (j < 10) × (k < 5) ⌝ }
 {
     let sent = group.sent;
     let message_at = i * SENT_BYTES + j * MESSAGE_BYTES;
@@ -243,7 +248,7 @@ fn serve(group: Group, i: usize, j: usize, k: usize) -> Group
 
 // The servers from place start on, up to place end, serve message j of client i, one after the other.
 fn serve_each(group: Group, i: usize, j: usize, start: usize, end: usize) -> Group
-    requires { ⌜ (i < 2) × (j < 10) × (end ≤ 4) ⌝ }
+    requires { ⌜ (i < 2) × (j < 10) × (end ≤ 5) ⌝ }
 {
     let mut changed = group;
     let mut k = start;
@@ -259,7 +264,7 @@ fn serve_each(group: Group, i: usize, j: usize, start: usize, end: usize) -> Gro
 
 // Client 1 writes: GET_INFO, which is its message j, DONE and WRITE_INFO reach the servers that work.
 fn whole_write(group: Group, entry: u64, j: usize, live: usize) -> Group
-    requires { ⌜ (j + 2 < 10) × (live ≤ 4) ⌝ }
+    requires { ⌜ (j + 2 < 10) × (live ≤ 5) ⌝ }
 {
     let begun = write(group, 0, entry);
     let asked = serve_each(begun, 0, j, 0, live);
@@ -269,7 +274,7 @@ fn whole_write(group: Group, entry: u64, j: usize, live: usize) -> Group
 
 // Client 1 reads: GET_INFO, its message j, and DONE reach them.
 fn whole_read(group: Group, j: usize, live: usize) -> Group
-    requires { ⌜ (j + 1 < 10) × (live ≤ 4) ⌝ }
+    requires { ⌜ (j + 1 < 10) × (live ≤ 5) ⌝ }
 {
     let begun = read(group, 0);
     let asked = serve_each(begun, 0, j, 0, live);
@@ -277,10 +282,10 @@ fn whole_read(group: Group, j: usize, live: usize) -> Group
 }
 
 // Client 1 writes, reads, writes and reads.
-fn one_client(f: u8, live: usize)
-    requires { ⌜ live ≤ 4 ⌝ }
+fn one_client(n: u8, f: u8, live: usize)
+    requires { ⌜ live ≤ 5 ⌝ }
 {
-    let written = whole_write(new_group(f), FIRST, 0, live);
+    let written = whole_write(new_group(n, f), FIRST, 0, live);
     let seen = whole_read(written, 3, live);
     let again = whole_write(seen, SECOND, 5, live);
     whole_read(again, 8, live);
@@ -288,7 +293,7 @@ fn one_client(f: u8, live: usize)
 
 // Client 2 reads; its DONE stays on its way.
 fn other_read(group: Group, live: usize) -> Group
-    requires { ⌜ live ≤ 4 ⌝ }
+    requires { ⌜ live ≤ 5 ⌝ }
 {
     let begun = read(group, 1);
     serve_each(begun, 1, 0, 0, live)
@@ -297,7 +302,7 @@ fn other_read(group: Group, live: usize) -> Group
 // Client 1 writes again, and client 2 starts to read before server 1 serves the WRITE_INFO. The server still
 // has client 2 as a reader: the forward is taken before any INFO.
 fn second_write(group: Group, live: usize) -> Group
-    requires { ⌜ live ≤ 4 ⌝ }
+    requires { ⌜ live ≤ 5 ⌝ }
 {
     let begun = write(group, 0, SECOND);
     let asked = serve_each(begun, 0, 5, 0, live);
@@ -306,10 +311,10 @@ fn second_write(group: Group, live: usize) -> Group
     serve_each(both, 0, 7, 0, 1)
 }
 
-// The read goes on. With f = 1 no pair counts until server 2 forwards the write, and what server 3 forwards
-// is dropped.
+// The read goes on. With n = 4 no pair counts until server 2 forwards the write, and what server 3 forwards
+// is dropped. With n = 5 the fourth INFO already makes the first write count.
 fn last_read(group: Group, live: usize)
-    requires { ⌜ live ≤ 4 ⌝ }
+    requires { ⌜ live ≤ 5 ⌝ }
 {
     let done = serve_each(group, 1, 1, 0, live);
     let asked = serve_each(done, 1, 2, 0, live);
@@ -317,22 +322,26 @@ fn last_read(group: Group, live: usize)
     serve_each(forwarded, 1, 3, 0, live);
 }
 
-fn two_clients(f: u8, live: usize)
-    requires { ⌜ live ≤ 4 ⌝ }
+fn two_clients(n: u8, f: u8, live: usize)
+    requires { ⌜ live ≤ 5 ⌝ }
 {
-    let written = whole_write(new_group(f), FIRST, 0, live);
+    let written = whole_write(new_group(n, f), FIRST, 0, live);
     let seen = whole_read(written, 3, live);
     let other = other_read(seen, live);
     last_read(second_write(other, live), live);
 }
 
 fn main() {
-    io::write_all(1, b"one client, f = 0\n");
-    one_client(0, 1);
-    io::write_all(1, b"one client, f = 1\n");
-    one_client(1, 4);
-    io::write_all(1, b"two clients, f = 0\n");
-    two_clients(0, 1);
-    io::write_all(1, b"two clients, f = 1\n");
-    two_clients(1, 3);
+    io::write_all(1, b"one client, f = 0, n = 1\n");
+    one_client(1, 0, 1);
+    io::write_all(1, b"one client, f = 1, n = 4\n");
+    one_client(4, 1, 4);
+    io::write_all(1, b"two clients, f = 0, n = 1\n");
+    two_clients(1, 0, 1);
+    io::write_all(1, b"two clients, f = 1, n = 4\n");
+    two_clients(4, 1, 3);
+    io::write_all(1, b"one client, f = 1, n = 5\n");
+    one_client(5, 1, 5);
+    io::write_all(1, b"two clients, f = 1, n = 5\n");
+    two_clients(5, 1, 4);
 }

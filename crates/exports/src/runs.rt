@@ -63,20 +63,22 @@ fn step_through(
 #[no_mangle]
 pub extern "C" fn exports_run(
     f: u32,
+    n: u32,
     count: u32,
     faulty: u32,
     steps: &[u64],
     out: &mut [u64],
 ) -> u32
-    ensures answer { λ r. ⌜ r ≡ setupNumber (setupOf f count faulty) ⌝ }
+    ensures answer { λ r. ⌜ r ≡ setupNumber (setupOf f n count faulty) ⌝ }
     ensures answers { λ r. ⌜ now (out .exit)
-        ≡ answersOf (setupOf f count faulty) (now (steps .entry)) (now (out .entry)) ⌝ }
+        ≡ answersOf (setupOf f n count faulty) (now (steps .entry)) (now (out .entry)) ⌝ }
 {
     let mut servers = [0u64; SERVERS_LENGTH];
     let mut clients = [0u64; CLIENTS_LENGTH];
     let mut slots = channel::empty_slots();
     setup_number(run(
         f,
+        n,
         count,
         faulty,
         steps,
@@ -91,27 +93,28 @@ pub extern "C" fn exports_run(
 #[no_mangle]
 pub extern "C" fn exports_run_by_steps(
     f: u32,
+    n: u32,
     count: u32,
     faulty: u32,
     steps: &[u64],
     out: &mut [u64],
 ) -> u32
-    ensures answer { λ r. ⌜ r ≡ setupNumber (setupOf f count faulty) ⌝ }
+    ensures answer { λ r. ⌜ r ≡ setupNumber (setupOf f n count faulty) ⌝ }
     ensures answers { λ r. ⌜ now (out .exit)
-        ≡ answersOf (setupOf f count faulty) (now (steps .entry)) (now (out .entry)) ⌝ }
+        ≡ answersOf (setupOf f n count faulty) (now (steps .entry)) (now (out .entry)) ⌝ }
 {
     let mut servers = [0u64; SERVERS_LENGTH];
     let mut clients = [0u64; CLIENTS_LENGTH];
     let mut slots = channel::empty_slots();
-    let setup = set_up(f, count, faulty, &mut servers, &mut clients, &mut slots);
+    let setup = set_up(f, n, count, faulty, &mut servers, &mut clients, &mut slots);
     match setup {
         Setup::Refused(why) => refusal::number(why) as u32,
         Setup::Set(settings) => {
-            let n = least(steps.len() / STEP, out.len() / ANSWER);
+            let many = least(steps.len() / STEP, out.len() / ANSWER);
             step_through(
                 settings,
                 steps,
-                n,
+                many,
                 out,
                 &mut servers,
                 &mut clients,

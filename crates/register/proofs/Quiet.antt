@@ -3,10 +3,10 @@
 -- Why, for a client that reads: no WRITE_INFO is on its way to an honest server, so every honest server is
 -- at or above every pair that was sent (`Delivered`), and so all hold the same pair, the highest
 -- (`OnePair`). Nothing is on the client's channels, so each of them has answered, and its pair is in the
--- client's set for it (`WaitingRun`); at least n − f servers are honest. That pair counts: it is in n − f
--- sets and at or above n − f noted timestamps, and n − f is 2f + 1. So the client would have chosen
--- (`Still`). For one that stores: the n − f honest servers have all acknowledged (`Awaiting`), so the write
--- would have ended.
+-- client's set for it (`WaitingRun`); at least n − f servers are honest. That pair counts: it is in so many
+-- sets, and at or above so many noted timestamps, and n − f is at least 2f + 1. So the client would have
+-- chosen (`Still`). For one that stores: all honest servers have acknowledged (`Awaiting`), at least n − f,
+-- so the write would have ended.
 -- In order: all honest servers hold one pair; reading; storing; idle.
 -- Assumes nothing.
 use Rattle.register.proofs.Vocabulary.{Member, counted, servers, isClient, isHonest, has, Client}
@@ -95,7 +95,7 @@ module _ (run : Run) (n d : ℕ) (client : isClient (run .settings) d ≡ true)
             (λ b. absurd (by-either b (λ c. rw (down k honest) at c) (λ c. rw (down k honest) at c)));
       })
 
-  -- n − f servers are honest, so what holds of each of them holds of n − f
+  -- at least n − f servers are honest, so what holds of each of them holds of at least n − f
   many : (test : ℕ → Bool) → ((k : ℕ) → isHonest (run .settings) k ≡ true → test k ≡ true)
       → servers (run .settings) - run .settings .f ≤ counted test (servers (run .settings))
   many test h =
@@ -104,6 +104,7 @@ module _ (run : Run) (n d : ℕ) (client : isClient (run .settings) d ≡ true)
 
   not-reading-now : isReading (self .phase) ≡ true → ⊥
   not-reading-now reading =
+      let least = bounded run .least in
       let honest-ones = many-honest (run .settings) (bounded run) in
       let one = counted-found (isHonest (run .settings)) (servers (run .settings)) (omega arith) in
       let k = one .server in

@@ -1,8 +1,8 @@
 -- Runs computed from the definitions, so that the theorems are about something: what each answers is what
 -- 01's rules give.
 --
--- In order: the answers of a list of steps, one by one; the entry that they write. The runs are in the files
--- of Runs/.
+-- In order: the answers of a list of steps, one by one; the entry that they write, and its pairs; the same
+-- step with one server after another. The runs are in the files of Runs/.
 -- Assumes nothing.
 use Rattle.basics.specs.Bytes.{spelt}
 use Rattle.register.proofs.Vocabulary.{countBelow, allBelow, update, counter, stamp, pairOf, Settings}
@@ -11,10 +11,10 @@ use Rattle.register.proofs.Vocabulary.{forwards, sentTo, add, has, isId
 use Rattle.register.proofs.Vocabulary.{started, withPair, withInfo, withAck, entryOf, isNoted}
 use Rattle.register.proofs.Vocabulary.{isAtMost, chosen, clientTakes, putsUp, putsDown, leavesUp}
 use Rattle.register.proofs.Vocabulary.{leavesDown, nextUp, nextDown, nextServers, nextClients}
-use Rattle.register.proofs.Vocabulary.{nextStopped, apply, answerOf, Step, Formats, oldest, hasRoom}
-use Rattle.register.proofs.Vocabulary.{roomUp, roomDown, ladder, refusalOf, accepted, eventOf, worldAt}
-use Rattle.register.proofs.Vocabulary.{answerAt}
-use Rattle.basics.proofs.Prelude.{List, [], _∷_, length, ℕ, zero, suc, _+_, _*_, _^_}
+use Rattle.register.proofs.Vocabulary.{nextStopped, apply, answerOf, Step, K, D, Formats, oldest}
+use Rattle.register.proofs.Vocabulary.{hasRoom, roomUp, roomDown, ladder, refusalOf, accepted}
+use Rattle.register.proofs.Vocabulary.{eventOf, worldAt, answerAt}
+use Rattle.basics.proofs.Prelude.{List, [], _∷_, _++_, length, ℕ, zero, suc}
 use Rattle.calendar.specs.Calendar.{isDate, monthLength, leap}
 use Rattle.licence.specs.Entry.{isLicence, isLicensed}
 use Rattle.message.specs.Layout.{messageOf, unpackOf, goes, isReply}
@@ -29,6 +29,9 @@ pub mod Listing
 pub mod Overlap
 pub mod Disagree
 pub mod RowsDisagree
+pub mod Setups
+pub mod Spare
+pub mod Thirteen
 
 -- the answers of n steps from step i on
 abbrev pub answersFrom : Settings → Formats → List Step → ℕ → ℕ → List Answer
@@ -55,6 +58,19 @@ went (suc n) = Went ∷ went n
 abbrev pub theEntry : Entry
 theEntry = record { 0 = 0x7E82E80141 }
 
--- the pair of a counter, a client and that entry, in 64 bits
-abbrev pub pairBy : ℕ → ℕ → Pair
-pairBy d′ d = record { 0 = d′ * 2 ^ 44 + d * 2 ^ 40 + 0x7E82E80141 }
+-- the pairs of counter 1, of client 1 or 2, and of that entry, which in hexadecimal stand side by side; as
+-- sums they would be compared with a run's pairs part by part, which can take too many steps
+abbrev pub pairBy1 : Pair
+pairBy1 = record { 0 = 0x117E82E80141 }
+
+abbrev pub pairBy2 : Pair
+pairBy2 = record { 0 = 0x127E82E80141 }
+
+-- K, and D, of client d and each of the servers 1 to n, in this order
+abbrev pub served : ℕ → ℕ → List Step
+served d zero = []
+served d (suc n) = served d n ++ K (suc n) d ∷ []
+
+abbrev pub taken : ℕ → ℕ → List Step
+taken d zero = []
+taken d (suc n) = taken d n ++ D d (suc n) ∷ []

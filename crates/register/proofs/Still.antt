@@ -10,8 +10,9 @@ use Rattle.register.proofs.Vocabulary.{counted, enough, Settings, serve
 use Rattle.register.proofs.Vocabulary.{isNoted, started, withAck, Response, chosen, World, Event}
 use Rattle.register.proofs.Vocabulary.{Formats, worldAt}
 use Rattle.register.proofs.Vocabulary.{Entry, Message, ReadNumber, WriteCounter, Phase, Idle, Storing}
+use Rattle.register.proofs.Bounds.{Bounds}
 use Rattle.register.proofs.Counted.{counted-none}
-use Rattle.register.proofs.Run.{Run, worldIn, eventIn, enabled-at}
+use Rattle.register.proofs.Run.{Run, worldIn, eventIn, enabled-at, bounded}
 use Rattle.register.proofs.Outcomes.{choice, Grown, grown-phase, Outcome, dropped, waits, shows}
 use Rattle.register.proofs.Outcomes.{spends, sends, acks, ends}
 use Rattle.register.proofs.Frames.{ClientNext, same, starts, responds, client-next}
@@ -23,26 +24,27 @@ pub record Still (settings : Settings) (d : ℕ) (self : Client) : Type 0 where
       → enough (servers settings) (settings .f) (counted (self .acks) (servers settings)) ≡ false
 
 -- no server is not enough
-none-enough : (settings : Settings) (spoken : ℕ) → spoken ≡ 0
+none-enough : (settings : Settings) → Bounds settings → (spoken : ℕ) → spoken ≡ 0
     → enough (servers settings) (settings .f) spoken ≡ false
-none-enough settings spoken z =
+none-enough settings bounded spoken z =
+    let least = bounded .least in
     by-test (enough (servers settings) (settings .f) spoken) (λ e. absurd (omega (arith, leb-true))) (λ e. e)
 
 -- a client with nothing of any server
-still-cleared : (settings : Settings) (d : ℕ) (phase : Phase) (tag : ReadNumber)
+still-cleared : (settings : Settings) → Bounds settings → (d : ℕ) (phase : Phase) (tag : ReadNumber)
     → Still settings d (cleared phase tag)
 unfolding chosen isNoted
-still-cleared settings d phase tag =
+still-cleared settings bounded d phase tag =
     let none-noted = counted-none (λ k. isNoted none) (servers settings) (λ k. refl) in
     let none-acks = counted-none (λ k. false) (servers settings) (λ k. refl) in
     record {
-      undecided = λ reading. rw (none-enough settings
+      undecided = λ reading. rw (none-enough settings bounded
           (counted (λ k. false) (servers settings)) none-noted) refl;
-      few = λ entry count q. none-enough settings (counted (λ k. false) (servers settings)) none-acks;
+      few = λ entry count q. none-enough settings bounded (counted (λ k. false) (servers settings)) none-acks;
     }
 
-module _ (settings : Settings) (d : ℕ) (self : Client) (k : ℕ) (message : Message)
-    (still : Still settings d self) where
+module _ (settings : Settings) (bounded : Bounds settings) (d : ℕ) (self : Client) (k : ℕ)
+    (message : Message) (still : Still settings d self) where
   still-grown : (after : Client) → Grown self k message after → isReading (self .phase) ≡ true
       → choice settings d after ≡ none → Still settings d after
   still-grown after grows reading undecided =
@@ -57,28 +59,31 @@ module _ (settings : Settings) (d : ℕ) (self : Client) (k : ℕ) (message : Me
   unfolding withAck
   outcome-still response (dropped _) = still
   outcome-still response (waits grown grows r c) = still-grown grown grows r c
-  outcome-still response (shows grown pair grows _ _) = still-cleared settings d Idle (grown .reads)
-  outcome-still response (spends grown pair entry grows _ _ _) = still-cleared settings d Idle (grown .reads)
-  outcome-still response (sends grown pair entry grows _ _ _) = still-cleared settings d _ (grown .reads)
+  outcome-still response (shows grown pair grows _ _) = still-cleared settings bounded d Idle (grown .reads)
+  outcome-still response (spends grown pair entry grows _ _ _) =
+      still-cleared settings bounded d Idle (grown .reads)
+  outcome-still response (sends grown pair entry grows _ _ _) =
+      still-cleared settings bounded d _ (grown .reads)
   outcome-still response (acks entry count _ was few) =
       record {
         undecided = λ reading. absurd (not-reading _ reading (inr (entry, count, was)));
         few = λ entry count q. few;
       }
-  outcome-still response (ends entry count _ _ _) = still-cleared settings d Idle (self .reads)
+  outcome-still response (ends entry count _ _ _) = still-cleared settings bounded d Idle (self .reads)
 
-still-next : (settings : Settings) (judge : Formats) (world : World) (event : Event) (d : ℕ)
-    → Still settings d (world .clients d) → (after : Client) → ClientNext settings judge world event d after
-    → Still settings d after
+still-next : (settings : Settings) → Bounds settings → (judge : Formats) (world : World) (event : Event)
+    (d : ℕ) → Still settings d (world .clients d) → (after : Client)
+    → ClientNext settings judge world event d after → Still settings d after
 unfolding started
-still-next settings judge world event d still after (same _ _) = still
-still-next settings judge world event d still after (starts phase _ _) = still-cleared settings d phase _
-still-next settings judge world event d still after (responds taken response _ out) =
-    outcome-still settings d (world .clients d) _ _ still response out
+still-next settings bounded judge world event d still after (same _ _) = still
+still-next settings bounded judge world event d still after (starts phase _ _) =
+    still-cleared settings bounded d phase _
+still-next settings bounded judge world event d still after (responds taken response _ out) =
+    outcome-still settings bounded d (world .clients d) _ _ still response out
 
 pub still : (run : Run) (n d : ℕ) → Still (run .settings) d (worldIn run n .clients d)
 unfolding worldAt
-still run zero d = still-cleared (run .settings) d Idle (record { 0 = 0 })
+still run zero d = still-cleared (run .settings) (bounded run) d Idle (record { 0 = 0 })
 still run (suc n) d =
-    still-next (run .settings) (run .judge) (worldIn run n) (eventIn run n) d (still run n d) _
+    still-next (run .settings) (bounded run) (run .judge) (worldIn run n) (eventIn run n) d (still run n d) _
     (client-next (run .settings) (run .judge) (worldIn run n) (eventIn run n) (enabled-at run n) d)

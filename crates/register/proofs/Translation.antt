@@ -19,7 +19,7 @@ use Rattle.register.proofs.Vocabulary.{Entry, WriteInfo, Pair, Went, Ph
 use Rattle.register.proofs.Vocabulary.{ReadingForWrite, Storing}
 use Rattle.register.proofs.Bounds.{server-of}
 use Rattle.register.proofs.Enabled.{Enabled}
-use Rattle.register.proofs.Run.{Run, stepIn, worldIn, eventIn, answerIn, enabled-at}
+use Rattle.register.proofs.Run.{Run, stepIn, worldIn, eventIn, answerIn, enabled-at, bounded}
 use Rattle.register.proofs.Channels.{puts-of, of-puts}
 use Rattle.register.proofs.ReadStatus.{TakesAt, ReadsAt, WritesAt}
 use Rattle.register.proofs.PutCases.{sends-at}
@@ -205,6 +205,7 @@ module _ (run : Run) where
       → SendsIn begin d j pair
   sends-out {begin} {d} {j} {pair} lt sending =
       let taken = sends-at run j d pair (sending .puts) .by in
+      let least = bounded run .least in
       record {
         begins = write-began begin d (sending .entry) (let x = sending .after in omega arith)
             (sending .begins);

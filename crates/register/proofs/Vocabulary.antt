@@ -31,9 +31,9 @@ pub use Rattle.register.specs.declared.Answer.the-variants.{Went, Read, 
 pub use Rattle.register.specs.declared.Phase.{Phase}
 pub use Rattle.register.specs.declared.Phase.the-variants.{Idle, Reading, ReadingForWrite, Storing}
 pub use Rattle.register.specs.Settings.{Settings, Accepted, servers, capacity, mostClients, mostServers}
-pub use Rattle.register.specs.Settings.{mostFaulty}
+pub use Rattle.register.specs.Settings.{mostFaulty, leastServers, areServersInRange}
 unfoldable pub use Rattle.register.specs.Settings.{isHonest, isClient, isServer, inRange, setupRefusal}
-pub use Rattle.register.specs.Thresholds.{counted, enough, size}
+pub use Rattle.register.specs.Thresholds.{counted, enough}
 unfoldable pub use Rattle.register.specs.PairSet.{has, add, insert}
 pub use Rattle.register.specs.Server.{Server, Sent, sent, newServer}
 unfoldable pub use Rattle.register.specs.Server.{nextServer, serverSends, sentTo, stored, forwards}

@@ -91,6 +91,6 @@ module _ (settings : Settings) (judge : Formats) (steps : List Step) where
 abbrev pub DemandThreeOf : Settings → List Step → Type 0
 DemandThreeOf settings steps = Holds settings formats steps
 
--- demand 3: for every accepted setting and every list of steps
+-- demand 3: for every accepted setting of f, n, clients and faulty servers, and every list of steps
 abbrev pub DemandThree : Type 0
 DemandThree = (settings : Settings) → Accepted settings → (steps : List Step) → DemandThreeOf settings steps

@@ -82,14 +82,14 @@ pub record Between (left : Turn) (servers clients slots input : List ℕ) (have 
 
 -- at first nothing was read
 pub none-read : {left : Turn} {servers clients slots input out : List ℕ}
-    → left ≡ turnOf (settingsBy 0 1 0) false (numeralOf 0) 0 0
+    → left ≡ turnOf (settingsBy 0 1 1 0) false (numeralOf 0) 0 0
     → Stored newWorld servers clients slots → length input ≡ inputBytes → length out ≡ outputBytes
     → Between left servers clients slots input 0 out
 unfolding turns
 none-read {left} {servers} {clients} {slots} is stored long wide =
     let first : stageIn left servers clients slots ≡ beginning =
     ap (λ (other : Turn). stageIn other servers clients slots) is
-    ∙ (λ k. stage false (settingsBy 0 1 0) (stored .servers k) (stored .clients k) (stored .slots k)
+    ∙ (λ k. stage false (settingsBy 0 1 1 0) (stored .servers k) (stored .clients k) (stored .slots k)
     (number-is 0 k)) in
     record {
       parts = [];

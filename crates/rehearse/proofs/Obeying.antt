@@ -24,11 +24,11 @@ module _ (isSet : Bool) (settings : Settings) (servers clients slots : List ℕ)
   abbrev known : Stage
   known = stage isSet settings servers clients slots number
 
-  pub obeys-set : (f count faulty : ℕ) (accepted : Settings) (servers′ clients′ slots′ : List ℕ)
-      → setupOf f count faulty ≡ setup.Set accepted → Stored newWorld servers′ clients′ slots′
-      → Obeys known (line.Setup f count faulty) output.Set (stage true accepted servers′ clients′ slots′)
+  pub obeys-set : (f n count faulty : ℕ) (accepted : Settings) (servers′ clients′ slots′ : List ℕ)
+      → setupOf f n count faulty ≡ setup.Set accepted → Stored newWorld servers′ clients′ slots′
+      → Obeys known (line.Setup f n count faulty) output.Set (stage true accepted servers′ clients′ slots′)
   unfolding outputOf after
-  obeys-set f count faulty accepted servers′ clients′ slots′ is stored =
+  obeys-set f n count faulty accepted servers′ clients′ slots′ is stored =
       record {
         prints = ap setupOutput (sym is);
         leaves =
@@ -36,13 +36,13 @@ module _ (isSet : Bool) (settings : Settings) (servers clients slots : List ℕ)
             (nextNumber number)) ∙ ap (setUp known) (sym is);
       }
 
-  pub obeys-refused : (f count faulty : ℕ) (why : Refusal) (servers′ clients′ slots′ : List ℕ)
-      → setupOf f count faulty ≡ setup.Refused why
+  pub obeys-refused : (f n count faulty : ℕ) (why : Refusal) (servers′ clients′ slots′ : List ℕ)
+      → setupOf f n count faulty ≡ setup.Refused why
       → (servers′ ≡ servers) × (clients′ ≡ clients) × (slots′ ≡ slots)
-      → Obeys known (line.Setup f count faulty) (output.Answered (Refused why))
+      → Obeys known (line.Setup f n count faulty) (output.Answered (Refused why))
       (stage isSet settings servers′ clients′ slots′)
   unfolding outputOf after
-  obeys-refused f count faulty why servers′ clients′ slots′ is kept =
+  obeys-refused f n count faulty why servers′ clients′ slots′ is kept =
       record {
         prints = ap setupOutput (sym is);
         leaves =

@@ -55,7 +55,7 @@ step-counted known done false = refl
 
 line-counted : (known : Stage) (l : Line) → after known l .number ≡ nextNumber (known .number)
 unfolding after
-line-counted known (line.Setup f count faulty) = setup-counted known (setupOf f count faulty)
+line-counted known (line.Setup f n count faulty) = setup-counted known (setupOf f n count faulty)
 line-counted known (line.Do step) = step-counted known (stepOn known step) (known .isSet)
 line-counted known line.Unread = refl
 

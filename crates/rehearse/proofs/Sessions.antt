@@ -60,10 +60,10 @@ pub in-session : (settings : Settings) → Allowed settings → (steps : List mo
     ≡ outputsBy (answerAt (settingsOf settings) formats steps) place ls
 unfolding outputsOf outputOf after acceptedBy stepsOf outputsBy
 in-session settings allowed steps [] plain place number e = refl
-in-session settings allowed steps (line.Setup f count faulty ∷ ls) plain place number e =
+in-session settings allowed steps (line.Setup f n count faulty ∷ ls) plain place number e =
     cc (
-      refused-setup (stageAt settings steps place number) (setupOf f count faulty)
-          (plain (line.Setup f count faulty) (inl refl)),
+      refused-setup (stageAt settings steps place number) (setupOf f n count faulty)
+          (plain (line.Setup f n count faulty) (inl refl)),
       in-session settings allowed steps ls (λ l among. plain l (inr among)) place (nextNumber number) e,
     )
 in-session settings allowed steps (line.Do step ∷ ls) plain place number e =
@@ -90,11 +90,11 @@ pub record Begun (known : Stage) (setup-line : Line) (S : register.Settings) : T
 pub begun : (known : Stage) (setup-line : Line) (S : register.Settings) → acceptedBy setup-line ≡ some S
     → Begun known setup-line S
 unfolding outputOf after acceptedBy worldAt
-begun known (line.Setup f count faulty) S e =
-    let given = accepted-setup (setupOf f count faulty) S e in
+begun known (line.Setup f n count faulty) S e =
+    let given = accepted-setup (setupOf f n count faulty) S e in
     record {
       settings = given .0;
-      allowed = allowed-set f count faulty (given .0) (given .1);
+      allowed = allowed-set f n count faulty (given .0) (given .1);
       same = given .2;
       prints = ap setupOutput (given .1);
       leaves = λ steps. ap (setUp known) (given .1);

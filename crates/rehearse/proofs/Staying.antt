@@ -34,25 +34,25 @@ new-sound : (settings : Settings) → Allowed settings
 new-sound settings allowed = stored-state settings allowed newWorld (well-new (settingsOf settings) formats)
 
 -- that of the settings that the program starts with
-first-allowed : areAllowed (settingsBy 0 1 0) ≡ true
+first-allowed : areAllowed (settingsBy 0 1 1 0) ≡ true
 unfolding areAllowed setupRefusal inRange settingsOf allBelow countBelow contains
 first-allowed = refl
 
 pub first-sound : Sound beginning
-first-sound = new-sound (settingsBy 0 1 0) (allowed-facts (settingsBy 0 1 0) first-allowed)
+first-sound = new-sound (settingsBy 0 1 1 0) (allowed-facts (settingsBy 0 1 1 0) first-allowed)
 
-set-sound : (known : Stage) (f count faulty : ℕ) (answer : Setup) → setupOf f count faulty ≡ answer
+set-sound : (known : Stage) (f n count faulty : ℕ) (answer : Setup) → setupOf f n count faulty ≡ answer
     → Sound known → Sound (setUp known answer)
-set-sound known f count faulty (Set settings) e sound =
-    new-sound settings (allowed-set f count faulty settings e)
-set-sound known f count faulty (Refused why) e sound = sound
+set-sound known f n count faulty (Set settings) e sound =
+    new-sound settings (allowed-set f n count faulty settings e)
+set-sound known f n count faulty (Refused why) e sound = sound
 
 -- ---- after a line, and after lines
 
 pub line-sound : (known : Stage) (first : Line) → Sound known → Sound (after known first)
 unfolding after
-line-sound known (line.Setup f count faulty) sound =
-    set-sound known f count faulty (setupOf f count faulty) refl sound
+line-sound known (line.Setup f n count faulty) sound =
+    set-sound known f n count faulty (setupOf f n count faulty) refl sound
 line-sound known (line.Do step) sound =
     let done = stepOn known step in
     by-test (known .isSet)

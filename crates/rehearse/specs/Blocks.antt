@@ -84,7 +84,7 @@ progress known cut wrote = record { known = known; cut = cut; wrote = wrote }
 -- at first no setup was accepted, and the next line is number 0; no step reaches the system that is there
 abbrev pub beginning : Stage
 beginning =
-    stage false (settingsBy 0 1 0) (storeServers newWorld) (storeClients newWorld) (storeSlots newWorld) 0
+    stage false (settingsBy 0 1 1 0) (storeServers newWorld) (storeClients newWorld) (storeSlots newWorld) 0
 
 -- it reads some bytes, and writes the text of the lines that are then whole
 abbrev pub turn : Progress → List ℕ → Progress

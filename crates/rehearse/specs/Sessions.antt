@@ -40,7 +40,7 @@ acceptedIn (setup.Set settings) = some (settingsOf settings)
 acceptedIn (setup.Refused why) = none
 
 unfoldable pub acceptedBy : Line → Option Settings
-acceptedBy (line.Setup f count faulty) = acceptedIn (setupOf f count faulty)
+acceptedBy (line.Setup f n count faulty) = acceptedIn (setupOf f n count faulty)
 acceptedBy (line.Do step) = none
 acceptedBy line.Unread = none
 
@@ -51,7 +51,7 @@ NoneAccepted lines = (one : Line) → Member one lines → acceptedBy one ≡ no
 -- the steps among lines; a line that is unreadable, or an S, is none
 unfoldable pub stepsOf : List Line → List Step
 stepsOf [] = []
-stepsOf (line.Setup f count faulty ∷ rest) = stepsOf rest
+stepsOf (line.Setup f n count faulty ∷ rest) = stepsOf rest
 stepsOf (line.Do step ∷ rest) = stepOf step ∷ stepsOf rest
 stepsOf (line.Unread ∷ rest) = stepsOf rest
 
@@ -60,8 +60,8 @@ stepsOf (line.Unread ∷ rest) = stepsOf rest
 -- one output for each line: the first step gets answer `next`, the one after it `next + 1`, and so on
 unfoldable pub outputsBy : (ℕ → Answer) → ℕ → List Line → List Output
 outputsBy answer next [] = []
-outputsBy answer next (line.Setup f count faulty ∷ rest) =
-    setupOutput (setupOf f count faulty) ∷ outputsBy answer next rest
+outputsBy answer next (line.Setup f n count faulty ∷ rest) =
+    setupOutput (setupOf f n count faulty) ∷ outputsBy answer next rest
 outputsBy answer next (line.Do step ∷ rest) = output.Answered (answer next) ∷ outputsBy answer (suc next) rest
 outputsBy answer next (line.Unread ∷ rest) = output.Unread ∷ outputsBy answer next rest
 

@@ -58,7 +58,7 @@ setupOutput (setup.Refused why) = output.Answered (Refused why)
 
 -- a step before an accepted setup is unreadable
 unfoldable pub outputOf : Stage → Line → Output
-outputOf known (line.Setup f count faulty) = setupOutput (setupOf f count faulty)
+outputOf known (line.Setup f n count faulty) = setupOutput (setupOf f n count faulty)
 outputOf known (line.Do step) =
     cond (known .isSet) (output.Answered (stepOn known step .answer)) output.Unread
 outputOf known line.Unread = output.Unread
@@ -85,7 +85,7 @@ setUp known (setup.Refused why) = counted known
 
 -- a step before an accepted setup changes nothing
 unfoldable pub after : Stage → Line → Stage
-after known (line.Setup f count faulty) = setUp known (setupOf f count faulty)
+after known (line.Setup f n count faulty) = setUp known (setupOf f n count faulty)
 after known (line.Do step) = cond (known .isSet) (moved known (stepOn known step)) (counted known)
 after known line.Unread = counted known
 

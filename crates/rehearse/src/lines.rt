@@ -70,18 +70,19 @@ fn set_afresh(
     settings: Settings,
     is_set: bool,
     f: u32,
+    n: u32,
     count: u32,
     faulty: u32,
     servers: &mut Servers,
     clients: &mut Clients,
     slots: &mut Slots,
 ) -> Obeyed
-    ensures { λ r. ⌜ ((n : ℕ) → Obeys
-        (stage «is_set» settings (now (servers .entry)) (now (clients .entry)) (now (slots .entry)) n)
-        (Line.Setup f count faulty) (r .what) (stage (r .«is_set») (r .settings)
+    ensures { λ r. ⌜ ((number : ℕ) → Obeys
+        (stage «is_set» settings (now (servers .entry)) (now (clients .entry)) (now (slots .entry)) number)
+        (Line.Setup f n count faulty) (r .what) (stage (r .«is_set») (r .settings)
         (now (servers .exit)) (now (clients .exit)) (now (slots .exit)))) ⌝ }
 {
-    match set_up(f, count, faulty, servers, clients, slots) {
+    match set_up(f, n, count, faulty, servers, clients, slots) {
         Setup::Set(accepted) => obeyed_of(accepted, true, Output::Set),
         Setup::Refused(why) => obeyed_of(settings, is_set, Output::Answered(Answer::Refused(why))),
     }
@@ -97,15 +98,23 @@ fn obey(
     slots: &mut Slots,
 ) -> Obeyed
     requires { ⌜ isSound settings (now servers) (now clients) (now slots) ≡ true ⌝ }
-    ensures { λ r. ⌜ ((n : ℕ) → Obeys
-        (stage «is_set» settings (now (servers .entry)) (now (clients .entry)) (now (slots .entry)) n)
+    ensures { λ r. ⌜ ((number : ℕ) → Obeys
+        (stage «is_set» settings (now (servers .entry)) (now (clients .entry)) (now (slots .entry)) number)
         line (r .what) (stage (r .«is_set») (r .settings)
         (now (servers .exit)) (now (clients .exit)) (now (slots .exit)))) ⌝ }
 {
     match line {
-        Line::Setup(f, count, faulty) => {
-            set_afresh(settings, is_set, f, count, faulty, servers, clients, slots)
-        }
+        Line::Setup(f, n, count, faulty) => set_afresh(
+            settings,
+            is_set,
+            f,
+            n,
+            count,
+            faulty,
+            servers,
+            clients,
+            slots,
+        ),
         Line::Do(step) => {
             if !is_set {
                 return obeyed_of(settings, is_set, Output::Unread);

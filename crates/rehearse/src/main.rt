@@ -88,6 +88,7 @@ fn main() {
     let mut out = new_output();
     let settings = Settings {
         f: 0,
+        n: 1,
         clients: 1,
         faulty: 0,
     };

@@ -14,7 +14,6 @@ use lib.ListN.{getD, take, drop}
 use Rattle.message.specs.declared.Pair.{Pair}
 use Rattle.message.specs.Pair.{below}
 use Rattle.register.specs.declared.Phase.the-variants.{Idle}
-use Rattle.register.specs.Thresholds.{size}
 use Rattle.register.specs.Client.{Client, higher, counts}
 use Rattle.replies.specs.Replies.{held}
 
@@ -27,8 +26,8 @@ abbrev pub heldIn : List ℕ → Client
 heldIn = held Idle (record { 0 = 0 })
 
 -- a pair counts, by what the memory shows (the client's number does not matter)
-abbrev pub countsIn : ℕ → List ℕ → Pair → Bool
-countsIn f replies = counts (size f) f 0 (heldIn replies)
+abbrev pub countsIn : ℕ → ℕ → List ℕ → Pair → Bool
+countsIn n f replies = counts n f 0 (heldIn replies)
 
 -- a pair is above what was chosen so far
 abbrev pub isAbove : Pair → Option Pair → Bool

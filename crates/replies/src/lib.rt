@@ -5,8 +5,8 @@ ghost use mathlib.Core.Bool.{cond};
 ghost use Prim.Native.Nat.{suc, _+_, _*_, _<_, _≤_};
 ghost use lib.ListN.{length, drop, replicate};
 ghost use Rattle.basics.specs.Counting.{countBelow};
-ghost use Rattle.register.specs.Settings.{mostServers, mostFaulty};
-ghost use Rattle.register.specs.Thresholds.{size, counted};
+ghost use Rattle.register.specs.Settings.{mostServers};
+ghost use Rattle.register.specs.Thresholds.{counted};
 ghost use Rattle.register.specs.PairSet.{has, add};
 ghost use Rattle.register.specs.Client.{isNoted, isAtMost, higher, chosen, setLimit};
 ghost use Rattle.replies.specs.Replies.{repliesLength, noteOf, notedIn, setIn, ackIn, choiceOf};
@@ -124,15 +124,14 @@ fn holders(replies: &[u64], n: usize, pair: Pair) -> u32
 }
 
 // Whether a pair counts: its timestamp is not old, and it stands in enough sets.
-fn does_count(replies: &[u64], f: u8, pair: Pair) -> bool
-    requires { ⌜ (length (now replies) ≡ repliesLength) × (f ≤ mostFaulty) ⌝ }
-    ensures { λ b. ⌜ b ≡ countsIn f (now (replies .entry)) pair ⌝ }
+fn does_count(replies: &[u64], n: u8, f: u8, pair: Pair) -> bool
+    requires { ⌜ (length (now replies) ≡ repliesLength) × (n ≤ mostServers) ⌝ }
+    ensures { λ b. ⌜ b ≡ countsIn n f (now (replies .entry)) pair ⌝ }
 {
-    let n = register::servers(f) as usize;
-    if !register::is_not_old(f, at_most(replies, n, message::stamp_of(pair))) {
+    if !register::is_not_old(f, at_most(replies, n as usize, message::stamp_of(pair))) {
         return false;
     }
-    register::is_valid(f, holders(replies, n, pair))
+    register::is_valid(f, holders(replies, n as usize, pair))
 }
 
 fn is_above(pair: Pair, best: Choice) -> bool
@@ -145,25 +144,25 @@ fn is_above(pair: Pair, best: Choice) -> bool
 }
 
 // The choice with one candidate more. It is tested only if it is above the choice so far.
-fn consider(replies: &[u64], f: u8, pair: Pair, best: Choice) -> Choice
-    requires { ⌜ (length (now replies) ≡ repliesLength) × (f ≤ mostFaulty) ⌝ }
+fn consider(replies: &[u64], n: u8, f: u8, pair: Pair, best: Choice) -> Choice
+    requires { ⌜ (length (now replies) ≡ repliesLength) × (n ≤ mostServers) ⌝ }
     ensures { λ choice. ⌜ choiceOf choice
-        ≡ cond (countsIn f (now (replies .entry)) pair) (higher pair (choiceOf best)) (choiceOf best) ⌝ }
+        ≡ cond (countsIn n f (now (replies .entry)) pair) (higher pair (choiceOf best)) (choiceOf best) ⌝ }
 {
     if !is_above(pair, best) {
         return best;
     }
-    if !does_count(replies, f, pair) {
+    if !does_count(replies, n, f, pair) {
         return best;
     }
     Choice::Found(pair)
 }
 
 // The choice with the pairs of one more set, the highest first.
-fn better(replies: &[u64], f: u8, i: usize, best: Choice) -> Choice
-    requires { ⌜ (length (now replies) ≡ repliesLength) × (f ≤ mostFaulty) × (i < mostServers) ⌝ }
+fn better(replies: &[u64], n: u8, f: u8, i: usize, best: Choice) -> Choice
+    requires { ⌜ (length (now replies) ≡ repliesLength) × (n ≤ mostServers) × (i < mostServers) ⌝ }
     ensures { λ choice. ⌜ choiceOf choice
-        ≡ bestOf (countsIn f (now (replies .entry))) (setIn (now (replies .entry)) (suc i))
+        ≡ bestOf (countsIn n f (now (replies .entry))) (setIn (now (replies .entry)) (suc i))
         (choiceOf best) ⌝ }
 {
     let at = PAIRS + i * LIMIT;
@@ -171,36 +170,35 @@ fn better(replies: &[u64], f: u8, i: usize, best: Choice) -> Choice
     let mut j = size_of(replies, i);
     while 0 < j {
         j -= 1;
-        choice = consider(replies, f, Pair(replies[at + j]), choice);
+        choice = consider(replies, n, f, Pair(replies[at + j]), choice);
     }
     choice
 }
 
 // The highest of the pairs that count, once enough timestamps are noted. There are at most 4n candidates;
 // one that is above the best so far costs n steps for its timestamp and 4n for its holders.
-pub fn choose(replies: &[u64], f: u8) -> Choice
-    requires { ⌜ (length (now replies) ≡ repliesLength) × (f ≤ mostFaulty) ⌝ }
-    ensures { λ choice. ⌜ choiceOf choice ≡ chosen (size f) f 0 (heldIn (now (replies .entry))) ⌝ }
+pub fn choose(replies: &[u64], n: u8, f: u8) -> Choice
+    requires { ⌜ (length (now replies) ≡ repliesLength) × (n ≤ mostServers) ⌝ }
+    ensures { λ choice. ⌜ choiceOf choice ≡ chosen n f 0 (heldIn (now (replies .entry))) ⌝ }
 {
-    let n = register::servers(f) as usize;
     let mut best = Choice::Nothing;
-    if !register::is_enough(f, used(replies, 0, n)) {
+    if !register::is_enough(n, f, used(replies, 0, n as usize)) {
         return best;
     }
     let mut i = 0;
-    while i < n {
-        best = better(replies, f, i, best);
+    while i < n as usize {
+        best = better(replies, n, f, i, best);
         i += 1;
     }
     best
 }
 
 // How many servers have acknowledged.
-pub fn acknowledged(replies: &[u64], f: u8) -> u32
-    requires { ⌜ (length (now replies) ≡ repliesLength) × (f ≤ mostFaulty) ⌝ }
-    ensures { λ count. ⌜ count ≡ counted (ackIn (now (replies .entry))) (size f) ⌝ }
+pub fn acknowledged(replies: &[u64], n: u8) -> u32
+    requires { ⌜ (length (now replies) ≡ repliesLength) × (n ≤ mostServers) ⌝ }
+    ensures { λ count. ⌜ count ≡ counted (ackIn (now (replies .entry))) n ⌝ }
 {
-    used(replies, ACKS, register::servers(f) as usize)
+    used(replies, ACKS, n as usize)
 }
 
 // Whether a timestamp of the server at place i is noted.

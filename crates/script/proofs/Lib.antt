@@ -18,3 +18,4 @@ pub mod Found
 pub mod Short
 pub mod Rest
 pub mod Quick
+pub mod SetupLines

@@ -32,14 +32,15 @@ rest-is text at =
 -- ---- the numbers before the last argument
 
 -- one is read, and the others behind it
-one-ahead : (numbers earlier later : ℕ) (text : List ℕ) (line : ℕ → ℕ → List ℕ → Line) → 0 < numbers
-    → numberThen text (λ value rest. numbersThen (numbers - 1) later value rest line)
-    ≡ numbersThen numbers earlier later text line
+one-ahead : (numbers earliest earlier later : ℕ) (text : List ℕ) (line : ℕ → ℕ → ℕ → List ℕ → Line)
+    → 0 < numbers
+    → numberThen text (λ value rest. numbersThen (numbers - 1) earlier later value rest line)
+    ≡ numbersThen numbers earliest earlier later text line
 unfolding numbersThen
-one-ahead zero earlier later text line h = absurd (not-suc-le-zero h)
-one-ahead (suc n) earlier later text line h =
+one-ahead zero earliest earlier later text line h = absurd (not-suc-le-zero h)
+one-ahead (suc n) earliest earlier later text line h =
     let one-less : suc n - 1 ≡ n = omega arith in
-    ap (λ (left : ℕ). numberThen text (λ value rest. numbersThen left later value rest line)) one-less
+    ap (λ (left : ℕ). numberThen text (λ value rest. numbersThen left earlier later value rest line)) one-less
 
 -- what was read at a place
 module _
@@ -56,32 +57,33 @@ module _
 
     -- of the numbers that make the line, some are left
     module _
-        (numbers earlier later : ℕ) (line : ℕ → ℕ → List ℕ → Line) (whole : Line)
-        (makes : numbersThen numbers earlier later (drop at text) line ≡ whole) (left : 0 < numbers)
+        (numbers earliest earlier later : ℕ) (line : ℕ → ℕ → ℕ → List ℕ → Line) (whole : Line)
+        (makes : numbersThen numbers earliest earlier later (drop at text) line ≡ whole) (left : 0 < numbers)
       where
         abbrev others : ℕ → List ℕ → Line
-        others value rest = numbersThen (numbers - 1) later value rest line
+        others value rest = numbersThen (numbers - 1) earlier later value rest line
 
         read-as : (variant : First) → answer ≡ variant → onFirst variant (drop at text) others ≡ whole
         read-as variant is =
-            there variant is .means others ∙ one-ahead numbers earlier later (drop at text) line left ∙ makes
+            there variant is .means others
+            ∙ one-ahead numbers earliest earlier later (drop at text) line left ∙ makes
 
         pub none-read : answer ≡ first.No → Unread ≡ whole
         none-read is = read-as first.No is
 
         pub one-read : (value next : ℕ) → answer ≡ first.Is value next
-            → numbersThen (numbers - 1) later value (drop (at + next) text) line ≡ whole
+            → numbersThen (numbers - 1) earlier later value (drop (at + next) text) line ≡ whole
         one-read value next is =
             ap (others value) (sym (drop-drop next at text)) ∙ read-as (first.Is value next) is
 
 -- none is left
-pub all-read : (text : List ℕ) (at numbers earlier later : ℕ) (line : ℕ → ℕ → List ℕ → Line)
-    (whole last : Line) → numbersThen numbers earlier later (drop at text) line ≡ whole → numbers ≤ 0
-    → last ≡ line earlier later (take (length text - at) (drop at text)) → last ≡ whole
+pub all-read : (text : List ℕ) (at numbers earliest earlier later : ℕ) (line : ℕ → ℕ → ℕ → List ℕ → Line)
+    (whole last : Line) → numbersThen numbers earliest earlier later (drop at text) line ≡ whole → numbers ≤ 0
+    → last ≡ line earliest earlier later (take (length text - at) (drop at text)) → last ≡ whole
 unfolding numbersThen
-all-read text at numbers earlier later line whole last makes none is =
+all-read text at numbers earliest earlier later line whole last makes none is =
     let zero : numbers ≡ 0 = omega arith in
-    is ∙ ap (line earlier later) (rest-is text at) ∙ (rw zero at makes)
+    is ∙ ap (line earliest earlier later) (rest-is text at) ∙ (rw zero at makes)
 
 -- the first word of a text ends at a place
 module _ (text : List ℕ) (end : ℕ) (ends : end ≡ length (upTo 32 text)) where

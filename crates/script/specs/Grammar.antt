@@ -38,10 +38,11 @@ numberThen text line =
     onRest (behind (code " ") text)
     (λ rest. onNumber (numberIn (upTo (code " ") text)) (λ value. line value rest))
 
--- n numbers, each with a blank behind it, and what follows from the last two and the rest
-unfoldable pub numbersThen : ℕ → ℕ → ℕ → List ℕ → (ℕ → ℕ → List ℕ → Line) → Line
-numbersThen zero earlier later text line = line earlier later text
-numbersThen (suc n) _ later text line = numberThen text (λ value rest. numbersThen n later value rest line)
+-- so many numbers, each with a blank behind it, and what follows from the last three and the rest
+unfoldable pub numbersThen : ℕ → ℕ → ℕ → ℕ → List ℕ → (ℕ → ℕ → ℕ → List ℕ → Line) → Line
+numbersThen zero earliest earlier later text line = line earliest earlier later text
+numbersThen (suc count) _ earlier later text line =
+    numberThen text (λ value rest. numbersThen count earlier later value rest line)
 
 -- marks are 1 to 13 digits 0 or 1, the first that of server 1; as a number, server k's mark is bit k - 1
 abbrev pub isMark : ℕ → Bool
@@ -67,32 +68,33 @@ numberLine letter earlier value =
 abbrev pub numberAfter : ℕ → ℕ → List ℕ → Line
 numberAfter letter earlier text = onNumber (numberIn text) (numberLine letter earlier)
 
--- an entry behind a client, a message behind a server and a client, marks behind f and the number of clients
+-- an entry behind a client, a message behind a server and a client, marks behind f, n and the number of
+-- clients
 abbrev pub entryAfter : ℕ → List ℕ → Line
 entryAfter d text = onNumber (hexIn entryDigits text) (λ value. Do (W d (record { 0 = value })))
 
 abbrev pub messageAfter : ℕ → ℕ → List ℕ → Line
 messageAfter k d text = onNumber (hexIn messageDigits text) (λ value. Do (L k d (words value)))
 
-abbrev pub marksAfter : ℕ → ℕ → List ℕ → Line
-marksAfter f clients text = onNumber (marksIn text) (Setup f clients)
+abbrev pub marksAfter : ℕ → ℕ → ℕ → List ℕ → Line
+marksAfter f n clients text = onNumber (marksIn text) (Setup f n clients)
 
 -- how many numbers stand before the last argument
 abbrev pub leadingOf : ℕ → ℕ
 leadingOf letter =
-    cond (eqb letter (code "S")) 2
+    cond (eqb letter (code "S")) 3
     (cond (eqb letter (code "L")) 2
     (cond (eqb letter (code "W")) 1 (cond (eqb letter (code "K")) 1 (cond (eqb letter (code "D")) 1 0))))
 
--- the line by its letter, the last two of these numbers, and the last argument
-abbrev pub lastOf : ℕ → ℕ → ℕ → List ℕ → Line
-lastOf letter earlier later text =
-    cond (eqb letter (code "S")) (marksAfter earlier later text)
+-- the line by its letter, the last three of these numbers, and the last argument
+abbrev pub lastOf : ℕ → ℕ → ℕ → ℕ → List ℕ → Line
+lastOf letter earliest earlier later text =
+    cond (eqb letter (code "S")) (marksAfter earliest earlier later text)
     (cond (eqb letter (code "L")) (messageAfter earlier later text)
     (cond (eqb letter (code "W")) (entryAfter later text) (numberAfter letter later text)))
 
 unfoldable pub argumentsOf : ℕ → List ℕ → Line
-argumentsOf letter text = numbersThen (leadingOf letter) 0 0 text (lastOf letter)
+argumentsOf letter text = numbersThen (leadingOf letter) 0 0 0 text (lastOf letter)
 
 -- a line that is not too long: a letter, a blank and arguments
 unfoldable pub lineOf : List ℕ → Line

@@ -33,8 +33,9 @@ const HIGH_DIGITS: usize = 2 * HEAD_BYTES;
 // The marks of an S, at most.
 const MARKS: usize = MOST_SERVERS as usize;
 
+// A setup has f, n, the number of clients and the marks.
 pub enum Line {
-    Setup(u32, u32, u32),
+    Setup(u32, u32, u32, u32),
     Do(Step),
     Unread,
 }
@@ -205,12 +206,12 @@ pub fn message_after(k: u32, d: u32, text: &[u8]) -> Line
     Line::Do(Step::L(k, d, Words((high % OVER_32) as u32, low)))
 }
 
-// Marks behind f and the number of clients.
-fn marks_after(f: u32, clients: u32, text: &[u8]) -> Line
-    ensures { λ r. ⌜ r ≡ marksAfter f clients (now (text .entry)) ⌝ }
+// Marks behind f, n and the number of clients.
+fn marks_after(f: u32, n: u32, clients: u32, text: &[u8]) -> Line
+    ensures { λ r. ⌜ r ≡ marksAfter f n clients (now (text .entry)) ⌝ }
 {
     match marks_in(text) {
-        Number::Is(marks) => Line::Setup(f, clients, marks),
+        Number::Is(marks) => Line::Setup(f, n, clients, marks),
         Number::No => Line::Unread,
     }
 }
@@ -220,7 +221,7 @@ fn leading(letter: u8) -> usize
     ensures { λ r. ⌜ r ≡ leadingOf letter ⌝ }
 {
     match letter {
-        b'S' => 2,
+        b'S' => 3,
         b'L' => 2,
         b'W' => 1,
         b'K' => 1,
@@ -229,12 +230,12 @@ fn leading(letter: u8) -> usize
     }
 }
 
-// The line of a letter, the last two numbers before the last argument, and that argument.
-fn last_argument(letter: u8, earlier: u32, later: u32, text: &[u8]) -> Line
-    ensures { λ r. ⌜ r ≡ lastOf letter earlier later (now (text .entry)) ⌝ }
+// The line of a letter, the last three numbers before the last argument, and that argument.
+fn last_argument(letter: u8, earliest: u32, earlier: u32, later: u32, text: &[u8]) -> Line
+    ensures { λ r. ⌜ r ≡ lastOf letter earliest earlier later (now (text .entry)) ⌝ }
 {
     match letter {
-        b'S' => marks_after(earlier, later, text),
+        b'S' => marks_after(earliest, earlier, later, text),
         b'L' => message_after(earlier, later, text),
         b'W' => entry_after(later, text),
         _ => number_after(letter, later, text),
@@ -246,6 +247,7 @@ fn arguments(letter: u8, text: &[u8]) -> Line
     ensures { λ r. ⌜ r ≡ argumentsOf letter (now (text .entry)) ⌝ }
 {
     let mut numbers = leading(letter);
+    let mut earliest = 0;
     let mut earlier = 0;
     let mut later = 0;
     let mut at = 0;
@@ -253,12 +255,13 @@ fn arguments(letter: u8, text: &[u8]) -> Line
         let First::Is(value, next) = first_number(&text[at..]) else {
             return Line::Unread;
         };
+        earliest = earlier;
         earlier = later;
         later = value;
         at += next;
         numbers -= 1;
     }
-    last_argument(letter, earlier, later, &text[at..])
+    last_argument(letter, earliest, earlier, later, &text[at..])
 }
 
 // What a line says.

@@ -27,7 +27,6 @@ use Rattle.message.specs.declared.Pair.{Pair}
 use Rattle.message.specs.Pair.{pairOf, stamp}
 use Rattle.message.specs.Layout.{bytesOf}
 use Rattle.register.specs.declared.Phase.the-variants.{Reading}
-use Rattle.register.specs.Thresholds.{size}
 use Rattle.register.specs.PairSet.{add}
 use Rattle.register.specs.Client.{Client, counts, setLimit}
 
@@ -79,14 +78,14 @@ noting first second third many =
       acks = λ k. false;
     }
 
--- what counts at f = 1, and what a set keeps
+-- what counts at f = 1 and n = 4, and what a set keeps
 pub record Counting : Type 0 where
   -- noted (1,1), (1,1), (0,0), pair (1,1) in two sets: counts
-  pub two-sets : counts (size 1) 1 1 (noting (pairBy 1 1) (pairBy 1 1) (pairBy 0 0) 2) (pairBy 1 1) ≡ true
+  pub two-sets : counts 4 1 1 (noting (pairBy 1 1) (pairBy 1 1) (pairBy 0 0) 2) (pairBy 1 1) ≡ true
   -- noted (2,2), (1,1), (0,0): it does not
-  pub newer-noted : counts (size 1) 1 1 (noting (pairBy 2 2) (pairBy 1 1) (pairBy 0 0) 2) (pairBy 1 1) ≡ false
+  pub newer-noted : counts 4 1 1 (noting (pairBy 2 2) (pairBy 1 1) (pairBy 0 0) 2) (pairBy 1 1) ≡ false
   -- in one set only: it does not
-  pub one-set : counts (size 1) 1 1 (noting (pairBy 1 1) (pairBy 1 1) (pairBy 0 0) 1) (pairBy 1 1) ≡ false
+  pub one-set : counts 4 1 1 (noting (pairBy 1 1) (pairBy 1 1) (pairBy 0 0) 1) (pairBy 1 1) ≡ false
   -- set with counters 3, 5, 6, 9 of client 1: adding 4 drops 3; adding 2 changes nothing
   pub adding-4 : add setLimit (pairBy 4 1) (pairs (3 ∷ 5 ∷ 6 ∷ 9 ∷ [])) ≡ pairs (4 ∷ 5 ∷ 6 ∷ 9 ∷ [])
   pub adding-2 : add setLimit (pairBy 2 1) (pairs (3 ∷ 5 ∷ 6 ∷ 9 ∷ [])) ≡ pairs (3 ∷ 5 ∷ 6 ∷ 9 ∷ [])

@@ -10,7 +10,7 @@ use mathlib.Core.Path.{fun-ext}
 use mathlib.Core.Bool.{and-false}
 use lib.Seq.{getD-drop}
 use Rattle.register.proofs.Vocabulary.{Member, Entry, Pair, WriteCounter, initial, pairBits, stampBits}
-use Rattle.register.proofs.Vocabulary.{newClient, setLimit, isReading, formats, mostServers, isServer, size}
+use Rattle.register.proofs.Vocabulary.{newClient, setLimit, isReading, formats, mostServers, isServer}
 use Rattle.register.proofs.Vocabulary.{WellPhase, WellClient}
 use Rattle.register.specs.declared.Phase.{Phase}
 use Rattle.register.specs.declared.Phase.the-variants.{Idle, Reading, ReadingForWrite, Storing}
@@ -80,12 +80,13 @@ module _ (settings : Settings) (i : ℕ) (memory : List ℕ) (h : isClientSound 
   abbrev rest : Bool
   rest = eqb (getD memory readsAt 0) 0 && eqb (getD memory phaseAt 0) 0
 
-  parts : (isSoundMemory (settings .f) memory ≡ true) × ((ltb i (settings .clients) || rest) ≡ true)
+  parts : (isSoundMemory (settings .n) (settings .f) memory ≡ true)
+      × ((ltb i (settings .clients) || rest) ≡ true)
   unfolding isClientSound
-  parts = both (isSoundMemory (settings .f) memory) (ltb i (settings .clients) || rest) h
+  parts = both (isSoundMemory (settings .n) (settings .f) memory) (ltb i (settings .clients) || rest) h
 
-  known : SoundMemory (settings .f) memory
-  known = memory-facts (settings .f) memory (parts .0)
+  known : SoundMemory (settings .n) (settings .f) memory
+  known = memory-facts (settings .n) (settings .f) memory (parts .0)
 
   -- a place that is not used
   at-rest : ltb i (settings .clients) ≡ false → (getD memory readsAt 0 ≡ 0) × (getD memory phaseAt 0 ≡ 0)
@@ -100,14 +101,14 @@ module _ (settings : Settings) (i : ℕ) (memory : List ℕ) (h : isClientSound 
   small-reads : getD memory readsAt 0 % 2 ^ 32 ≡ getD memory readsAt 0
   small-reads = let few = known .reads in mod-small (getD memory readsAt 0) (omega arith)
 
-  replies-sound : Sound (size (settings .f)) (isReading phase) (stores phase) replies
-  replies-sound = facts (size (settings .f)) (isReading phase) (stores phase) replies (known .replies)
+  replies-sound : Sound (settings .n) (isReading phase) (stores phase) replies
+  replies-sound = facts (settings .n) (isReading phase) (stores phase) replies (known .replies)
 
   abbrev reading : ℕ → Bool
-  reading j = ltb j (size (settings .f)) && isReading phase
+  reading j = ltb j (settings .n) && isReading phase
 
   abbrev storing : ℕ → Bool
-  storing j = ltb j (size (settings .f)) && stores phase
+  storing j = ltb j (settings .n) && stores phase
 
   -- ---- what the memory says of each server
 
@@ -159,7 +160,7 @@ module _ (settings : Settings) (i : ℕ) (memory : List ℕ) (h : isClientSound 
       → ackIn replies k ≡ false
   unfolding ackIn
   acks-idle apart zero = refl
-  acks-idle apart (suc j) = ack-none j (rw (no-store phase apart, and-false (ltb j (size (settings .f)))))
+  acks-idle apart (suc j) = ack-none j (rw (no-store phase apart, and-false (ltb j (settings .n))))
 
   module _ (fit : (x : ℕ) → x < clientLength → getD memory x 0 < 2 ^ 64) where
     set-pairs : (j : ℕ) → j < mostServers → (p : Pair) → Member p (setIn replies (suc j))
@@ -219,4 +220,4 @@ module _ (settings : Settings) (i : ℕ) (memory : List ℕ) (h : isClientSound 
       }
 
   pub client-back : store (view memory) ≡ memory
-  client-back = store-view (settings .f) memory (parts .0)
+  client-back = store-view (settings .n) (settings .f) memory (parts .0)

@@ -11,7 +11,7 @@ use mir.Val.{boolByte}
 use Rattle.basics.proofs.Cases.{by-test, by-either, one-fails, true-or-false}
 use Rattle.basics.proofs.Members.{Every, every-of}
 use Rattle.register.proofs.Vocabulary.{Entry, Pair, WriteCounter, initial, stampBits, Client, setLimit}
-use Rattle.register.proofs.Vocabulary.{isReading, mostServers, isServer, size, formats, WellClient}
+use Rattle.register.proofs.Vocabulary.{isReading, mostServers, isServer, formats, WellClient}
 use Rattle.register.specs.declared.Phase.{Phase}
 use Rattle.register.specs.declared.Phase.the-variants.{Storing}
 use Rattle.replies.specs.Replies.{noteWord, pairWord, row, storeReplies}
@@ -44,10 +44,10 @@ past-last l k h = pair-word l k ∙ ap (λ (p : Pair). p .0) (List·getD-eq-defa
 module _ (settings : Settings) (client : Client)
     (well : WellClient (settingsOf settings) formats client) where
   abbrev reading : ℕ → Bool
-  reading j = ltb j (size (settings .f)) && isReading (client .phase)
+  reading j = ltb j (settings .n) && isReading (client .phase)
 
   abbrev storing : ℕ → Bool
-  storing j = ltb j (size (settings .f)) && stores (client .phase)
+  storing j = ltb j (settings .n) && stores (client .phase)
 
   not-read : (j : ℕ) → reading j ≡ false
       → isServer (settingsOf settings) (suc j) && isReading (client .phase) ≡ false
@@ -66,7 +66,7 @@ module _ (settings : Settings) (client : Client)
 
   no-ack : (j : ℕ) → storing j ≡ false → client .acks (suc j) ≡ false
   no-ack j e =
-      by-either (one-fails (ltb j (size (settings .f))) (stores (client .phase)) e)
+      by-either (one-fails (ltb j (settings .n)) (stores (client .phase)) e)
       (λ h. well .acksUnused (suc j) (server-place settings j ∙ h))
       (λ h. well .acksIdle (not-storing (client .phase) h) (suc j))
 
@@ -75,7 +75,7 @@ module _ (settings : Settings) (client : Client)
       by-test (storing j) (λ e. rw e (bool-le (client .acks (suc j))))
       (λ e. rw (e, no-ack j e) (omega arith))
 
-  pub stored-sound : Sound (size (settings .f)) (isReading (client .phase)) (stores (client .phase))
+  pub stored-sound : Sound (settings .n) (isReading (client .phase)) (stores (client .phase))
       (storeReplies client)
   stored-sound =
       record {

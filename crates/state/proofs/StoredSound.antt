@@ -7,7 +7,7 @@ use Rattle.basics.proofs.Prelude.{_≡_, _∙_, Bool, true, false, _&&_, List, 
 use Rattle.basics.proofs.Prelude.{suc, _^_, _≤_, _<_, arith, ltb, le-ltb, not-false}
 use mathlib.Core.Bool.{or-true}
 use Rattle.register.proofs.Vocabulary.{tabled, Message, entryOf, formats, mostServers, mostClients, isClient}
-use Rattle.register.proofs.Vocabulary.{isServer, mostFaulty, World, WellPhase, WellFormed}
+use Rattle.register.proofs.Vocabulary.{isServer, areServersInRange, World, WellPhase, WellFormed}
 use Rattle.register.specs.declared.Phase.{Phase}
 use Rattle.register.specs.declared.Phase.the-variants.{Idle, Reading, ReadingForWrite, Storing}
 use Rattle.basics.proofs.Cases.{by-test, both-of}
@@ -23,6 +23,7 @@ use Rattle.client.specs.declared.Client.{Client as Loaded}
 use Rattle.client.specs.Memory as client
 use Rattle.client.specs.Memory.{codeOf, counterIn}
 use Rattle.client.specs.Sound.{isSoundMemory}
+use Rattle.client.specs.State.{storeClient}
 use Rattle.client.proofs.Facts.{ClientSound, client-sound, of-both}
 use Rattle.client.proofs.Memory.{sound-whole}
 use Rattle.state.specs.declared.Settings.{Settings}
@@ -66,9 +67,9 @@ module _ (settings : Settings) (allowed : Allowed settings) (world : World)
   unfolding settingsOf
   six = bound .sixClients
 
-  four : settings .f ≤ mostFaulty
+  ranged : areServersInRange (settings .n) (settings .f) ≡ true
   unfolding settingsOf
-  four = bound .few
+  ranged = bound .range
 
   -- ---- the parts
 
@@ -85,14 +86,15 @@ module _ (settings : Settings) (allowed : Allowed settings) (world : World)
       (stored-server settings j (world .servers (suc j)) six (well .server (suc j))
       (well .serverUnused (suc j)))
 
-  memory-sound : (i : ℕ) → isSoundMemory (settings .f) (client.store (world .clients (suc i))) ≡ true
+  memory-sound : (i : ℕ)
+      → isSoundMemory (settings .n) (settings .f) (client.store (world .clients (suc i))) ≡ true
   memory-sound i =
       let own = world .clients (suc i) in
-      let loaded : Loaded = record { number = 1; f = settings .f; phase = own .phase; reads = own .reads } in
+      let loaded : Loaded = storeClient 1 (settings .n) (settings .f) own in
       let own-sound : ClientSound loaded = record {
         low = omega arith;
         high = omega arith;
-        few = four;
+        range = ranged;
         reads = well .client (suc i) .reads;
         phase = sound-phase (own .phase) (well .client (suc i) .phase);
       } in
@@ -103,7 +105,8 @@ module _ (settings : Settings) (allowed : Allowed settings) (world : World)
   place-sound : (i : ℕ) → isClientSound settings i (client.store (world .clients (suc i))) ≡ true
   unfolding isClientSound codeOf
   place-sound i =
-      both-of (isSoundMemory (settings .f) (client.store (world .clients (suc i)))) _ (memory-sound i)
+      both-of (isSoundMemory (settings .n) (settings .f) (client.store (world .clients (suc i)))) _
+      (memory-sound i)
       (by-test (ltb i (settings .clients)) (λ e. rw e)
       (λ e. rw (e, well .clientUnused (suc i) (client-place settings i ∙ e))))
 

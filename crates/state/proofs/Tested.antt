@@ -3,7 +3,7 @@
 -- Assumes nothing.
 use Rattle.basics.proofs.Prelude.{_≡_, refl, Bool, true, false, not, _&&_, List, Option, none, some}
 use Rattle.basics.proofs.Prelude.{length, ℕ, suc, _+_, _*_, _%_, _^_, _≤_, _<_, arith, ltb}
-use Rattle.basics.proofs.Prelude.{eqb-true, ne-eqb, le-leb, lt-ltb, le-ltb}
+use Rattle.basics.proofs.Prelude.{eqb-true, ne-eqb, le-leb}
 use native.Mathlib.Nat.{mod-eq-of-lt}
 use lib.Pow.{pow-mono}
 use Rattle.register.proofs.Vocabulary.{contains, Refusal, mostServers, mostClients, isServer, isHonest}
@@ -23,14 +23,6 @@ bit-is n h =
     let e : 1 * 2 ^ n ≡ 2 ^ n = omega arith in
     rw e (mod-eq-of-lt {n = 2 ^ n} {m = 2 ^ 64} (omega arith))
 
--- a number m of the code that is n
-module _ {m n : ℕ} (e : m ≡ n) where
-  pub below-it : {j : ℕ} → j < m → ltb j n ≡ true
-  below-it {j} h = lt-ltb j n (omega arith)
-
-  pub not-below : {j : ℕ} → m ≤ j → ltb j n ≡ false
-  not-below {j} h = le-ltb j n (omega arith)
-
 -- channel c, whose count the code finds as n, at the place that it finds
 module _ (slots : List ℕ) {n place c : ℕ} (count : n ≡ countAt slots place) (at : place ≡ c)
     (used : Bool) where
@@ -41,12 +33,12 @@ module _ (slots : List ℕ) {n place c : ℕ} (count : n ≡ countAt slots place
   used-channel h e = rw (← at, ← count, ne-eqb n 0 h) e
 
 module _ (settings : Settings) (j : ℕ) where
-  pub server-place : isServer (settingsOf settings) (suc j) ≡ ltb j (3 * settings .f + 1)
+  pub server-place : isServer (settingsOf settings) (suc j) ≡ ltb j (settings .n)
   unfolding isServer settingsOf
   server-place = rw (le-leb 1 (suc j) (omega arith))
 
   pub honest-place : isHonest (settingsOf settings) (suc j)
-      ≡ ltb j (3 * settings .f + 1) && not (contains (settings .faulty) (suc j))
+      ≡ ltb j (settings .n) && not (contains (settings .faulty) (suc j))
   unfolding isHonest settingsOf
   honest-place = rw server-place
 

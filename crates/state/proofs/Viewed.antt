@@ -39,7 +39,7 @@ module _ (settings : Settings) (accepted : Accepted (settingsOf settings)) (worl
   no-server k h =
       never (isServer S k)
       (λ e. let r = server-range S k e in
-      let few = bounds S accepted .few in
+      let few = bounds S accepted .most in
       true-or-false (isUpTo mostServers k) (of-range mostServers k (r .0) (omega arith)) h)
 
   pub placed : (d : ℕ) → Placed (world .clients d)

@@ -14,7 +14,6 @@ use Rattle.basics.specs.BitSets.{contains}
 use Rattle.refusal.specs.declared.Refusal.{Refusal}
 use Rattle.message.specs.Pair.{pairBits}
 use Rattle.register.specs.Settings.{mostServers, mostClients, isServer, isHonest, setupRefusal}
-use Rattle.register.specs.Thresholds.{size}
 use Rattle.channel.specs.Memory.{slotsLength, countAt}
 use Rattle.channel.specs.Sound.{sound}
 use Rattle.server.specs.Memory as server
@@ -36,7 +35,7 @@ areAllowed settings = isNone (setupRefusal (settingsOf settings)) && ltb (settin
 
 -- the mark at place i is of a server that there is, or not set
 abbrev pub isMarkFine : Settings → ℕ → Bool
-isMarkFine settings i = leb (suc i) (size (settings .f)) || not (contains (settings .faulty) (suc i))
+isMarkFine settings i = leb (suc i) (settings .n) || not (contains (settings .faulty) (suc i))
 
 -- ---- 'lengths and fields are in range'
 
@@ -74,7 +73,7 @@ areServersSound settings servers = allBelow (λ j. serverTest settings servers j
 
 unfoldable pub isClientSound : Settings → ℕ → List ℕ → Bool
 isClientSound settings i memory =
-    isSoundMemory (settings .f) memory
+    isSoundMemory (settings .n) (settings .f) memory
     && (ltb i (settings .clients)
     || (eqb (getD memory client.readsAt 0) 0 && eqb (getD memory client.phaseAt 0) 0))
 

@@ -42,7 +42,12 @@ use Rattle.state.specs.declared.Settings.{Settings}
 -- the settings: server k is faulty where its bit is set
 unfoldable pub settingsOf : Settings → model.Settings
 settingsOf settings =
-    record { f = settings .f; clients = settings .clients; faulty = contains (settings .faulty) }
+    record {
+      f = settings .f;
+      n = settings .n;
+      clients = settings .clients;
+      faulty = contains (settings .faulty);
+    }
 
 -- the bytes that two words stand for: eleven, or none where the first has more than 24 bits
 unfoldable pub bytesIn : Words → List ℕ

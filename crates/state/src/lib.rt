@@ -8,9 +8,10 @@ ghost use Rattle.state.specs.State as state;
 
 pub mod sound;
 
-// Bit k - 1 of faulty: server k is faulty.
+// Of n servers at most f may be faulty. Bit k - 1 of faulty: server k is.
 pub struct Settings {
     pub f: u8,
+    pub n: u8,
     pub clients: u8,
     pub faulty: u16,
 }

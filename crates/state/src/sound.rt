@@ -30,7 +30,6 @@ use crate::up;
 use channel::SLOTS_LENGTH;
 use channel::Slots;
 use register::MOST_CLIENTS;
-use register::MOST_FAULTY;
 
 // The first number with a mark beyond the last server's.
 const OVER_MARKS: u16 = 1 << SERVERS;
@@ -42,7 +41,7 @@ fn is_mark_fine(settings: Settings, i: usize) -> bool
     requires { ⌜ i < mostServers ⌝ }
     ensures { λ r. ⌜ r ≡ isMarkFine settings i ⌝ }
 {
-    if i < register::servers(settings.f) as usize {
+    if i < settings.n as usize {
         return true;
     }
     !is_in(settings.faulty as u64, i)
@@ -62,11 +61,11 @@ fn are_marks_fine(settings: Settings) -> bool
     true
 }
 
-// Whether f and the number of clients are in range, and no server beyond n is marked.
+// Whether f, n and the number of clients are in range, and no server beyond n is marked.
 pub fn is_in_range(settings: Settings) -> bool
     ensures { λ r. ⌜ r ≡ inRange (settingsOf settings) ⌝ }
 {
-    if MOST_FAULTY < settings.f {
+    if !register::are_servers_in_range(settings.n, settings.f) {
         return false;
     }
     if settings.clients < 1 {
@@ -120,7 +119,7 @@ fn is_honest(settings: Settings, j: usize) -> bool
     requires { ⌜ j < mostServers ⌝ }
     ensures { λ r. ⌜ r ≡ isHonest (settingsOf settings) (suc j) ⌝ }
 {
-    if register::servers(settings.f) as usize <= j {
+    if settings.n as usize <= j {
         return false;
     }
     !is_in(settings.faulty as u64, j)
@@ -167,7 +166,7 @@ fn is_client_sound(settings: Settings, i: usize, memory: &[u64]) -> bool
     requires { ⌜ length (now memory) ≡ clientLength ⌝ }
     ensures { λ r. ⌜ r ≡ isClientSound settings i (now (memory .entry)) ⌝ }
 {
-    if !client::is_sound(settings.f, memory) {
+    if !client::is_sound(settings.n, settings.f, memory) {
         return false;
     }
     if i < settings.clients as usize {
@@ -215,7 +214,7 @@ fn is_used_down(settings: Settings, stopped: u64, i: usize, j: usize) -> bool
     if settings.clients as usize <= i {
         return false;
     }
-    if register::servers(settings.f) as usize <= j {
+    if settings.n as usize <= j {
         return false;
     }
     !is_in(stopped, i)

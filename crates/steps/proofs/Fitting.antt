@@ -11,8 +11,8 @@ use Rattle.basics.proofs.Prelude.{suc, _+_, _-_, _*_, _≤_, _<_, add-one, arit
 use Rattle.basics.proofs.Prelude.{eq-eqb, leb-true, leb-false, le-leb, ltb-true, ltb-false, lt-ltb, le-ltb}
 use lib.Bits.{bitOr, bitAnd, or-lt, or-add-and, and-le-l, and-le-r}
 use mir.Val.{boolByte}
-use Rattle.register.proofs.Vocabulary.{allBelow, contains, Pair, ReadNumber, sentTo, size, capacity}
-use Rattle.register.proofs.Vocabulary.{mostClients, mostFaulty, mostServers}
+use Rattle.register.proofs.Vocabulary.{allBelow, contains, Pair, ReadNumber, sentTo, capacity}
+use Rattle.register.proofs.Vocabulary.{mostClients, mostServers}
 use Rattle.basics.proofs.Cases.{by-test}
 use Rattle.basics.proofs.Tests.{below-of, below-fails}
 use Rattle.channel.specs.Memory.{countAt}
@@ -71,11 +71,11 @@ drops-or-fits false n more h e = le-leb (n + more) capacity (omega arith)
 
 -- ---- up
 
-pub room-silent : (settings : Settings) (slots : List ℕ) (i : ℕ) → settings .f ≤ mostFaulty → CountsFit slots
+pub room-silent : (settings : Settings) (slots : List ℕ) (i : ℕ) → settings .n ≤ mostServers → CountsFit slots
     → i < mostClients → roomUp settings slots i 0 ≡ true
 unfolding roomUp
 room-silent settings slots i few fit h =
-    below-of _ (size (settings .f))
+    below-of _ (settings .n)
     (λ j less. drops-or-fits (contains (settings .faulty) (suc j)) (countAt slots (upIndex i j)) 0
     (fit (upIndex i j) (omega arith)) refl)
 

@@ -2,7 +2,7 @@
 -- Assumes nothing.
 use Rattle.basics.proofs.Prelude.{_≡_, Bool, true, false, not, _&&_, ℕ, _≤_}
 use Rattle.basics.proofs.Cases.{both}
-use Rattle.register.proofs.Vocabulary.{isClient, isServer, size}
+use Rattle.register.proofs.Vocabulary.{isClient, isServer}
 use Rattle.register.proofs.Bounds.{client-range, server-range}
 use Rattle.client.proofs.Facts.{holds}
 use Rattle.state.specs.declared.Settings.{Settings}
@@ -15,7 +15,7 @@ client-within settings d e = client-range (settingsOf settings) d e
 
 pub record There (settings : Settings) (d k : ℕ) : Type 0 where
   pub client : (1 ≤ d) × (d ≤ settings .clients)
-  pub server : (1 ≤ k) × (k ≤ size (settings .f))
+  pub server : (1 ≤ k) × (k ≤ settings .n)
 
 pub both-there : (settings : Settings) (d k : ℕ) → isClient (settingsOf settings) d && isServer
     (settingsOf settings) k ≡ true → There settings d k

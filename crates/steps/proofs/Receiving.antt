@@ -4,8 +4,8 @@
 -- that it does not take leaves the client and sends nothing: there is room for nothing, and a sound memory is
 -- that of what it shows, so that only the message goes (`off-gives`).
 -- Assumes nothing.
-use Rattle.register.proofs.Vocabulary.{contains, Message, WriteAck, WriteCounter, Unpacked, Good, size}
-use Rattle.register.proofs.Vocabulary.{counted, enough, capacity, mostClients, mostFaulty}
+use Rattle.register.proofs.Vocabulary.{contains, Message, WriteAck, WriteCounter, Unpacked, Good}
+use Rattle.register.proofs.Vocabulary.{counted, enough, capacity, mostClients, mostServers}
 use Rattle.register.specs.declared.Answer.the-variants.{Went, Refused}
 use Rattle.basics.proofs.Prelude.{_≡_, refl, sym, ap, _∙_, subst, Bool, true, false, _||_, List, length, ℕ}
 use Rattle.basics.proofs.Prelude.{suc, _+_, _-_, _≤_, _<_, arith, leb, leb-true, le-leb}
@@ -45,7 +45,7 @@ few-outcome settings d held k message response (acks _ _ _ _ _) = omega arith
 few-outcome settings d held k message response (ends _ _ _ _ _) = omega arith
 
 few-sent : (settings : Settings) (d : ℕ) (held : model.Client) (k : ℕ) (message : Message)
-    → length (model.clientTakes (size (settings .f)) (settings .f) d held k message .sends) ≤ 2
+    → length (model.clientTakes (settings .n) (settings .f) d held k message .sends) ≤ 2
 unfolding settingsOf
 few-sent settings d held k message = few-outcome settings d held k message _
     (cases.outcome (settingsOf settings) d held k message)
@@ -60,14 +60,14 @@ room-less : (settings : Settings) (slots : List ℕ) (i more : ℕ) → more ≤
     → roomUp settings slots i more ≡ true
 unfolding roomUp
 room-less settings slots i more h e =
-    below-of _ (size (settings .f))
+    below-of _ (settings .n)
     (λ j less. either-room (contains (settings .faulty) (suc j)) (countAt slots (upIndex i j)) more h
-    (below _ (size (settings .f)) e j less))
+    (below _ (settings .n) e j less))
 
 -- two free slots are enough
 pub room-enough : (settings : Settings) (slots : List ℕ) (i d : ℕ) (held : model.Client) (k : ℕ)
     (message : Message) → roomUp settings slots i 2 ≡ true → roomUp settings slots i
-    (length (model.clientTakes (size (settings .f)) (settings .f) d held k message .sends)) ≡ true
+    (length (model.clientTakes (settings .n) (settings .f) d held k message .sends)) ≡ true
 room-enough settings slots i d held k message h = room-less settings slots i _
     (few-sent settings d held k message) h
 
@@ -82,44 +82,45 @@ ack-sends n f d held k number =
 
 pub room-ack : (settings : Settings) (slots : List ℕ) (i d : ℕ) (held : model.Client) (k : ℕ)
     (message : Message) (number : WriteCounter) → message ≡ WriteAck number
-    → settings .f ≤ mostFaulty → CountsFit slots → i < mostClients → roomUp settings slots i
-    (length (model.clientTakes (size (settings .f)) (settings .f) d held k message .sends)) ≡ true
+    → settings .n ≤ mostServers → CountsFit slots → i < mostClients → roomUp settings slots i
+    (length (model.clientTakes (settings .n) (settings .f) d held k message .sends)) ≡ true
 room-ack settings slots i d held k message number e few fit less =
     ap (λ (y : Message). roomUp settings slots i
-    (length (model.clientTakes (size (settings .f)) (settings .f) d held k y .sends))) e
-    ∙ ap (roomUp settings slots i) (ack-sends (size (settings .f)) (settings .f) d held k number)
+    (length (model.clientTakes (settings .n) (settings .f) d held k y .sends))) e
+    ∙ ap (roomUp settings slots i) (ack-sends (settings .n) (settings .f) d held k number)
     ∙ room-silent settings slots i few fit less
 
 -- ---- what the functions of a client ask of it, and of the server k whose message it is given
 
-abbrev pub Asked : Client → ℕ → List ℕ → ℕ → Type 0
-Asked loaded f memory k =
-    (loaded ≡ client.loaded (loaded .number) f memory) × (isSoundMemory f memory ≡ true)
+abbrev pub Asked : Client → ℕ → ℕ → List ℕ → ℕ → Type 0
+Asked loaded n f memory k =
+    (loaded ≡ client.loaded (loaded .number) n f memory) × (isSoundMemory n f memory ≡ true)
     × (1 ≤ loaded .number) × (loaded .number ≤ mostClients)
     × (1 ≤ k)
-    × (k ≤ size f)
+    × (k ≤ n)
 
--- they ask it for the client's own f, which is that of the settings
-pub own-asked : (loaded : Client) (f : ℕ) (memory : List ℕ) (k : ℕ) → Asked loaded f memory k
-    → Asked loaded (loaded .f) memory k
-own-asked loaded f memory k h = subst (λ (n : ℕ). Asked loaded n memory k)
-    (sym (ap (λ (y : Client). y .f) (h .0))) h
+-- they ask it for the client's own n and f, which are those of the settings
+pub own-asked : (loaded : Client) (n f : ℕ) (memory : List ℕ) (k : ℕ) → Asked loaded n f memory k
+    → Asked loaded (loaded .n) (loaded .f) memory k
+own-asked loaded n f memory k h =
+    subst (λ (own : ℕ). Asked loaded own (loaded .f) memory k) (sym (ap (λ (y : Client). y .n) (h .0)))
+    (subst (λ (own : ℕ). Asked loaded n own memory k) (sym (ap (λ (y : Client). y .f) (h .0))) h)
 
 -- ---- the step
 
 module _ (settings : Settings) (clients slots : List ℕ) (d k : ℕ) where
   -- what changes nothing only goes off its channel
-  pub off-gives : settings .f ≤ mostFaulty → CountsFit slots → 1 ≤ d → d ≤ mostClients
-      → isSoundMemory (settings .f) (clientAt clients (d - 1)) ≡ true
+  pub off-gives : settings .n ≤ mostServers → CountsFit slots → 1 ≤ d → d ≤ mostClients
+      → isSoundMemory (settings .n) (settings .f) (clientAt clients (d - 1)) ≡ true
       → (found : Unpacked) → replyAt slots d k ≡ found
-      → takenFor (size (settings .f)) (settings .f) d (shown settings clients slots d) k found
+      → takenFor (settings .n) (settings .f) d (shown settings clients slots d) k found
       ≡ model.sendsNothing (shown settings clients slots d)
       → (slots₁ : List ℕ) (from : ℕ) → from ≡ downIndex (d - 1) (k - 1) → slots₁ ≡ removed slots from
       → result Went clients slots₁ ≡ takeOldest settings clients slots d k
   unfolding sendUp
   off-gives few fit low high sound found first goes slots₁ from place off =
       let own : putClient clients (d - 1) (client.store (shown settings clients slots d)) ≡ clients =
-      ap (putClient clients (d - 1)) (store-view (settings .f) (clientAt clients (d - 1)) sound)
+      ap (putClient clients (d - 1)) (store-view (settings .n) (settings .f) (clientAt clients (d - 1)) sound)
       ∙ same-back (clientStart (d - 1)) clientLength clients in
       let room : roomUp settings slots (d - 1) 0 ≡ true = room-silent settings slots (d - 1) few fit
       (omega arith) in
@@ -127,7 +128,7 @@ module _ (settings : Settings) (clients slots : List ℕ) (d k : ℕ) where
 
   module _ (message : Message) (first : replyAt slots d k ≡ Good message) (fits : Bool)
       (room : fits ≡ roomUp settings slots (d - 1)
-      (length (takenOf d (settings .f) (clientAt clients (d - 1)) k message .sends))) where
+      (length (takenOf d (settings .n) (settings .f) (clientAt clients (d - 1)) k message .sends))) where
     pub take-refused : fits ≡ false → result (Refused FullChannel) clients slots
         ≡ takeOldest settings clients slots d k
     take-refused full = rw (first, sym room ∙ full)
@@ -135,7 +136,8 @@ module _ (settings : Settings) (clients slots : List ℕ) (d k : ℕ) where
     -- the message taken, off channel `from`, with what client and channels are then
     pub take-gives : fits ≡ true → (made : Outcome) (memory clients′ slots₁ slots₂ : List ℕ) (from : ℕ)
         → from ≡ downIndex (d - 1) (k - 1)
-        → outcome.after made memory ≡ takenOf d (settings .f) (clientAt clients (d - 1)) k message
+        → outcome.after made memory
+        ≡ takenOf d (settings .n) (settings .f) (clientAt clients (d - 1)) k message
         → clients′ ≡ putClient clients (d - 1) memory → slots₁ ≡ removed slots from
         → slots₂ ≡ sendUp settings slots₁ (d - 1) (messagesOf (made .sends))
         → result (made .answer) clients′ slots₂ ≡ takeOldest settings clients slots d k

@@ -9,7 +9,7 @@ use mathlib.Core.Bool.{Bool·not-not}
 use lib.Dec.{eqb·suc-zero}
 use Rattle.register.proofs.Vocabulary.{allBelow, contains, Message, Sent, serverSends, sentTo, Accepted}
 use Rattle.register.proofs.Vocabulary.{isServer, isClient, isHonest, capacity, mostServers, isEmpty, hasRoom}
-use Rattle.register.proofs.Vocabulary.{size, World, formats, FromClient, WellFormed}
+use Rattle.register.proofs.Vocabulary.{World, formats, FromClient, WellFormed}
 use Rattle.basics.proofs.Cases.{by-test, both-of, true-or-false}
 use Rattle.basics.proofs.UpTo.{in-range}
 use Rattle.register.specs.Steps as model
@@ -43,9 +43,9 @@ pub record WellStored (settings : Settings) (world : World) : Type 0 where
 module _ (settings : Settings) (world : World) (good : WellStored settings world) where
   -- ---- a stored world
 
-  pub few-servers : size (settings .f) ≤ mostServers
+  pub few-servers : settings .n ≤ mostServers
   unfolding settingsOf
-  few-servers = let b = bounds (settingsOf settings) (good .accepted) in let f = b .few in omega arith
+  few-servers = bounds (settingsOf settings) (good .accepted) .most
 
   pub up-short : Short (world .up)
   up-short d k = good .well .up d k .few
@@ -76,7 +76,7 @@ module _ (settings : Settings) (world : World) (good : WellStored settings world
   -- ---- room up
 
   module _ (d : ℕ) (client : isClient (settingsOf settings) d ≡ true) where
-    one-up : (more i : ℕ) → i < size (settings .f) → contains (settings .faulty) (suc i)
+    one-up : (more i : ℕ) → i < settings .n → contains (settings .faulty) (suc i)
         || leb (countAt (storeSlots world) (upIndex (d - 1) i) + more) capacity
         ≡ not (isHonest (settingsOf settings) (suc i)) || hasRoom (world .up d (suc i)) more
     unfolding settingsOf isHonest hasRoom
@@ -92,14 +92,14 @@ module _ (settings : Settings) (world : World) (good : WellStored settings world
         → roomUp settings (storeSlots world) (d - 1) more
         ≡ model.roomUp (settingsOf settings) formats world d more
     unfolding roomUp model.roomUp settingsOf
-    room-up-is more = below-same _ _ (size (settings .f)) (one-up more)
+    room-up-is more = below-same _ _ (settings .n) (one-up more)
 
     -- room for n messages is room for fewer on each channel
     pub room-of : (more n : ℕ) → more ≤ n → model.roomUp (settingsOf settings) formats world d n ≡ true
-        → Room (settings .faulty) d (size (settings .f)) more (world .up)
+        → Room (settings .faulty) d (settings .n) more (world .up)
     unfolding settingsOf
     room-of more n less room k h f =
-        let r = in-range (size (settings .f)) k h in
+        let r = in-range (settings .n) k h in
         let honest = honest-of (settingsOf settings) k (server-of (settingsOf settings) k (r .0) (r .1)) f in
         let fits = room-up (settingsOf settings) formats world d n room k honest in
         omega arith

@@ -8,7 +8,7 @@ use Rattle.basics.proofs.Prelude.{_≡_, refl, sym, ap, _∙_, Bool, true, fals
 use Rattle.basics.proofs.Prelude.{_++_, append-nil, length, length-append, ℕ, zero, suc, _+_, _-_, _≤_, _<_}
 use Rattle.basics.proofs.Prelude.{arith, eqb, eqb-true, eq-eqb}
 use lib.Seq.{append-snoc}
-use Rattle.register.proofs.Vocabulary.{contains, isUpTo, Message, wordsOf, size, capacity, mostClients}
+use Rattle.register.proofs.Vocabulary.{contains, isUpTo, Message, wordsOf, capacity, mostClients}
 use Rattle.register.proofs.Vocabulary.{mostServers}
 use Rattle.basics.proofs.Cases.{by-test, both}
 use Rattle.basics.proofs.UpTo.{in-range, of-range, range-none, range-more}
@@ -143,27 +143,27 @@ module _ (faulty d : ℕ) (low : 1 ≤ d) (high : d ≤ mostClients) (down : Tab
 
 -- messages one after the other
 module _ (settings : Settings) (d : ℕ) (low : 1 ≤ d) (high : d ≤ mostClients)
-    (few : size (settings .f) ≤ mostServers) (down : Table) (down-fits : Short down) where
+    (few : settings .n ≤ mostServers) (down : Table) (down-fits : Short down) where
   pub send-up : (messages : List Message) (up : Table) → Short up
-      → Room (settings .faulty) d (size (settings .f)) (length messages) up
+      → Room (settings .faulty) d (settings .n) (length messages) up
       → sendUp settings (slotsOf up down) (d - 1) messages
-      ≡ slotsOf (sentUp (contains (settings .faulty)) d (size (settings .f)) messages up) down
+      ≡ slotsOf (sentUp (contains (settings .faulty)) d (settings .n) messages up) down
   unfolding sendUp sentUp
   send-up [] up up-fits room =
-      slots-same up (sentUp (contains (settings .faulty)) d (size (settings .f)) [] up) down down
-      (λ e k. none-sent (contains (settings .faulty) k) (eqb d e && isUpTo (size (settings .f)) k) (up e k))
+      slots-same up (sentUp (contains (settings .faulty)) d (settings .n) [] up) down down
+      (λ e k. none-sent (contains (settings .faulty) k) (eqb d e && isUpTo (settings .n) k) (up e k))
       (λ e k. refl)
   send-up (message ∷ messages) up up-fits room =
-      let up′ : Table = sentUp (contains (settings .faulty)) d (size (settings .f)) (message ∷ []) up in
-      let one : Room (settings .faulty) d (size (settings .f)) 1 up = λ k h f.
+      let up′ : Table = sentUp (contains (settings .faulty)) d (settings .n) (message ∷ []) up in
+      let one : Room (settings .faulty) d (settings .n) 1 up = λ k h f.
       (let r = room k h f in omega arith) in
-      let rest : Room (settings .faulty) d (size (settings .f)) (length messages) up′ =
+      let rest : Room (settings .faulty) d (settings .n) (length messages) up′ =
       λ k h f. (let r = room k h f in
       rw (f, eq-eqb d d refl, h, length-append (up d k) (message ∷ [])) (omega arith)) in
       rw (broadcast-law (settings .faulty) d low high down down-fits up up-fits message
-      (size (settings .f)) few one) (send-up messages up′
-      (short-sent (settings .faulty) d (size (settings .f)) (message ∷ []) up up-fits one) rest
-      ∙ slots-same (sentUp (contains (settings .faulty)) d (size (settings .f)) messages up′)
-      (sentUp (contains (settings .faulty)) d (size (settings .f)) (message ∷ messages) up) down down
-      (λ e k. joined (contains (settings .faulty) k) (eqb d e && isUpTo (size (settings .f)) k)
+      (settings .n) few one) (send-up messages up′
+      (short-sent (settings .faulty) d (settings .n) (message ∷ []) up up-fits one) rest
+      ∙ slots-same (sentUp (contains (settings .faulty)) d (settings .n) messages up′)
+      (sentUp (contains (settings .faulty)) d (settings .n) (message ∷ messages) up) down down
+      (λ e k. joined (contains (settings .faulty) k) (eqb d e && isUpTo (settings .n) k)
       (up e k) message messages) (λ e k. refl))

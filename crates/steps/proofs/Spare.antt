@@ -10,7 +10,7 @@ use Rattle.basics.proofs.Prelude.{_+_, _-_, _≤_, _<_, arith, leb, le-leb, not
 use mathlib.Core.Bool.{and-true}
 use native.Mathlib.Numerals.{unary-clauses}
 use Rattle.register.proofs.Vocabulary.{allBelow, contains, servers, isServer, isHonest, capacity, mostClients}
-use Rattle.register.proofs.Vocabulary.{mostFaulty, mostServers, size}
+use Rattle.register.proofs.Vocabulary.{mostServers}
 use Rattle.basics.proofs.Cases.{by-test, both, true-or-false}
 use Rattle.register.specs.Settings as model
 use Rattle.register.proofs.Bounds.{server-range}
@@ -53,7 +53,7 @@ below-more p n (suc k) h =
 
 -- ---- the channels of the client at place i
 
-module _ (settings : Settings) (slots : List ℕ) (i more : ℕ) (few : settings .f ≤ mostFaulty)
+module _ (settings : Settings) (slots : List ℕ) (i more : ℕ) (few : settings .n ≤ mostServers)
     (client : i < mostClients) (most : more ≤ capacity) (spare : SpareEmpty settings slots) where
   abbrev fits : ℕ → Bool
   fits j = leb (countAt slots (upIndex i j) + more) capacity
@@ -63,7 +63,7 @@ module _ (settings : Settings) (slots : List ℕ) (i more : ℕ) (few : settings
       le-leb (countAt slots (upIndex i j) + more) capacity (omega arith)
 
   -- a channel to one of the n servers
-  one-fits : (j : ℕ) → j < size (settings .f) → fits j ≡ contains (settings .faulty) (suc j) || fits j
+  one-fits : (j : ℕ) → j < settings .n → fits j ≡ contains (settings .faulty) (suc j) || fits j
   unfolding settingsOf
   one-fits j less =
       by-test (contains (settings .faulty) (suc j))
@@ -73,7 +73,7 @@ module _ (settings : Settings) (slots : List ℕ) (i more : ℕ) (few : settings
   pub room-on-all : allBelow fits mostServers ≡ roomUp settings slots i more
   unfolding roomUp settingsOf
   room-on-all =
-      let n : ℕ = size (settings .f) in
+      let n : ℕ = settings .n in
       let all : n + (mostServers - n) ≡ mostServers = omega arith in
       ap (allBelow fits) (sym all)
       ∙ below-more fits n (mostServers - n)

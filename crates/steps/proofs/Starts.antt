@@ -117,7 +117,7 @@ module _ (settings : Settings) (world : World) (good : WellStored settings world
       abbrev with-head : List ℕ → ReadNumber → List ℕ
       with-head l n =
           putClient (storeClients world) (d - 1)
-          (stored l (record { number = d; f = settings .f; phase = phase; reads = n }))
+          (stored l (record { number = d; n = settings .n; f = settings .f; phase = phase; reads = n }))
 
       clients-after : with-head (clientAt (storeClients world) (d - 1)) (nextRead (world .clients d))
           ≡ storeClients (apply (settingsOf settings) world (begins d phase))

@@ -8,7 +8,7 @@ use Rattle.basics.proofs.Prelude.{_-_, eqb}
 use Rattle.basics.proofs.UpTo.{and-false}
 use mathlib.Core.Path.{fun-ext}
 use Rattle.register.proofs.Vocabulary.{update, contains, setOf, isUpTo, Message, formats, isServer, isClient}
-use Rattle.register.proofs.Vocabulary.{mostClients, C, ladder, accepted, size, World, stops, apply, answerOf}
+use Rattle.register.proofs.Vocabulary.{mostClients, C, ladder, accepted, World, stops, apply, answerOf}
 use Rattle.register.proofs.Vocabulary.{nextServers, nextClients, nextStopped, nextUp, nextDown, leavesUp}
 use Rattle.register.proofs.Vocabulary.{leavesDown, putsUp, putsDown}
 use Rattle.register.specs.declared.Answer.the-variants.{Went}
@@ -44,23 +44,23 @@ module _ (settings : Settings) (world : World) (good : WellStored settings world
         (fun-ext (λ other. ap (λ (b : Bool). eqb d other || b) (stopped-same settings world good other)
         ∙ either (eqb d other) (world .stopped other)))
 
-    unused : (other k : ℕ) → isUpTo (size (settings .f)) k ≡ false → world .down other k ≡ []
+    unused : (other k : ℕ) → isUpTo (settings .n) k ≡ false → world .down other k ≡ []
     unfolding settingsOf isServer
     unused other k h = good .well .downUnused other k (and-false (isClient (settingsOf settings) other) _ h)
 
-    slots-after : emptied (storeSlots world) (d - 1) (size (settings .f))
+    slots-after : emptied (storeSlots world) (d - 1) (settings .n)
         ≡ storeSlots (apply (settingsOf settings) world (stops d))
     unfolding without apply nextUp nextDown leavesUp leavesDown putsUp putsDown
     slots-after =
         let range = client-small (settingsOf settings) (good .accepted) d client in
         let next = apply (settingsOf settings) world (stops d) in
-        let down = without d (size (settings .f)) (world .down) in
-        ap (λ (b : List ℕ). emptied b (d - 1) (size (settings .f))) (store-slots world)
+        let down = without d (settings .n) (world .down) in
+        ap (λ (b : List ℕ). emptied b (d - 1) (settings .n)) (store-slots world)
         ∙ empty-all d (range .0) (range .1) (world .up) (world .down) (up-short settings world good)
-        (down-short settings world good) (size (settings .f)) (few-servers settings world good)
+        (down-short settings world good) (settings .n) (few-servers settings world good)
         ∙ slots-same (world .up) (next .up) down (next .down)
         (λ other k. sym (nothing-put (settingsOf settings .faulty k) (world .up other k)))
-        (λ other k. emptied-all (eqb d other) (isUpTo (size (settings .f)) k) (world .down other k)
+        (λ other k. emptied-all (eqb d other) (isUpTo (settings .n) k) (world .down other k)
         (unused other k)
         ∙ sym (nothing-put (world .stopped other) (cond (eqb d other) [] (world .down other k))))
         ∙ sym (store-slots next)

@@ -9,7 +9,7 @@ use Rattle.basics.proofs.Prelude.{le-refl, arith, eqb}
 use Rattle.basics.proofs.Cases.{by-list, true-or-false}
 use Rattle.refusal.proofs.Ladders.{done, same}
 use Rattle.register.proofs.Vocabulary.{Message, Good, Response, formats, isServer, isClient, capacity, D}
-use Rattle.register.proofs.Vocabulary.{isEmpty, oldest, ladder, accepted, size, World, takes, responseOf}
+use Rattle.register.proofs.Vocabulary.{isEmpty, oldest, ladder, accepted, World, takes, responseOf}
 use Rattle.register.proofs.Vocabulary.{apply, answerOf, nextServers, nextClients, nextStopped, nextUp}
 use Rattle.register.proofs.Vocabulary.{nextDown, leavesUp, leavesDown, putsUp, putsDown, FromServer}
 use Rattle.register.specs.declared.Step.the-variants as code
@@ -58,7 +58,7 @@ module _ (settings : Settings) (world : World) (good : WellStored settings world
 
       took-is : taken-in ≡ responseOf (settingsOf settings) world d k message
       unfolding settingsOf
-      took-is = λ i. memory.takenFor (size (settings .f)) (settings .f) d
+      took-is = λ i. memory.takenFor (settings .n) (settings .f) d
           (shown-is settings world good d client i) k (message-is i)
 
     room-is : isEmpty (world .down d k) ≡ false

@@ -36,7 +36,6 @@ use Rattle.register.specs.Client as model
 use Rattle.register.specs.Ladders.{readLadder, writeLadder, serveLadder, takeLadder, stopLadder, lieLadder}
 use Rattle.register.specs.Server.{Server, Sent, sentTo, nextServer, serverSends}
 use Rattle.register.specs.Settings.{isClient, isServer, mostClients, capacity}
-use Rattle.register.specs.Thresholds.{size}
 use Rattle.channel.specs.Memory.{countAt, putOn, removed, cleared}
 use Rattle.server.specs.Memory as server
 use Rattle.client.specs.Memory as client
@@ -54,7 +53,7 @@ unfoldable pub roomUp : Settings → List ℕ → ℕ → ℕ → Bool
 roomUp settings slots i more =
     allBelow
     (λ j. contains (settings .faulty) (suc j) || leb (countAt slots (upIndex i j) + more) capacity)
-    (size (settings .f))
+    (settings .n)
 
 -- every channel from the server at place j to a working client has room for what is sent to it
 unfoldable pub roomDown : Settings → ℕ → List ℕ → ℕ → List Sent → Bool
@@ -74,7 +73,7 @@ broadcast faulty slots i message (suc j) =
 
 -- to all honest servers
 abbrev pub toAll : Settings → List ℕ → ℕ → Message → List ℕ
-toAll settings slots i message = broadcast (settings .faulty) slots i message (size (settings .f))
+toAll settings slots i message = broadcast (settings .faulty) slots i message (settings .n)
 
 -- messages one after the other
 unfoldable pub sendUp : Settings → List ℕ → ℕ → List Message → List ℕ
@@ -139,7 +138,7 @@ module _ (settings : Settings) (clients slots : List ℕ) where
       result Went
       (putClient clients (d - 1)
       (client.stored (clientAt clients (d - 1))
-      (record { number = d; f = settings .f; phase = phase; reads = nextOf d })))
+      (record { number = d; n = settings .n; f = settings .f; phase = phase; reads = nextOf d })))
       (sendUp settings slots (d - 1) (GetInfo (nextOf d) ∷ []))
 
   -- the tests of a start: no such client, stopped, busy, read numbers used up, no room for more messages
@@ -245,7 +244,7 @@ takenFor n f d held k (unpacked.Refused why) = model.sendsNothing held
 
 module _ (settings : Settings) (clients slots : List ℕ) where
   abbrev pub oldestTaken : ℕ → ℕ → model.Response
-  oldestTaken d k = takenFor (size (settings .f)) (settings .f) d (shown settings clients slots d) k
+  oldestTaken d k = takenFor (settings .n) (settings .f) d (shown settings clients slots d) k
       (replyAt slots d k)
 
   abbrev pub takeResult : ℕ → ℕ → Result
@@ -276,7 +275,7 @@ module _ (settings : Settings) (clients slots : List ℕ) where
   stopResult d =
       result Went (putStopped clients
       (setOf (λ other. eqb d other || contains (state.stoppedIn clients) other) mostClients))
-      (emptied slots (d - 1) (size (settings .f)))
+      (emptied slots (d - 1) (settings .n))
 
   abbrev pub stopRungs : ℕ → List Rung
   stopRungs d = stopLadder (isAbsent settings clients slots d) (isStopped settings clients slots d)

@@ -7,7 +7,7 @@ use mathlib.Core.List.{List}
 use mathlib.Core.Path.{_≡_}
 use lib.ListN.{length}
 use Rattle.message.specs.Layout.{goes}
-use Rattle.register.specs.Settings.{mostServers, mostFaulty, mostClients, isHonest}
+use Rattle.register.specs.Settings.{mostServers, mostClients, isHonest}
 use Rattle.channel.specs.Memory.{channels, countAt}
 use Rattle.channel.specs.Sound.{isDown, CountsFit}
 use Rattle.server.specs.Memory as server
@@ -27,13 +27,14 @@ OldestGoes slots = (i : ℕ) → i < channels → 1 ≤ countAt slots i → goes
 
 -- the settings, and the three arrays
 pub record Ready (settings : Settings) (servers clients slots : List ℕ) : Type 0 where
-  pub fewFaulty : settings .f ≤ mostFaulty
+  pub fewServers : settings .n ≤ mostServers
   pub fewClients : settings .clients ≤ mostClients
   pub serversLong : length servers ≡ serversLength
   pub clientsLong : length clients ≡ clientsLength
   pub stopped : stoppedIn clients < 2 ^ mostClients
   pub server : (j : ℕ) → j < mostServers → server.isSound (serverAt servers j) ≡ true
-  pub client : (i : ℕ) → i < mostClients → isSoundMemory (settings .f) (clientAt clients i) ≡ true
+  pub client : (i : ℕ) → i < mostClients
+      → isSoundMemory (settings .n) (settings .f) (clientAt clients i) ≡ true
   pub counts : CountsFit slots
   pub spare : SpareEmpty settings slots
   pub ways : OldestGoes slots

@@ -31,7 +31,7 @@ fn is_server(settings: Settings, k: u32) -> bool
     if k < 1 {
         return false;
     }
-    k <= register::servers(settings.f)
+    k <= settings.n as u32
 }
 
 // Whether a client and a server are both there.

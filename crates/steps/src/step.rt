@@ -7,8 +7,7 @@ ghost use lib.ListN.{length};
 ghost use Prim.Native.Nat.{ℕ, _-_, _<_, _≤_, _^_};
 ghost use Rattle.basics.specs.BitSets.{contains, setOf};
 ghost use Rattle.message.specs.Layout.{goes, unpackOf, goesDown, headBits};
-ghost use Rattle.register.specs.Settings.{mostClients, mostFaulty, mostServers, capacity};
-ghost use Rattle.register.specs.Thresholds.{size};
+ghost use Rattle.register.specs.Settings.{mostClients, mostServers, capacity};
 ghost use Rattle.channel.specs.Sound.{CountsFit};
 ghost use Rattle.server.specs.Memory as serverMemory;
 ghost use Rattle.client.specs.Memory as clientMemory;
@@ -69,9 +68,9 @@ fn begin(
     clients: &mut [u64],
     slots: &mut Slots,
 ) -> Answer
-    requires { ⌜ (settings .f ≤ mostFaulty) × (length (now clients) ≡ clientsLength) × (1 ≤ d)
+    requires { ⌜ (settings .n ≤ mostServers) × (length (now clients) ≡ clientsLength) × (1 ≤ d)
         × (d ≤ mostClients) × (more ≤ capacity)
-        × (client ≡ clientMemory.loaded d (settings .f) (clientAt (now clients) (d - 1)))
+        × (client ≡ clientMemory.loaded d (settings .n) (settings .f) (clientAt (now clients) (d - 1)))
         × CountsFit (now slots) × SpareEmpty settings (now slots) ⌝ }
     ensures { λ answer. ⌜ memory.result answer (now (clients .exit)) (now (slots .exit))
         ≡ memory.beginStep settings (now (clients .entry)) (now (slots .entry)) d phase more ⌝ }
@@ -90,6 +89,7 @@ fn begin(
     let end = at + client::LENGTH;
     let begun = Client {
         number: client.number,
+        n: client.n,
         f: client.f,
         phase: phase,
         reads: next,
@@ -109,7 +109,7 @@ fn start(
     clients: &mut [u64],
     slots: &mut Slots,
 ) -> Answer
-    requires { ⌜ (settings .f ≤ mostFaulty) × (settings .clients ≤ mostClients)
+    requires { ⌜ (settings .n ≤ mostServers) × (settings .clients ≤ mostClients)
         × (length (now clients) ≡ clientsLength)
         × (more ≤ capacity) × CountsFit (now slots) × SpareEmpty settings (now slots) ⌝ }
     ensures { λ answer. ⌜ memory.result answer (now (clients .exit)) (now (slots .exit))
@@ -121,7 +121,7 @@ fn start(
     }
     let at = client_start((d - 1) as usize);
     let end = at + client::LENGTH;
-    let client = client::load(&clients[at..end], d as u8, settings.f);
+    let client = client::load(&clients[at..end], d as u8, settings.n, settings.f);
     let has_stopped = has(clients[STOPPED], d);
     let old = client.phase;
     let is_busy = !client::is_idle(old);
@@ -138,7 +138,7 @@ fn start(
 }
 
 fn read(settings: Settings, d: u32, clients: &mut [u64], slots: &mut Slots) -> Answer
-    requires { ⌜ (settings .f ≤ mostFaulty) × (settings .clients ≤ mostClients)
+    requires { ⌜ (settings .n ≤ mostServers) × (settings .clients ≤ mostClients)
         × (length (now clients) ≡ clientsLength)
         × CountsFit (now slots) × SpareEmpty settings (now slots) ⌝ }
     ensures { λ answer. ⌜ memory.result answer (now (clients .exit)) (now (slots .exit))
@@ -156,7 +156,7 @@ fn read(settings: Settings, d: u32, clients: &mut [u64], slots: &mut Slots) -> A
 }
 
 fn write(settings: Settings, d: u32, entry: Entry, clients: &mut [u64], slots: &mut Slots) -> Answer
-    requires { ⌜ (settings .f ≤ mostFaulty) × (settings .clients ≤ mostClients)
+    requires { ⌜ (settings .n ≤ mostServers) × (settings .clients ≤ mostClients)
         × (length (now clients) ≡ clientsLength)
         × CountsFit (now slots) × SpareEmpty settings (now slots) ⌝ }
     ensures { λ answer. ⌜ memory.result answer (now (clients .exit)) (now (slots .exit))
@@ -240,7 +240,7 @@ fn serve(
     servers: &mut [u64],
     slots: &mut Slots,
 ) -> Answer
-    requires { ⌜ (settings .f ≤ mostFaulty) × (settings .clients ≤ mostClients)
+    requires { ⌜ (settings .n ≤ mostServers) × (settings .clients ≤ mostClients)
         × (length (now servers) ≡ serversLength)
         × ((j : ℕ) → j < mostServers → serverMemory.isSound (serverAt (now servers) j) ≡ true)
         × CountsFit (now slots) × OldestGoes (now slots) ⌝ }
@@ -272,13 +272,14 @@ fn has_room_for(
     message: Message,
     own: &[u64],
 ) -> bool
-    requires { ⌜ (settings .f ≤ mostFaulty)
-        × (client ≡ clientMemory.loaded (client .number) (settings .f) (now own))
-        × (isSoundMemory (settings .f) (now own) ≡ true) × (1 ≤ client .number)
+    requires { ⌜ (settings .n ≤ mostServers)
+        × (client ≡ clientMemory.loaded (client .number) (settings .n) (settings .f) (now own))
+        × (isSoundMemory (settings .n) (settings .f) (now own) ≡ true) × (1 ≤ client .number)
         × (client .number ≤ mostClients)
-        × (1 ≤ k) × (k ≤ size (settings .f)) × CountsFit (now slots) × SpareEmpty settings (now slots) ⌝ }
+        × (1 ≤ k) × (k ≤ settings .n) × CountsFit (now slots) × SpareEmpty settings (now slots) ⌝ }
     ensures { λ fits. ⌜ fits ≡ memory.roomUp settings (now (slots .entry)) (client .number - 1)
-        (length (takenOf (client .number) (settings .f) (now (own .entry)) k message .sends)) ⌝ }
+        (length (takenOf (client .number) (settings .n) (settings .f) (now (own .entry)) k message
+        .sends)) ⌝ }
 {
     if let Message::WriteAck(_counter) = message {
         return true;
@@ -305,11 +306,11 @@ fn take_message(
     clients: &mut [u64],
     slots: &mut Slots,
 ) -> Answer
-    requires { ⌜ (settings .f ≤ mostFaulty) × (length (now clients) ≡ clientsLength)
-        × (1 ≤ client .number) × (client .number ≤ mostClients) × (1 ≤ k) × (k ≤ size (settings .f))
-        × (client ≡ clientMemory.loaded (client .number) (settings .f)
+    requires { ⌜ (settings .n ≤ mostServers) × (length (now clients) ≡ clientsLength)
+        × (1 ≤ client .number) × (client .number ≤ mostClients) × (1 ≤ k) × (k ≤ settings .n)
+        × (client ≡ clientMemory.loaded (client .number) (settings .n) (settings .f)
         (clientAt (now clients) (client .number - 1)))
-        × (isSoundMemory (settings .f) (clientAt (now clients) (client .number - 1)) ≡ true)
+        × (isSoundMemory (settings .n) (settings .f) (clientAt (now clients) (client .number - 1)) ≡ true)
         × (memory.replyAt (now slots) (client .number) k ≡ Unpacked.Good message)
         × CountsFit (now slots) × SpareEmpty settings (now slots) ⌝ }
     ensures { λ answer. ⌜ memory.result answer (now (clients .exit)) (now (slots .exit))
@@ -331,11 +332,12 @@ fn take_message(
 // The client takes the oldest message. What is none, or one that it does not take, is dropped, and nothing is
 // stored.
 fn take_oldest(settings: Settings, d: u32, k: u32, clients: &mut [u64], slots: &mut Slots) -> Answer
-    requires { ⌜ (settings .f ≤ mostFaulty) × (length (now clients) ≡ clientsLength) × (1 ≤ d)
+    requires { ⌜ (settings .n ≤ mostServers) × (length (now clients) ≡ clientsLength) × (1 ≤ d)
         × (d ≤ mostClients) × (1 ≤ k)
-        × (k ≤ size (settings .f))
-        × (isSoundMemory (settings .f) (clientAt (now clients) (d - 1)) ≡ true) × CountsFit (now slots)
-        × SpareEmpty settings (now slots) × (goes true (memory.replyAt (now slots) d k) ≡ true) ⌝ }
+        × (k ≤ settings .n)
+        × (isSoundMemory (settings .n) (settings .f) (clientAt (now clients) (d - 1)) ≡ true)
+        × CountsFit (now slots) × SpareEmpty settings (now slots)
+        × (goes true (memory.replyAt (now slots) d k) ≡ true) ⌝ }
     ensures { λ answer. ⌜ memory.result answer (now (clients .exit)) (now (slots .exit))
         ≡ memory.takeOldest settings (now (clients .entry)) (now (slots .entry)) d k ⌝ }
 {
@@ -347,7 +349,7 @@ fn take_oldest(settings: Settings, d: u32, k: u32, clients: &mut [u64], slots: &
     };
     let at = client_start(i);
     let end = at + client::LENGTH;
-    let client = client::load(&clients[at..end], d as u8, settings.f);
+    let client = client::load(&clients[at..end], d as u8, settings.n, settings.f);
     if !client::is_taken(client, k as u8, message, &clients[at..end]) {
         channel::remove(slots, from);
         return Answer::Went;
@@ -356,9 +358,10 @@ fn take_oldest(settings: Settings, d: u32, k: u32, clients: &mut [u64], slots: &
 }
 
 fn take(settings: Settings, d: u32, k: u32, clients: &mut [u64], slots: &mut Slots) -> Answer
-    requires { ⌜ (settings .f ≤ mostFaulty) × (settings .clients ≤ mostClients)
+    requires { ⌜ (settings .n ≤ mostServers) × (settings .clients ≤ mostClients)
         × (length (now clients) ≡ clientsLength)
-        × ((i : ℕ) → i < mostClients → isSoundMemory (settings .f) (clientAt (now clients) i) ≡ true)
+        × ((i : ℕ) → i < mostClients
+        → isSoundMemory (settings .n) (settings .f) (clientAt (now clients) i) ≡ true)
         × CountsFit (now slots) × SpareEmpty settings (now slots) × OldestGoes (now slots) ⌝ }
     ensures { λ answer. ⌜ memory.result answer (now (clients .exit)) (now (slots .exit))
         ≡ memory.takeStep settings (now (clients .entry)) (now (slots .entry)) d k ⌝ }
@@ -387,7 +390,7 @@ fn with_stopped(stopped: u64, d: u32) -> u64
 }
 
 fn stop(settings: Settings, d: u32, clients: &mut [u64], slots: &mut Slots) -> Answer
-    requires { ⌜ (settings .f ≤ mostFaulty) × (settings .clients ≤ mostClients)
+    requires { ⌜ (settings .n ≤ mostServers) × (settings .clients ≤ mostClients)
         × (length (now clients) ≡ clientsLength)
         × (stoppedIn (now clients) < 2 ^ mostClients) ⌝ }
     ensures { λ answer. ⌜ memory.result answer (now (clients .exit)) (now (slots .exit))
@@ -435,7 +438,7 @@ fn lie_with(stopped: u64, k: u32, d: u32, words: Words, slots: &mut Slots) -> An
 }
 
 fn lie(settings: Settings, stopped: u64, k: u32, d: u32, words: Words, slots: &mut Slots) -> Answer
-    requires { ⌜ (settings .f ≤ mostFaulty) × (settings .clients ≤ mostClients) ⌝ }
+    requires { ⌜ (settings .n ≤ mostServers) × (settings .clients ≤ mostClients) ⌝ }
     ensures { λ answer. ⌜ memory.placed answer (now (slots .exit)) ≡ memory.lieStep settings stopped
         (now (slots .entry)) k d words ⌝ }
 {

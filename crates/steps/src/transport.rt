@@ -8,8 +8,7 @@ ghost use Prim.Native.Nat.{suc, _+_, _≤_, _<_};
 ghost use Rattle.basics.specs.BitSets.{contains};
 ghost use Rattle.message.specs.Layout.{goes};
 ghost use Rattle.register.specs.Server.{forwards, sent, sentTo};
-ghost use Rattle.register.specs.Thresholds.{size};
-ghost use Rattle.register.specs.Settings.{mostServers, mostFaulty, mostClients, capacity};
+ghost use Rattle.register.specs.Settings.{mostServers, mostClients, capacity};
 ghost use Rattle.channel.specs.Memory.{channels, countAt, removed};
 ghost use Rattle.channel.specs.Sound.{CountsFit};
 ghost use Rattle.server.specs.Serving.{sentBy};
@@ -49,7 +48,7 @@ pub fn has_room(slots: &Slots, channel: usize, more: u64) -> bool
 // cannot be foreseen. A sum is at most CAPACITY exactly if it is below OVER with UNDER added, and numbers
 // joined by OR are below a power of 2 exactly if each is.
 pub fn has_room_up(settings: Settings, slots: &Slots, i: usize, more: u64) -> bool
-    requires { ⌜ (i < mostClients) × (settings .f ≤ mostFaulty) × (more ≤ capacity) × CountsFit (now slots)
+    requires { ⌜ (i < mostClients) × (settings .n ≤ mostServers) × (more ≤ capacity) × CountsFit (now slots)
         × SpareEmpty settings (now slots) ⌝ }
     ensures { λ fits. ⌜ fits ≡ memory.roomUp settings (now (slots .entry)) i more ⌝ }
 {
@@ -64,12 +63,12 @@ pub fn has_room_up(settings: Settings, slots: &Slots, i: usize, more: u64) -> bo
 
 // A message on the channels from a client to all honest servers.
 pub fn broadcast(settings: Settings, slots: &mut Slots, i: usize, message: Message)
-    requires { ⌜ (i < mostClients) × (settings .f ≤ mostFaulty) ⌝ }
+    requires { ⌜ (i < mostClients) × (settings .n ≤ mostServers) ⌝ }
     ensures { λ r. ⌜ now (slots .exit) ≡ memory.toAll settings (now (slots .entry)) i message ⌝ }
 {
     let words = message::words_of(message);
     let faulty = settings.faulty as u64;
-    let n = register::servers(settings.f) as usize;
+    let n = settings.n as usize;
     let mut j = 0;
     while j < n {
         if !is_in(faulty, j) {
@@ -93,7 +92,7 @@ pub fn count_sent(sends: client::Sends) -> u64
 
 // What a client sends, on the channels to all honest servers.
 pub fn send_up(settings: Settings, slots: &mut Slots, i: usize, sends: client::Sends)
-    requires { ⌜ (i < mostClients) × (settings .f ≤ mostFaulty) ⌝ }
+    requires { ⌜ (i < mostClients) × (settings .n ≤ mostServers) ⌝ }
     ensures { λ r. ⌜ now (slots .exit) ≡ memory.sendUp settings (now (slots .entry)) i (messagesOf sends) ⌝ }
 {
     match sends {
@@ -270,10 +269,10 @@ pub fn deliver(
 
 // The channels to a client emptied.
 pub fn empty_down(settings: Settings, slots: &mut Slots, i: usize)
-    requires { ⌜ (i < mostClients) × (settings .f ≤ mostFaulty) ⌝ }
-    ensures { λ r. ⌜ now (slots .exit) ≡ memory.emptied (now (slots .entry)) i (size (settings .f)) ⌝ }
+    requires { ⌜ (i < mostClients) × (settings .n ≤ mostServers) ⌝ }
+    ensures { λ r. ⌜ now (slots .exit) ≡ memory.emptied (now (slots .entry)) i (settings .n) ⌝ }
 {
-    let n = register::servers(settings.f) as usize;
+    let n = settings.n as usize;
     let mut j = 0;
     while j < n {
         channel::clear(slots, down(i, j));

@@ -118,14 +118,14 @@ module _ (settings : Settings) (allowed : Allowed settings) (start : Memory) (li
 -- ---- from an accepted setup on
 
 -- whatever the memory held before: states and answers along any list are the history's, and demand 3 holds
-pub along-steps : (f count faulty : ℕ) (settings : Settings) → setupOf f count faulty ≡ Set settings
+pub along-steps : (f n count faulty : ℕ) (settings : Settings) → setupOf f n count faulty ≡ Set settings
     → (servers clients slots : List ℕ) (list : List Step)
-    → AlongSteps settings (startOf (setUpBy (setupOf f count faulty) servers clients slots)) list
-along-steps f count faulty settings e servers clients slots list =
-    let setup = setupOf f count faulty in
+    → AlongSteps settings (startOf (setUpBy (setupOf f n count faulty) servers clients slots)) list
+along-steps f n count faulty settings e servers clients slots list =
+    let setup = setupOf f n count faulty in
     let left = setUpBy setup servers clients slots in
     let is = set-up-answer setup servers clients slots (left .answer) (left .servers) (left .clients)
     (left .slots) refl ∙ e in
-    from-new settings (allowed-set f count faulty settings e) (startOf left) list
+    from-new settings (allowed-set f n count faulty settings e) (startOf left) list
     (set-up-stored setup servers clients slots (left .answer) (left .servers) (left .clients)
     (left .slots) refl settings is)

@@ -6,7 +6,7 @@
 use Rattle.basics.proofs.Prelude.{_≡_, sym, ap, _∙_, subst, true, _&&_, _||_, List, getD, ℕ, suc, _≤_, _<_}
 use Rattle.basics.proofs.Prelude.{eqb, ltb, eqb-true}
 use Rattle.basics.proofs.Cases.{by-test, both, true-or-false}
-use Rattle.register.proofs.Vocabulary.{formats, isHonest, mostServers, mostClients, mostFaulty, World}
+use Rattle.register.proofs.Vocabulary.{formats, isHonest, mostServers, mostClients, World}
 use Rattle.register.proofs.Vocabulary.{WellFormed}
 use Rattle.register.proofs.Bounds.{bounds}
 use Rattle.channel.specs.Memory.{countAt}
@@ -35,12 +35,13 @@ module _ (settings : Settings) (servers clients slots : List ℕ)
       (sym (servers-back settings servers clients slots known) ∙ servers-are world)
       ∙ ap server.isSound (server-there (world .servers) j less) ∙ store-sound (world .servers (suc j))
 
-  client-sound : (i : ℕ) → i < mostClients → isSoundMemory (settings .f) (clientAt clients i) ≡ true
+  client-sound : (i : ℕ) → i < mostClients
+      → isSoundMemory (settings .n) (settings .f) (clientAt clients i) ≡ true
   unfolding isClientSound
   client-sound i less =
       let memory = clientAt clients i in
       let unused = eqb (getD memory readsAt 0) 0 && eqb (getD memory phaseAt 0) 0 in
-      both (isSoundMemory (settings .f) memory) (ltb i (settings .clients) || unused)
+      both (isSoundMemory (settings .n) (settings .f) memory) (ltb i (settings .clients) || unused)
       (known .client i less) .0
 
   -- a channel that is not used is empty
@@ -54,14 +55,14 @@ module _ (settings : Settings) (servers clients slots : List ℕ)
       absurd (true-or-false _
       (both (ltb i (settings .clients)) (isHonest (settingsOf settings) (suc j)) used .1) other))
 
-  few-faulty : settings .f ≤ mostFaulty
+  few-servers : settings .n ≤ mostServers
   unfolding settingsOf
-  few-faulty = bounds (settingsOf settings) (known .allowed .accepted) .few
+  few-servers = bounds (settingsOf settings) (known .allowed .accepted) .most
 
   pub ready : Ready settings servers clients slots
   ready =
       record {
-        fewFaulty = few-faulty;
+        fewServers = few-servers;
         fewClients = most-six settings servers clients slots known;
         serversLong = known .serversLong;
         clientsLong = known .clientsLong;

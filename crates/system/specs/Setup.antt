@@ -1,4 +1,4 @@
--- A setup in numbers (01, 'Rehearsal': f, the desks, and one mark for each of 13 keepers).
+-- A setup in numbers (01, 'Rehearsal': f, the desks, and one mark for each of 13 keepers; 02, C-11: n too).
 --
 -- In order: the settings; what a setup answers; the memory that it leaves.
 -- Assumes nothing.
@@ -16,9 +16,9 @@ use Rattle.state.specs.State.{settingsOf, storeServers, storeClients, storeSlot
 use Rattle.system.specs.declared.setup.Setup.{Setup}
 use Rattle.system.specs.declared.setup.Setup.the-variants.{Set, Refused}
 
--- f, the number of clients, and the marks as bits, server k's bit k - 1
-abbrev pub settingsBy : ℕ → ℕ → ℕ → Settings
-settingsBy f clients faulty = record { f = f; clients = clients; faulty = faulty }
+-- f, n, the number of clients, and the marks as bits, server k's bit k - 1
+abbrev pub settingsBy : ℕ → ℕ → ℕ → ℕ → Settings
+settingsBy f n clients faulty = record { f = f; n = n; clients = clients; faulty = faulty }
 
 -- 01's answer: SET with the settings, or REFUSED 1, 'no such room', or 2, 'too many liars'
 abbrev pub unlessRefused : Option Refusal → Settings → Setup
@@ -26,12 +26,12 @@ unlessRefused none settings = Set settings
 unlessRefused (some why) settings = Refused why
 
 -- a mark beyond the 13 is one beyond n
-unfoldable pub setupOf : ℕ → ℕ → ℕ → Setup
-setupOf f clients faulty =
+unfoldable pub setupOf : ℕ → ℕ → ℕ → ℕ → Setup
+setupOf f n clients faulty =
     unlessRefused
-    (cond (ltb faulty (2 ^ mostServers)) (setupRefusal (settingsOf (settingsBy f clients faulty)))
+    (cond (ltb faulty (2 ^ mostServers)) (setupRefusal (settingsOf (settingsBy f n clients faulty)))
     (some (numbered 1)))
-    (settingsBy f clients faulty)
+    (settingsBy f n clients faulty)
 
 -- ---- the memory
 

@@ -137,6 +137,7 @@ fn step_all(
 // setup changes nothing.
 pub fn run(
     f: u32,
+    n: u32,
     count: u32,
     faulty: u32,
     steps: &[u64],
@@ -145,17 +146,17 @@ pub fn run(
     clients: &mut Clients,
     slots: &mut Slots,
 ) -> Setup
-    ensures { λ answer. ⌜ (answer ≡ setupOf f count faulty)
-        × Outcome (setupOf f count faulty) (now (steps .entry)) (now (out .entry))
+    ensures { λ answer. ⌜ (answer ≡ setupOf f n count faulty)
+        × Outcome (setupOf f n count faulty) (now (steps .entry)) (now (out .entry))
         (now (servers .entry)) (now (clients .entry)) (now (slots .entry))
         (now (servers .exit)) (now (clients .exit)) (now (slots .exit)) (now (out .exit)) ⌝ }
 {
-    let setup = set_up(f, count, faulty, servers, clients, slots);
+    let setup = set_up(f, n, count, faulty, servers, clients, slots);
     match setup {
         Setup::Refused(_) => {}
         Setup::Set(settings) => {
-            let n = least(steps.len() / STEP, out.len() / ANSWER);
-            step_all(settings, steps, n, out, servers, clients, slots);
+            let many = least(steps.len() / STEP, out.len() / ANSWER);
+            step_all(settings, steps, many, out, servers, clients, slots);
         }
     }
     setup

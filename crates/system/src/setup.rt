@@ -23,13 +23,13 @@ pub enum Setup {
 // The first number that has a bit beyond the marks of all servers.
 const OVER_MARKS: u32 = 1 << SERVERS;
 
-// The highest number of eight bits, which f and the clients have in the settings.
+// The highest number of eight bits, which f, n and the clients have in the settings.
 const MAX_BYTE: u32 = 255;
 
-// The settings that three numbers are, or why they are refused: 1, 2. A number that has no room in the
+// The settings that four numbers are, or why they are refused: 1, 2. A number that has no room in the
 // settings is refused 1.
-fn settings_of(f: u32, clients: u32, faulty: u32) -> Setup
-    ensures { λ r. ⌜ r ≡ setupOf f clients faulty ⌝ }
+fn settings_of(f: u32, n: u32, clients: u32, faulty: u32) -> Setup
+    ensures { λ r. ⌜ r ≡ setupOf f n clients faulty ⌝ }
 {
     if OVER_MARKS <= faulty {
         return Setup::Refused(Refusal::BadSettings);
@@ -37,11 +37,15 @@ fn settings_of(f: u32, clients: u32, faulty: u32) -> Setup
     if MAX_BYTE < f {
         return Setup::Refused(Refusal::BadSettings);
     }
+    if MAX_BYTE < n {
+        return Setup::Refused(Refusal::BadSettings);
+    }
     if MAX_BYTE < clients {
         return Setup::Refused(Refusal::BadSettings);
     }
     let settings = Settings {
         f: f as u8,
+        n: n as u8,
         clients: clients as u8,
         faulty: faulty as u16,
     };
@@ -56,10 +60,11 @@ fn settings_of(f: u32, clients: u32, faulty: u32) -> Setup
     }
 }
 
-// A setup of f, a count of clients and the faulty servers: refused (1, 2) with the memory as it was, or
+// A setup of f, n, a count of clients and the faulty servers: refused (1, 2) with the memory as it was, or
 // accepted with all zero, the state at setup.
 pub fn set_up(
     f: u32,
+    n: u32,
     count: u32,
     faulty: u32,
     servers: &mut Servers,
@@ -67,10 +72,10 @@ pub fn set_up(
     slots: &mut Slots,
 ) -> Setup
     ensures { λ answer. ⌜ setUp answer (now (servers .exit)) (now (clients .exit)) (now (slots .exit))
-        ≡ setUpBy (setupOf f count faulty)
+        ≡ setUpBy (setupOf f n count faulty)
         (now (servers .entry)) (now (clients .entry)) (now (slots .entry)) ⌝ }
 {
-    let setup = settings_of(f, count, faulty);
+    let setup = settings_of(f, n, count, faulty);
     match setup {
         Setup::Refused(_) => {}
         Setup::Set(_) => {

@@ -266,7 +266,7 @@ impl Checker {
 
 /// What D puts on channels is the same for every server, so one honest server shows it.
 fn first_channel(system: &System, client: usize) -> &Channel {
-    let server = system.honest().next().expect("at most f of 3f + 1 servers are faulty");
+    let server = system.honest().next().expect("at most f of n servers are faulty, and n is above f");
     &system.up[client][server]
 }
 

@@ -7,7 +7,7 @@ use std::collections::BTreeSet;
 /// The most pairs that a set holds.
 const SET_LIMIT: usize = 4;
 
-/// How many servers it takes, for n = 3f + 1.
+/// How many of the n servers it takes, where f may be faulty.
 #[derive(Clone, Copy, Debug)]
 pub struct Thresholds {
     /// Timestamps to be noted before a pair is chosen: n − f.
@@ -21,9 +21,8 @@ pub struct Thresholds {
 }
 
 impl Thresholds {
-    /// The thresholds for f faulty servers; a fault may spoil one.
-    pub fn new(f: usize, fault: Option<Fault>) -> Thresholds {
-        let n = 3 * f + 1;
+    /// The thresholds for n servers; a fault may spoil one.
+    pub fn new(f: usize, n: usize, fault: Option<Fault>) -> Thresholds {
         let one_less = |name, right| if fault == Some(name) { right - 1 } else { right };
         Thresholds {
             spoken: n - f,
@@ -89,8 +88,7 @@ pub struct Client {
 
 impl Client {
     /// A client is idle, with read number 0.
-    pub fn new(number: u32, f: usize, fault: Option<Fault>) -> Client {
-        let n = 3 * f + 1;
+    pub fn new(number: u32, f: usize, n: usize, fault: Option<Fault>) -> Client {
         Client {
             number,
             phase: Phase::Idle,
@@ -98,7 +96,7 @@ impl Client {
             noted: vec![None; n],
             sets: vec![BTreeSet::new(); n],
             acknowledged: BTreeSet::new(),
-            thresholds: Thresholds::new(f, fault),
+            thresholds: Thresholds::new(f, n, fault),
             fault,
         }
     }
@@ -238,14 +236,15 @@ mod tests {
         Pair { timestamp: Timestamp { counter, client }, entry: 1 }
     }
 
-    /// A reading client for f = 1 with these timestamps noted and `pair(1, 1)` in the sets of the first servers.
-    fn reader(noted: [(u32, u32); 3], in_sets: usize) -> Client {
-        let mut client = Client::new(1, 1, None);
+    /// A reading client for f = 1 and n servers, with these timestamps noted and `pair(1, 1)` in the sets of the last
+    /// servers.
+    fn reader(n: usize, noted: &[(u32, u32)], in_sets: usize) -> Client {
+        let mut client = Client::new(1, 1, n, None);
         client.begin(None);
-        for (server, (counter, client_number)) in noted.into_iter().enumerate() {
-            client.noted[server] = Some(Timestamp { counter, client: client_number });
+        for (server, (counter, client_number)) in noted.iter().enumerate() {
+            client.noted[server] = Some(Timestamp { counter: *counter, client: *client_number });
         }
-        for set in &mut client.sets[..in_sets] {
+        for set in client.sets.iter_mut().rev().take(in_sets) {
             set.insert(pair(1, 1));
         }
         client
@@ -253,15 +252,42 @@ mod tests {
 
     #[test]
     fn the_papers_sheets_of_counting() {
-        assert_eq!(reader([(1, 1), (1, 1), (0, 0)], 2).choice(), Some(pair(1, 1)));
-        assert_eq!(reader([(2, 2), (1, 1), (0, 0)], 2).choice(), None);
-        assert_eq!(reader([(1, 1), (1, 1), (0, 0)], 1).choice(), None);
+        assert_eq!(reader(4, &[(1, 1), (1, 1), (0, 0)], 2).choice(), Some(pair(1, 1)));
+        assert_eq!(reader(4, &[(2, 2), (1, 1), (0, 0)], 2).choice(), None);
+        assert_eq!(reader(4, &[(1, 1), (1, 1), (0, 0)], 1).choice(), None);
+    }
+
+    /// n − f timestamps must be noted, three of them at or below the pair, and the pair be in two sets, for every n; the
+    /// three are the last that are noted.
+    #[test]
+    fn counting_with_spare_servers() {
+        let noted = |spoken: usize, below: usize| [vec![(2, 2); spoken - below], vec![(1, 1); below]].concat();
+        for n in 5..=13 {
+            assert_eq!(reader(n, &noted(n - 1, 3), 2).choice(), Some(pair(1, 1)));
+            assert_eq!(reader(n, &noted(n - 2, 3), 2).choice(), None);
+            assert_eq!(reader(n, &noted(n - 1, 2), 2).choice(), None);
+            assert_eq!(reader(n, &noted(n - 1, 3), 1).choice(), None);
+        }
+    }
+
+    /// Two from the same server are one.
+    #[test]
+    fn a_write_ends_at_n_minus_f_acknowledgements() {
+        for (f, n) in [(0, 1), (0, 13), (1, 4), (1, 5), (1, 13), (3, 12), (4, 13)] {
+            let stored = pair(1, 1);
+            let mut client = Client::new(1, f, n, None);
+            client.phase = Phase::Storing { pair: stored };
+            for server in (0..n - f - 1).chain(0..n - f - 1) {
+                assert_eq!(client.take(server, Message::WriteAck { counter: 1 }), Outcome::Waits);
+            }
+            assert_eq!(client.take(n - 1, Message::WriteAck { counter: 1 }), Outcome::Stored(stored));
+        }
     }
 
     #[test]
     fn the_papers_sheets_of_a_full_set() {
         let counters = |client: &Client| client.sets[0].iter().map(|p| p.timestamp.counter).collect::<Vec<_>>();
-        let mut client = Client::new(1, 1, None);
+        let mut client = Client::new(1, 1, 4, None);
         for counter in [6, 3, 9, 5] {
             client.add(0, pair(counter, 1));
         }
@@ -276,7 +302,7 @@ mod tests {
 
     #[test]
     fn the_highest_pair_that_counts_is_chosen() {
-        let mut client = reader([(0, 0), (0, 0), (0, 0)], 2);
+        let mut client = reader(4, &[(0, 0), (0, 0), (0, 0)], 2);
         for server in 1..3 {
             client.add(server, pair(1, 2));
             client.add(server, Pair { entry: 2, ..pair(1, 2) });
@@ -287,7 +313,7 @@ mod tests {
 
     #[test]
     fn a_write_over_the_highest_counter_is_spent() {
-        let mut client = Client::new(1, 0, None);
+        let mut client = Client::new(1, 0, 1, None);
         client.begin(Some(1));
         assert_eq!(client.take(0, Message::Info { tag: 1, pair: pair(HIGHEST, 2) }), Outcome::Spent);
         assert_eq!(client.phase, Phase::Idle);
@@ -298,7 +324,7 @@ mod tests {
 
     #[test]
     fn what_is_not_taken() {
-        let mut client = Client::new(1, 0, None);
+        let mut client = Client::new(1, 0, 1, None);
         let info = |tag| Message::Info { tag, pair: pair(5, 5) };
         assert_eq!(client.take(0, info(0)), Outcome::Waits); // idle
         client.begin(None);

@@ -1,6 +1,7 @@
 //! Random scripts that do something: setup after setup, in each a schedule of mostly accepted steps in which reads and
 //! writes overlap, messages are late, faulty servers lie and clients stop, with refused steps and unreadable lines
-//! strewn in. The generator runs what it writes, so that it knows which steps are open to it.
+//! strewn in. Every f and every n has its turn. The generator runs what it writes, so that it knows which steps are open
+//! to it.
 
 use crate::client::Phase;
 use crate::fault::Fault;
@@ -9,7 +10,7 @@ use crate::plan::{Move, Plan};
 use crate::random::Random;
 use crate::samples::{licence_entry, malformed, no_licence_entry};
 use crate::session::{Reply, Session};
-use crate::system::{Refusal, MOST_CLIENTS, MOST_SERVERS};
+use crate::system::{Refusal, Settings, MOST_CLIENTS, MOST_FAULTY, MOST_SERVERS};
 use crate::unreadable::damage;
 use std::io::{self, Write};
 
@@ -19,6 +20,8 @@ pub struct Generator {
     session: Session,
     plan: Plan,
     hunting: bool,
+    /// Which of all f and n is next.
+    turn: usize,
 }
 
 impl Generator {
@@ -26,7 +29,8 @@ impl Generator {
     pub fn new(seed: u64) -> Generator {
         let mut random = Random::new(seed);
         let plan = Plan::new(&mut random, 20);
-        Generator { random, session: Session::new(None), plan, hunting: false }
+        let turn = random.below(1000);
+        Generator { random, session: Session::new(None), plan, hunting: false, turn }
     }
 
     /// A script to hunt for a fault with: the schedule is that of the faulty system, setups are short and small, as many
@@ -51,8 +55,6 @@ impl Generator {
 
     fn propose(&mut self) -> Vec<u8> {
         if self.plan.lines_left == 0 {
-            let lines = 30 << self.random.below(if self.hunting { 4 } else { 7 });
-            self.plan = Plan::new(&mut self.random, lines);
             return self.setup();
         }
         self.plan.drift(&mut self.random);
@@ -70,33 +72,83 @@ impl Generator {
         }
     }
 
-    /// An S that is accepted.
+    /// An S that is accepted, and a plan for what follows: more servers take more lines.
     fn setup(&mut self) -> Vec<u8> {
-        let f = self.random.pick(if self.hunting { &[0, 1, 1, 1, 1, 2] } else { &[0, 1, 1, 1, 2, 2, 3, 4] });
+        let size = self.size();
+        let settings = self.settings(size);
+        let lines = if self.hunting {
+            30 << self.random.below(4)
+        } else {
+            (30 + 5 * settings.n as usize) << self.random.below(5)
+        };
+        self.plan = Plan::new(&mut self.random, lines);
+        self.setup_line(settings)
+    }
+
+    /// Settings that are accepted.
+    fn settings(&mut self, (f, n): (usize, usize)) -> Settings {
         let clients = self.random.pick(if self.hunting { &[2, 2, 3] } else { &[1, 2, 2, 3, 3, 4, 5, 6] });
-        let n = 3 * f + 1;
-        let faulty = if self.hunting || self.random.chance(800) { f } else { self.random.below(f + 1) };
-        let mut marks = [false; MOST_SERVERS];
-        while marks.iter().filter(|yes| **yes).count() < faulty {
-            marks[self.random.below(n)] = true;
+        let marks = if self.hunting || self.random.chance(800) { f } else { self.random.below(f + 1) };
+        let mut faulty = [false; MOST_SERVERS];
+        while faulty.iter().filter(|yes| **yes).count() < marks {
+            faulty[self.random.below(n)] = true;
         }
-        self.setup_line(f, clients, &marks)
+        Settings { f: f as u32, n: n as u32, clients, faulty }
     }
 
-    fn setup_line(&mut self, f: usize, clients: usize, marks: &[bool; MOST_SERVERS]) -> Vec<u8> {
-        let shortest = marks.iter().rposition(|yes| *yes).map_or(1, |last| last + 1);
+    /// f and n. Every other setup, about, takes the next of all that there are, so that each comes again and again. The
+    /// others have mostly the least n, where nothing is to spare.
+    fn size(&mut self) -> (usize, usize) {
+        if !self.hunting && self.random.chance(500) {
+            let sizes = all_sizes();
+            self.turn += 1;
+            return sizes[self.turn % sizes.len()];
+        }
+        let f = self.random.pick(if self.hunting { &[0, 1, 1, 1, 1, 2] } else { &[0, 0, 1, 1, 1, 1, 2, 2, 3, 4] });
+        let spare = self.random.pick(&[0, 0, 0, 1, 2]);
+        (f, (3 * f + 1 + spare).min(MOST_SERVERS))
+    }
+
+    fn setup_line(&mut self, settings: Settings) -> Vec<u8> {
+        let Settings { f, n, clients, faulty } = settings;
+        let shortest = faulty.iter().rposition(|yes| *yes).map_or(1, |last| last + 1);
         let length = self.random.between(shortest, MOST_SERVERS);
-        let digits: String = marks[..length].iter().map(|yes| if *yes { '1' } else { '0' }).collect();
-        format!("S {} {} {digits}", self.number(f), self.number(clients)).into_bytes()
+        let marks: String = faulty[..length].iter().map(|yes| if *yes { '1' } else { '0' }).collect();
+        let [f, n, clients] = [f, n, clients].map(|number| self.number(number as usize));
+        format!("S {f} {n} {clients} {marks}").into_bytes()
     }
 
-    /// An S that is refused 1 or 2, or happens to be accepted.
+    /// An S with one or two things wrong: refused 1 or 2.
     fn refused_setup(&mut self) -> Vec<u8> {
-        let f = self.random.pick(&[0, 1, 2, 3, 4, 4, 5, 6, 9_999_999]);
-        let clients = self.random.pick(&[0, 1, 2, 6, 6, 7, 13, 9_999_999]);
-        let often = self.random.pick(&[0, 200, 500, 1000]);
-        let marks = std::array::from_fn(|_| self.random.chance(often));
-        self.setup_line(f, clients, &marks)
+        let size = self.random.pick(&all_sizes());
+        let mut settings = self.settings(size);
+        for _ in 0..self.random.between(1, 2) {
+            self.spoil(&mut settings);
+        }
+        self.setup_line(settings)
+    }
+
+    /// Puts one thing wrong; nothing here puts another right.
+    fn spoil(&mut self, settings: &mut Settings) {
+        let Settings { f, n, clients, faulty } = settings;
+        let servers = (*n as usize).min(MOST_SERVERS);
+        let too_few = 3 * (*f).min(MOST_FAULTY as u32);
+        match self.random.below(6) {
+            0 => *f = self.random.pick(&[5, 6, 13, 256, 65_537, 9_999_999]),
+            1 => *n = self.random.pick(&[0, too_few, too_few / 2]),
+            2 => *n = self.random.pick(&[14, 14, 15, 256 + 13, 65_536 + 13, 9_999_999]),
+            3 => *clients = self.random.pick(&[0, 7, 13, 257, 65_537, 9_999_999]),
+            4 if servers < MOST_SERVERS => {
+                faulty.fill(false);
+                faulty[self.random.between(servers, MOST_SERVERS - 1)] = true;
+            }
+            _ => {
+                let marks = self.random.between((*f as usize + 1).min(servers), servers);
+                while faulty[..servers].iter().filter(|yes| **yes).count() < marks {
+                    faulty[self.random.below(servers)] = true;
+                }
+            }
+        }
     }
 
     /// A step that is open, mostly.
@@ -236,10 +288,15 @@ impl Generator {
     }
 }
 
+/// All f and n that a setup may choose.
+fn all_sizes() -> Vec<(usize, usize)> {
+    (0..=MOST_FAULTY).flat_map(|f| (3 * f + 1..=MOST_SERVERS).map(move |n| (f, n))).collect()
+}
+
 /// The script in which the counters and the read numbers run out: client 1 writes until both are at their highest, so
 /// that its next R and W are refused 11 and the other client's write is SPENT. Six million lines.
 pub fn exhausted(output: &mut impl Write) -> io::Result<()> {
-    writeln!(output, "S 0 2 0")?;
+    writeln!(output, "S 0 1 2 0")?;
     for _ in 0..HIGHEST {
         output.write_all(b"W 1 7E82E80141\nK 1 1\nD 1 1\nK 1 1\nK 1 1\nD 1 1\n")?;
     }

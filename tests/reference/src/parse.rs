@@ -1,4 +1,4 @@
-//! One line of a script (paper 01, 'The program rehearse').
+//! One line of a script (paper 01, 'The program rehearse'; C-11: S has n).
 
 use crate::system::{Settings, Step, MOST_SERVERS};
 
@@ -23,7 +23,12 @@ pub fn parse(line: &[u8]) -> Option<Command> {
     let letter = fields.next()?;
     let mut next = || fields.next();
     let command = match letter {
-        b"S" => Command::Setup(Settings { f: number(next()?)?, clients: number(next()?)?, faulty: marks(next()?)? }),
+        b"S" => Command::Setup(Settings {
+            f: number(next()?)?,
+            n: number(next()?)?,
+            clients: number(next()?)?,
+            faulty: marks(next()?)?,
+        }),
         b"R" => Command::Step(Step::Read { client: number(next()?)? }),
         b"W" => Command::Step(Step::Write { client: number(next()?)?, entry: hexadecimal(next()?, 10)? as u64 }),
         b"K" => Command::Step(Step::ServerTakes { server: number(next()?)?, client: number(next()?)? }),
@@ -89,8 +94,12 @@ mod tests {
     fn every_letter() {
         let mut faulty = [false; 13];
         faulty[1] = true;
-        let readable: [(&[u8], Command); 7] = [
-            (b"S 1 2 0100", Command::Setup(Settings { f: 1, clients: 2, faulty })),
+        let readable: [(&[u8], Command); 8] = [
+            (b"S 1 5 2 0100", Command::Setup(Settings { f: 1, n: 5, clients: 2, faulty })),
+            (
+                b"S 0 9999999 0000000 0",
+                Command::Setup(Settings { f: 0, n: 9_999_999, clients: 0, faulty: [false; 13] }),
+            ),
             (b"R 1", Command::Step(Step::Read { client: 1 })),
             (b"W 1 7E82E80141", Command::Step(Step::Write { client: 1, entry: 0x7E_82E8_0141 })),
             (b"K 3 2", Command::Step(Step::ServerTakes { server: 3, client: 2 })),
@@ -108,7 +117,7 @@ mod tests {
 
     #[test]
     fn unreadable_lines() {
-        let unreadable: [&[u8]; 34] = [
+        let unreadable: [&[u8]; 39] = [
             b"",
             b" ",
             b"R",
@@ -138,11 +147,16 @@ mod tests {
             b"W 1 7E82E8014G",
             b"L 1 1 60000000001000000000",
             b"L 1 1 600000000010000000000000",
-            b"S 0 1",
-            b"S 0 1 ",
-            b"S 0 1 2",
-            b"S 0 1 00000000000000",
-            b"S 0 1 0 0",
+            b"S 0 1 1",
+            b"S 0 1 1 ",
+            b"S 0 1 1 2",
+            b"S 0 1 1 00000000000000",
+            b"S 0 1 1 0 0",
+            b"S 1 2 0100", // without n
+            b"S 0 1 0",
+            b"S 0  1 0",
+            b"S 0 00000001 1 0",
+            b"S 0 -1 1 0",
         ];
         for line in unreadable {
             assert_eq!(parse(line), None, "{:?}", String::from_utf8_lossy(line));

@@ -1,4 +1,5 @@
-//! Clients, servers and the channels between them (paper 01, 'Rehearsal'): settings, the six steps, the refusals.
+//! Clients, servers and the channels between them (paper 01, 'Rehearsal'; C-11: n is a setting): settings, the six
+//! steps, the refusals.
 
 use crate::client::{Client, Outcome, Phase};
 use crate::fault::Fault;
@@ -7,7 +8,7 @@ use crate::message::{Message, Pair, HIGHEST};
 use crate::server::Server;
 use std::collections::VecDeque;
 
-/// The most servers: 3f + 1 for the highest f.
+/// The most servers; a setup has a mark for each.
 pub const MOST_SERVERS: usize = 13;
 /// The most clients.
 pub const MOST_CLIENTS: usize = 6;
@@ -19,7 +20,7 @@ pub const SLOTS: usize = 8;
 /// Why nothing happened, with the paper's numbers. A script reaches all but 3 and 13.
 #[derive(Clone, Copy, Debug, PartialEq, Eq)]
 pub enum Refusal {
-    /// f or clients out of range, or a mark beyond n.
+    /// f, n or clients out of range, or a mark beyond n.
     BadSettings = 1,
     /// More than f marks.
     TooManyFaulty = 2,
@@ -48,6 +49,8 @@ pub enum Refusal {
 pub struct Settings {
     /// How many servers may be faulty.
     pub f: u32,
+    /// How many servers there are: n, from 3f + 1 to 13.
+    pub n: u32,
     /// How many clients there are.
     pub clients: u32,
     /// Which servers are faulty, server 1 first.
@@ -109,11 +112,11 @@ impl System {
     /// Sets up afresh. A fault may be put into the clients.
     pub fn new(settings: Settings, fault: Option<Fault>) -> Result<System, Refusal> {
         let f = settings.f as usize;
+        let n = settings.n as usize;
         let clients = settings.clients as usize;
-        if f > MOST_FAULTY || !(1..=MOST_CLIENTS).contains(&clients) {
+        if f > MOST_FAULTY || !(3 * f + 1..=MOST_SERVERS).contains(&n) || !(1..=MOST_CLIENTS).contains(&clients) {
             return Err(Refusal::BadSettings);
         }
-        let n = 3 * f + 1;
         if settings.faulty[n..].contains(&true) {
             return Err(Refusal::BadSettings);
         }
@@ -125,7 +128,7 @@ impl System {
             faulty,
             stopped: vec![false; clients],
             servers: vec![Server::new(); n],
-            clients: (1..=settings.clients).map(|number| Client::new(number, f, fault)).collect(),
+            clients: (1..=settings.clients).map(|number| Client::new(number, f, n, fault)).collect(),
             up: vec![vec![Channel::new(); n]; clients],
             down: vec![vec![Channel::new(); n]; clients],
         })

@@ -6,7 +6,7 @@ use crate::random::Random;
 /// A way to damage a line.
 type Damage = fn(&mut Random, &mut Vec<u8>);
 
-const WAYS: [Damage; 24] = [
+const WAYS: [Damage; 25] = [
     |_, line| line.clear(),
     |_, line| line.push(b'\r'),
     |_, line| line.push(b' '),
@@ -27,7 +27,8 @@ const WAYS: [Damage; 24] = [
     |random, line| replace_byte(random, line, 128..=255),
     |random, line| replace_byte(random, line, 0..=9),
     |random, line| replace_byte(random, line, b'G'..=b'Q'),
-    |random, line| *line = random.pick(&["S 1 2 ", "S 1 2", "S 1 2 00000000000000", "S 1 2 0200", "S 1 2 0 0"]).into(),
+    |random, line| *line = random.pick(&["S 1 4 2 ", "S 1 4 2", "S 1 4 2 00000000000000", "S 1 4 2 0200"]).into(),
+    |random, line| *line = other_setup(random).into(),
     |_, line| line.resize(LONGEST_LINE + 1, b' '),
     |_, line| line.resize(LONGEST_LINE + 1, b'0'),
     |random, line| line.resize(long(random), b'0'),
@@ -38,6 +39,18 @@ pub fn damage(random: &mut Random, line: &[u8]) -> Vec<u8> {
     let mut line = line.to_vec();
     random.pick(&WAYS)(random, &mut line);
     line
+}
+
+/// A setup without n, as it was before C-11, or with one number more.
+fn other_setup(random: &mut Random) -> String {
+    let [f, n, clients] = [random.below(5), random.between(1, 13), random.between(1, 6)];
+    let marks = random.pick(&["0", "1", "0001", "0000000000000"]);
+    match random.below(2) {
+        0 => format!("S {f} {clients} {marks}"),
+        _ => random
+            .pick(&[format!("S {f} {n} {clients} {n} {marks}").as_str(), &format!("S {f} {n} {clients} {marks} 0")])
+            .into(),
+    }
 }
 
 /// Mostly a thousand bytes; seldom more than a block of 64 KB.

@@ -1,8 +1,8 @@
 //! The checker finds each fault that is put into the reference, in a script written for it. `generated.rs` finds them
 //! by chance.
 //!
-//! In the scripts f is 1 and server 1 is faulty, unless the setup says otherwise. Without the fault demand 3 holds of
-//! each script.
+//! In the scripts f is 1, n is 4 and server 1 is faulty, unless the setup says otherwise. Without the fault demand 3
+//! holds of each script.
 
 mod common;
 
@@ -30,7 +30,7 @@ fn one_variable() {
     shows(
         Fault::OneVariable,
         NO_ROWS,
-        "S 1 2 1000
+        "S 1 4 2 1000
          -- Client 1 reads, with read number 1.
          R 1; K 2 1; K 3 1; K 4 1; D 1 2; D 1 3; D 1 4
          -- It writes, with read number 2, and leaves server 4's INFO of the initial pair on the channel.
@@ -50,7 +50,7 @@ fn late_acknowledgements() {
     shows(
         Fault::LateAcknowledgements,
         NO_ROWS,
-        "S 1 2 1000
+        "S 1 4 2 1000
          -- Client 1 writes, with acknowledgements from 1, 2 and 3. That of server 4 stays on the channel.
          W 1 7E82E80141; K 2 1; K 3 1; K 4 1; D 1 2; D 1 3; D 1 4
          K 2 1; K 2 1; K 3 1; K 3 1; K 4 1; K 4 1; L 1 1 6000000000100000000000; D 1 1; D 1 2; D 1 3
@@ -68,7 +68,7 @@ fn forward_noted() {
     shows(
         Fault::ForwardNoted,
         NO_ROWS,
-        "S 0 2 0
+        "S 0 1 2 0
          -- Client 2 begins to read, so both writes of client 1 are forwarded to it.
          R 2; K 1 2
          W 1 7E82E80141; K 1 1; D 1 1; K 1 1; K 1 1; D 1 1
@@ -83,7 +83,7 @@ fn info_after_shown() {
     shows(
         Fault::InfoAfterShown,
         Violation::IllFormed,
-        "S 1 1 0
+        "S 1 4 1 0
          R 1; K 1 1; K 2 1; K 3 1; K 4 1; D 1 1; D 1 2; D 1 3 -- shown
          D 1 4 -- shown again",
     );
@@ -94,7 +94,7 @@ fn newest_dropped() {
     shows(
         Fault::NewestDropped,
         Violation::NeverEnds(2),
-        "S 0 2 0
+        "S 0 1 2 0
          -- Client 2 reads; its DONE stays on the channel, so it is forwarded everything that is written.
          R 2; K 1 2; D 2 1
          W 1 7E82E80141; K 1 1; D 1 1; K 1 1; K 1 1; D 1 1
@@ -112,7 +112,7 @@ fn two_f_noted() {
     shows(
         Fault::TwoFNoted,
         NO_ROWS,
-        "S 1 2 1000
+        "S 1 4 2 1000
          -- Client 1 writes to servers 2 and 4; server 1 only says so.
          W 1 7E82E80141; K 2 1; K 4 1; L 1 1 2000010000000000000000; D 1 1; D 1 2; D 1 4
          K 2 1; K 2 1; K 4 1; K 4 1; L 1 1 6000000000100000000000; D 1 1; D 1 2; D 1 4
@@ -126,7 +126,7 @@ fn f_sets() {
     shows(
         Fault::FSets,
         Violation::NotWritten,
-        "S 1 1 1000
+        "S 1 4 1 1000
          R 1; K 2 1; K 3 1; D 1 2; D 1 3; L 1 1 2000010000917E82E80141; D 1 1 -- a forged pair from server 1 alone",
     );
 }
@@ -136,11 +136,26 @@ fn few_acknowledgements() {
     shows(
         Fault::FewAcknowledgements,
         NO_ROWS,
-        "S 1 2 1000
+        "S 1 4 2 1000
          -- Client 1 writes to server 2; server 1 only says so, and two are enough.
          W 1 7E82E80141; K 2 1; K 3 1; L 1 1 2000010000000000000000; D 1 1; D 1 2; D 1 3
          K 2 1; K 2 1; L 1 1 6000000000100000000000; D 1 1; D 1 2
          -- Client 2 reads from servers 1, 3 and 4: the initial pair.
          R 2; K 3 2; K 4 2; L 1 2 2000010000000000000000; D 2 1; D 2 3; D 2 4",
+    );
+}
+
+/// 2f + 1 acknowledgements are enough only with the least n.
+#[test]
+fn few_acknowledgements_with_a_spare_server() {
+    shows(
+        Fault::FewAcknowledgements,
+        NO_ROWS,
+        "S 1 5 2 1000
+         -- Client 1 writes to servers 2 and 3; server 1 only says so, and three are enough.
+         W 1 7E82E80141; K 2 1; K 3 1; K 4 1; L 1 1 2000010000000000000000; D 1 1; D 1 2; D 1 3; D 1 4
+         K 2 1; K 2 1; K 3 1; K 3 1; L 1 1 6000000000100000000000; D 1 1; D 1 2; D 1 3
+         -- Client 2 reads from servers 1, 3, 4 and 5: the initial pair, which three of them show.
+         R 2; K 3 2; K 4 2; K 5 2; L 1 2 2000010000000000000000; D 2 1; D 2 3; D 2 4; D 2 5",
     );
 }

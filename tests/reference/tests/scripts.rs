@@ -12,7 +12,7 @@ fn output(script: &[u8]) -> String {
 
 #[test]
 fn the_listing() {
-    let script = b"S 0 1 0\nW 1 7E82E80141\nK 1 1\nD 1 1\nK 1 1\nK 1 1\nD 1 1\nR 1\nK 1 1\nD 1 1\n";
+    let script = b"S 0 1 1 0\nW 1 7E82E80141\nK 1 1\nD 1 1\nK 1 1\nK 1 1\nD 1 1\nR 1\nK 1 1\nD 1 1\n";
     let expected = "0 SET\n1 WENT\n2 WENT\n3 WENT\n4 WENT\n5 WENT\n6 WROTE 1 1 7E82E80141\n7 WENT\n8 WENT\n\
                     9 READ 1 1 7E82E80141\n";
     assert_eq!(output(script), expected);
@@ -22,11 +22,11 @@ fn the_listing() {
 fn line_ends() {
     assert_eq!(output(b""), "");
     assert_eq!(output(b"\n"), "0 UNREAD\n");
-    assert_eq!(output(b"S 0 1 0"), "0 SET\n");
-    assert_eq!(output(b"S 0 1 0\n"), "0 SET\n");
-    assert_eq!(output(b"S 0 1 0\n\n"), "0 SET\n1 UNREAD\n");
-    assert_eq!(output(b"S 0 1 0\r\nR 1"), "0 UNREAD\n1 UNREAD\n");
-    let long = [&b"S 0 1 0\n"[..], &[b' '; 200_000], b"\nR 1"].concat();
+    assert_eq!(output(b"S 0 1 1 0"), "0 SET\n");
+    assert_eq!(output(b"S 0 1 1 0\n"), "0 SET\n");
+    assert_eq!(output(b"S 0 1 1 0\n\n"), "0 SET\n1 UNREAD\n");
+    assert_eq!(output(b"S 0 1 1 0\r\nR 1"), "0 UNREAD\n1 UNREAD\n");
+    let long = [&b"S 0 1 1 0\n"[..], &[b' '; 200_000], b"\nR 1"].concat();
     assert_eq!(output(&long), "0 SET\n1 UNREAD\n2 WENT\n");
 }
 

@@ -4,7 +4,7 @@ use Rattle.basics.proofs.Prelude.{_≡_, true, needs}
 use Rattle.client.specs.Sound.{isSound}
 use Rattle.client.proofs.Facts.{of-client}
 use Rattle.client.proofs.Outcomes.{no-choice-sends, choice-sends}
-use Rattle.client.proofs.Shown.{sound-long, sound-few}
+use Rattle.client.proofs.Shown.{sound-long, few-servers}
 use Rattle.client.proofs.Taking.{collected-reading, follows-sends, drops-silently}
 use Rattle.client.proofs.foreseen.Statement.{statement}
 use Rattle.client.proofs.foreseen.Tie as tie
@@ -26,7 +26,7 @@ foreseen-spec =
     tie.close
     (tie.spec
     (λ c κs. search needs) (λ c. search needs) (λ c. search drops-silently)
-    (λ c κs. let sound = collected (before-choose c) in search (sound-long, sound-few))
+    (λ c κs. let sound = collected (before-choose c) in search (sound-long, few-servers))
     (λ c. search needs) (λ c. search needs) (λ c. search needs)
     (λ c. let sound = collected (before-choose (c .before .before .before)) in
     search (follows-sends, no-choice-sends))

@@ -6,5 +6,4 @@ use Rattle.client.proofs.is_server.Tie as tie
 
 pub is-server-spec : {M : Type 1} → statement M
 is-server-spec =
-    tie.close (tie.spec (λ c. search lt-leb) (λ c κs. search needs)
-    (λ c. search (le-leb, ← (c .servers .ensures))))
+    tie.close (tie.spec (λ c. search lt-leb) (λ c. search le-leb))

@@ -1,4 +1,4 @@
--- `exchange::serve` is safe: ten messages of each client are kept, and the memory of four servers holds the
+-- `exchange::serve` is safe: ten messages of each client are kept, and the memory of five servers holds the
 -- part of each. Assumes nothing.
 use Rattle.basics.proofs.Prelude.{_≡_, length, arith, needs}
 use Rattle.exchange.proofs.serve.Statement.{statement}
@@ -12,7 +12,7 @@ part-bytes-end c =
 part-servers-end : tie.Need-part-servers-end
 part-servers-end c =
     let sent = c .before .before in
-    let all : length (sent .before .before .args .group .servers) ≡ 8 = search needs in
+    let all : length (sent .before .before .args .group .servers) ≡ 10 = search needs in
     omega arith
 
 pub serve-spec : {M : Type 1} → statement M

@@ -11,11 +11,11 @@
 use Rattle.register.proofs.Vocabulary.{countBelow, allBelow, Read, Wrote, Settings, Accepted, inRange}
 use Rattle.register.proofs.Vocabulary.{setupRefusal, Step, R, W, K, D, L, formats}
 use Rattle.basics.proofs.Prelude.{_≡_, refl, List, [], _∷_, _++_, ℕ, eqb}
-use Rattle.register.proofs.Runs.{answers, went, theEntry, pairBy}
+use Rattle.register.proofs.Runs.{answers, went, theEntry, pairBy1, pairBy2}
 
--- S 1 3 0001
+-- S 1 4 3 0001
 abbrev pub four : Settings
-four = record { f = 1; clients = 3; faulty = λ k. eqb k 4 }
+four = record { f = 1; n = 4; clients = 3; faulty = λ k. eqb k 4 }
 
 set-up : Accepted four
 unfolding setupRefusal inRange allBelow countBelow
@@ -50,6 +50,6 @@ abbrev pub late : List Step
 late = R 3 ∷ K 1 3 ∷ K 1 3 ∷ K 2 3 ∷ K 2 3 ∷ L 4 3 (info 2) ∷ D 3 1 ∷ D 3 2 ∷ D 3 2 ∷ D 3 4 ∷ []
 
 disagree : answers four formats (first ++ early ++ second ++ late)
-    ≡ went 15 ++ Read (pairBy 1 2) ∷ went 14 ++ Wrote (pairBy 1 1) ∷ went 9 ++ Read (pairBy 1 2) ∷ []
+    ≡ went 15 ++ Read pairBy2 ∷ went 14 ++ Wrote pairBy1 ∷ went 9 ++ Read pairBy2 ∷ []
 unfolding answers
 disagree = refl

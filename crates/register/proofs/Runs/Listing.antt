@@ -4,11 +4,11 @@
 use Rattle.basics.proofs.Prelude.{_≡_, refl, false, List, [], _∷_}
 use Rattle.register.proofs.Vocabulary.{countBelow, allBelow, Went, Read, Wrote, Settings, Accepted}
 use Rattle.register.proofs.Vocabulary.{inRange, setupRefusal, Step, R, W, K, D, formats}
-use Rattle.register.proofs.Runs.{answers, theEntry, pairBy}
+use Rattle.register.proofs.Runs.{answers, theEntry, pairBy1}
 
--- S 0 1 0
+-- S 0 1 1 0
 abbrev alone : Settings
-alone = record { f = 0; clients = 1; faulty = λ k. false }
+alone = record { f = 0; n = 1; clients = 1; faulty = λ k. false }
 
 set-up : Accepted alone
 unfolding setupRefusal inRange allBelow countBelow
@@ -18,6 +18,6 @@ abbrev steps : List Step
 steps = W 1 theEntry ∷ K 1 1 ∷ D 1 1 ∷ K 1 1 ∷ K 1 1 ∷ D 1 1 ∷ R 1 ∷ K 1 1 ∷ D 1 1 ∷ []
 
 listing : answers alone formats steps
-    ≡ Went ∷ Went ∷ Went ∷ Went ∷ Went ∷ Wrote (pairBy 1 1) ∷ Went ∷ Went ∷ Read (pairBy 1 1) ∷ []
+    ≡ Went ∷ Went ∷ Went ∷ Went ∷ Went ∷ Wrote pairBy1 ∷ Went ∷ Went ∷ Read pairBy1 ∷ []
 unfolding answers
 listing = refl

@@ -12,11 +12,11 @@ use Rattle.register.proofs.Vocabulary.{Accepted, inRange, setupRefusal,
 use Rattle.register.proofs.Vocabulary.{formats}
 use Rattle.basics.proofs.Prelude.{_≡_, refl, List, [], _∷_, _++_, ℕ, zero, suc, _+_, _*_, eqb}
 use Rattle.refusal.specs.Numbers.{numbered}
-use Rattle.register.proofs.Runs.{answers, went, theEntry, pairBy}
+use Rattle.register.proofs.Runs.{answers, went, theEntry, pairBy1}
 
--- S 1 2 0001
+-- S 1 4 2 0001
 abbrev four : Settings
-four = record { f = 1; clients = 2; faulty = λ k. eqb k 4 }
+four = record { f = 1; n = 4; clients = 2; faulty = λ k. eqb k 4 }
 
 set-up : Accepted four
 unfolding setupRefusal inRange allBelow countBelow
@@ -46,7 +46,7 @@ refused =
     ∷ R 2 ∷ []
 
 overlap : answers four formats (begun ++ shown ++ stored-by-all ++ refused)
-    ≡ went 20 ++ Read (pairBy 1 1) ∷ went 4 ++ Wrote (pairBy 1 1) ∷ Went ∷ Refused (numbered 6)
+    ≡ went 20 ++ Read pairBy1 ∷ went 4 ++ Wrote pairBy1 ∷ Went ∷ Refused (numbered 6)
     ∷ Refused (numbered 4)
     ∷ Refused (numbered 5) ∷ Refused (numbered 5) ∷ Refused (numbered 8) ∷ Refused (numbered 9)
     ∷ Refused (numbered 10) ∷ Went

@@ -16,7 +16,7 @@ use Rattle.register.proofs.Vocabulary.{formats}
 use Rattle.basics.proofs.Tests.{below}
 use Rattle.register.specs.History.{eventAt}
 use Rattle.register.proofs.Vocabulary.{WriteInfo, Pair, Answer, Went, Read, Wrote, Spent}
-use Rattle.register.proofs.Runs.{answers, theEntry, pairBy}
+use Rattle.register.proofs.Runs.{answers, theEntry, pairBy1, pairBy2}
 use Rattle.register.proofs.Runs.Disagree.{four, early, second, late}
 use Rattle.register.proofs.Runs.Disagree as run
 
@@ -52,10 +52,10 @@ no-answer test low high h i above under e =
 
 -- the pair that both reads show, and that of the later write
 abbrev shown : Pair
-shown = pairBy 1 2
+shown = pairBy2
 
 abbrev lower : Pair
-lower = pairBy 1 1
+lower = pairBy1
 
 read-answer : (i : ℕ) (other : Pair) → answerAt four formats steps i ≡ Read other
     → isRead (answerAt four formats steps i) ≡ true

@@ -1,7 +1,6 @@
 -- `acknowledged`: a server has acknowledged where its number is in use.
 -- Assumes nothing.
-use Rattle.basics.proofs.Prelude.{sym, ap, _∙_, suc, arith, needs}
-use Rattle.register.proofs.Vocabulary.{countBelow, size}
+use Rattle.basics.proofs.Prelude.{sym, _∙_, suc, arith, needs}
 use Rattle.replies.specs.Replies.{acksAt, ackIn}
 use Rattle.replies.specs.Loops.{isUsed}
 use Rattle.replies.proofs.Places.{ack-at}
@@ -11,14 +10,11 @@ use Rattle.replies.proofs.acknowledged.Tie as tie
 
 returns : tie.Need-returns
 returns c =
-    let a = c .before .before .before .args in
+    let a = c .before .before .args in
     let test = isUsed (a .replies .now) acksAt in
-    c .used .ensures ∙ ap (countBelow test) (c .before .servers .ensures)
-    ∙ count-same test (λ i. ackIn (a .replies .now) (suc i)) (size (a .f))
+    c .used .ensures ∙ count-same test (λ i. ackIn (a .replies .now) (suc i)) (a .n)
     (λ i less. sym (ack-at (a .replies .now) i (omega arith)))
 
 pub acknowledged-spec : {M : Type 1} → statement M
 acknowledged-spec =
-    tie.close
-    (tie.spec
-    (λ c κs. search needs) (λ c. search needs) (λ c κs. search needs) returns)
+    tie.close (tie.spec (λ c κs. search needs) returns)

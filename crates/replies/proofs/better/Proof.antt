@@ -12,19 +12,19 @@ use Rattle.replies.proofs.better.Statement.{statement}
 use Rattle.replies.proofs.better.Tie as tie
 
 abbrev Inv-loop : tie.InvT-loop
-Inv-loop replies f i at choice₀ j₀ choice j =
+Inv-loop replies n f i at choice₀ j₀ choice j =
     (j ≤ setLimit) × (j ≤ length (setIn replies (suc i)))
-    × (choiceOf choice ≡ bestOf (countsIn f replies) (drop j (setIn replies (suc i))) (choiceOf choice₀))
+    × (choiceOf choice ≡ bestOf (countsIn n f replies) (drop j (setIn replies (suc i))) (choiceOf choice₀))
 
 abbrev μ-loop : tie.MeasureT-loop
-μ-loop replies f i at choice₀ j₀ choice j = j
+μ-loop replies n f i at choice₀ j₀ choice j = j
 
 -- the choice of the pairs from place j on
 abbrev bestFrom : tie.Start Inv-loop μ-loop → ℕ → Option Pair
 bestFrom begun j =
     let args = begun .args in
-    bestOf (countsIn (args .f) (args .replies .now)) (drop j (setIn (args .replies .now) (suc (args .i))))
-    (choiceOf (args .best))
+    bestOf (countsIn (args .n) (args .f) (args .replies .now))
+    (drop j (setIn (args .replies .now) (suc (args .i)))) (choiceOf (args .best))
 
 abbrev start : tie.At-loop Inv-loop μ-loop → tie.Start Inv-loop μ-loop
 start turn = turn .before .before .before
@@ -33,7 +33,8 @@ loop-holds : tie.Need-loop-holds Inv-loop μ-loop
 loop-holds c =
     let args = c .before .before .args in
     let e = c .size-of .ensures in
-    let none = best-none (countsIn (args .f) (args .replies .now)) _ (choiceOf (args .best)) _ (e .0) in
+    let test = countsIn (args .n) (args .f) (args .replies .now) in
+    let none = best-none test _ (choiceOf (args .best)) _ (e .0) in
     (e .1, omega (arith, e .0), sym none)
 
 loop-again : tie.Need-loop-again Inv-loop μ-loop
@@ -42,7 +43,7 @@ loop-again c =
     let begun = start turn in
     let args = begun .args in
     let j = turn .loop .j - 1 in
-    let test = countsIn (args .f) (args .replies .now) in
+    let test = countsIn (args .n) (args .f) (args .replies .now) in
     let other : Pair = record { 0 = pairAt (args .replies .now) (args .i) j } in
     let up : j + 1 ≡ turn .loop .j = omega arith in
     let next = best-next test (setIn (args .replies .now) (suc (args .i))) (choiceOf (args .best)) j other

@@ -12,7 +12,8 @@ returns : tie.Need-returns
 returns c =
     let args = c .before .before .before .args in
     let best = choiceOf (args .best) in
-    sym (either-way (countsIn (args .f) (args .replies .now) (args .pair)) (higher (args .pair) best) best
+    sym (either-way (countsIn (args .n) (args .f) (args .replies .now) (args .pair))
+    (higher (args .pair) best) best
     (other-leaves (args .pair) best (sym (c .before .is-above .ensures) ∙ not-true _ (c .if1 .taken))))
 
 returns-2 : tie.Need-returns-2

@@ -15,7 +15,7 @@ returns : tie.Need-returns
 returns c =
     let ran = c .before .before .before in
     let a = start ran .args in
-    let setup = setupOf (a .f) (a .count) (a .faulty) in
+    let setup = setupOf (a .f) (a .n) (a .count) (a .faulty) in
     let e = ran .run .ensures in (
       c .setup-number .ensures ∙ ap setupNumber (e .0),
       outcome-answers setup (a .steps .now) (a .out .now) _ _ _ _ _ _ _ (e .1),

@@ -15,7 +15,7 @@ start c = c .before .before .before .before .before .before .before
 
 -- the setup is accepted
 accepted : (c : tie.After-setup2) → let a = start (c .before .before) .args in
-    setupOf (a .f) (a .count) (a .faulty) ≡ Set (c .setup2 .given .0 .0)
+    setupOf (a .f) (a .n) (a .count) (a .faulty) ≡ Set (c .setup2 .given .0 .0)
 accepted c = sym (set-up-answer _ _ _ _ _ _ _ _ (c .before .before .set-up .ensures)) ∙ c .setup2 .given .1
 
 step-through-requires : tie.Need-step-through-requires
@@ -23,7 +23,7 @@ step-through-requires c κs =
     let counted = c .before .before .before .before in
     let set = counted .before .before in
     let n = counted .least .ensures in (
-      allowed-of _ (allowed-set _ _ _ _ (accepted set)),
+      allowed-of _ (allowed-set _ _ _ _ _ (accepted set)),
       set-up-stored _ _ _ _ _ _ _ _ (set .before .before .set-up .ensures) _ (set .setup2 .given .1),
       omega arith,
       omega arith,

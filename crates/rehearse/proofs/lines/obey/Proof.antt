@@ -11,7 +11,7 @@ use Rattle.rehearse.proofs.lines.obey.Tie as tie
 returns : tie.Need-returns
 returns c =
     rw (c .obeyed-of .ensures, c .before .before .before .line2 .given .1)
-    (λ n. obeys-early _ _ _ _ _ n _ (not-true _ (c .before .if1 .taken)))
+    (λ number. obeys-early _ _ _ _ _ number _ (not-true _ (c .before .if1 .taken)))
 
 -- a sound state is ready for a step
 make-step-requires : tie.Need-make-step-requires
@@ -33,12 +33,13 @@ returns-3 c =
     let tested = step .before .before .before .before in
     let told = tested .before .before in
     rw (c .obeyed-of2 .ensures, told .line2 .given .1)
-    (λ n. obeys-step _ _ _ _ _ n _ _ (not-false _ (tested .if1 .left)) (told .before .before .pre)
+    (λ number. obeys-step _ _ _ _ _ number _ _ (not-false _ (tested .if1 .left)) (told .before .before .pre)
     (step .make-step .ensures))
 
 -- neither
 returns-4 : tie.Need-returns-4
-returns-4 c = rw (c .obeyed-of3 .ensures, c .before .enum-told .given .1) (λ n. obeys-unread _ _ _ _ _ n)
+returns-4 c =
+    rw (c .obeyed-of3 .ensures, c .before .enum-told .given .1) (λ number. obeys-unread _ _ _ _ _ number)
 
 pub obey-spec : {M : Type 1} → statement M
 obey-spec = tie.close (tie.spec

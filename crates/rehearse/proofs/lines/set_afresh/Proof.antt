@@ -12,7 +12,7 @@ returns here =
     let done = accepted .before .before .set-up .ensures in
     let is = accepted .accepted .given .1 in
     rw (here .obeyed-of .ensures)
-    (λ n. obeys-set _ _ _ _ _ n _ _ _ _ _ _ _ (sym (set-up-answer _ _ _ _ _ _ _ _ done) ∙ is)
+    (λ number. obeys-set _ _ _ _ _ number _ _ _ _ _ _ _ _ (sym (set-up-answer _ _ _ _ _ _ _ _ done) ∙ is)
     (set-up-stored _ _ _ _ _ _ _ _ done _ is))
 
 returns-2 : tie.Need-returns-2
@@ -21,7 +21,7 @@ returns-2 here =
     let done = refused .before .before .set-up .ensures in
     let is = refused .why .given .1 in
     rw (here .obeyed-of2 .ensures)
-    (λ n. obeys-refused _ _ _ _ _ n _ _ _ _ _ _ _ (sym (set-up-answer _ _ _ _ _ _ _ _ done) ∙ is)
+    (λ number. obeys-refused _ _ _ _ _ number _ _ _ _ _ _ _ _ (sym (set-up-answer _ _ _ _ _ _ _ _ done) ∙ is)
     (set-up-kept _ _ _ _ _ _ _ _ done _ is))
 
 pub set-afresh-spec : {M : Type 1} → statement M

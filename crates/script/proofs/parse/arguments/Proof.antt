@@ -6,12 +6,12 @@ use Rattle.script.proofs.parse.arguments.Statement.{statement}
 use Rattle.script.proofs.parse.arguments.Tie as tie
 
 abbrev Inv-loop : tie.InvT-loop
-Inv-loop letter text numbers₀ earlier₀ later₀ at₀ numbers earlier later at =
+Inv-loop letter text numbers₀ earliest₀ earlier₀ later₀ at₀ numbers earliest earlier later at =
     (at ≤ length text) ×
-    (numbersThen numbers earlier later (drop at text) (lastOf letter) ≡ argumentsOf letter text)
+    (numbersThen numbers earliest earlier later (drop at text) (lastOf letter) ≡ argumentsOf letter text)
 
 abbrev μ-loop : tie.MeasureT-loop
-μ-loop letter text numbers₀ earlier₀ later₀ at₀ numbers earlier later at = numbers
+μ-loop letter text numbers₀ earliest₀ earlier₀ later₀ at₀ numbers earliest earlier later at = numbers
 
 loop-holds : tie.Need-loop-holds Inv-loop μ-loop
 unfolding argumentsOf

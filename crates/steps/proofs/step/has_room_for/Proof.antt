@@ -32,13 +32,14 @@ abbrev start-of : tie.Else1 → tie.Start
 start-of c = start-at (c .before)
 
 -- what the client's functions ask
-asked : (start : tie.Start) → let a = start .args in Asked (a .client) (a .settings .f) (a .own .now) (a .k)
+asked : (start : tie.Start) → let a = start .args in
+    Asked (a .client) (a .settings .n) (a .settings .f) (a .own .now) (a .k)
 asked start = (start .pre .1, start .pre .2, start .pre .3, start .pre .4, start .pre .5, start .pre .6)
 
 would-send-requires : tie.Need-would-send-requires
 would-send-requires c κs =
     let start = start-of c in
-    own-asked (start .args .client) (start .args .settings .f) _ _ (asked start)
+    own-asked (start .args .client) (start .args .settings .n) (start .args .settings .f) _ _ (asked start)
 
 returns-3 : tie.Need-returns-3
 returns-3 c =
@@ -49,7 +50,7 @@ returns-3 c =
     ∙ ap (roomUp (a .settings) (a .slots .now) (a .client .number - 1))
     (c .before .count-sent .ensures .0 ∙ ap length (c .before .before .would-send .ensures)
     ∙ ap (λ (x : Client). length
-    (takenOf (a .client .number) (x .f) (a .own .now) (a .k) (a .message) .sends)) (start .pre .1))
+    (takenOf (a .client .number) (x .n) (x .f) (a .own .now) (a .k) (a .message) .sends)) (start .pre .1))
 
 pub has-room-for-spec : {M : Type 1} → statement M
 has-room-for-spec =

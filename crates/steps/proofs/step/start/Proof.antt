@@ -29,11 +29,12 @@ start-of c = passed c .before .before .before
 
 -- the client that is loaded
 loaded : (c : tie.After-load) → let a = start-of c .args in
-    c .load .result ≡ client.loaded (a .d) (a .settings .f) (clientAt (a .clients .now) (a .d - 1))
+    c .load .result
+    ≡ client.loaded (a .d) (a .settings .n) (a .settings .f) (clientAt (a .clients .now) (a .d - 1))
 loaded c =
     let a = start-of c .args in
     c .load .ensures
-    ∙ ap (client.loaded (a .d) (a .settings .f))
+    ∙ ap (client.loaded (a .d) (a .settings .n) (a .settings .f))
     (lent (clientStart (a .d - 1)) clientLength (a .clients .now) _
     (c .before .before .before .client-start .ensures))
 

@@ -28,10 +28,11 @@ part-is c = lent (clientStart (start-of c .args .client .number - 1)) clientLeng
 
 -- what the client's functions ask
 asked : (c : tie.After-client-start)
-    → let a = start-of c .args in Asked (a .client) (a .settings .f) (part c) (a .k)
+    → let a = start-of c .args in Asked (a .client) (a .settings .n) (a .settings .f) (part c) (a .k)
 asked c =
     let start = start-of c in
-    subst (λ (l : List ℕ). Asked (start .args .client) (start .args .settings .f) l (start .args .k))
+    let a = start .args in
+    subst (λ (l : List ℕ). Asked (a .client) (a .settings .n) (a .settings .f) l (a .k))
     (sym (part-is c))
     (start .pre .6, start .pre .7, start .pre .2, start .pre .3, start .pre .4, start .pre .5)
 
@@ -42,14 +43,14 @@ place-of c = c .before .before .before .before
 room : (c : tie.After-has-room-for) → let a = start-of (place-of c) .args in
     c .has-room-for .result
     ≡ roomUp (a .settings) (a .slots .now) (a .client .number - 1)
-    (length (takenOf (a .client .number) (a .settings .f) (clientAt (a .clients .now) (a .client .number - 1))
-    (a .k)
+    (length (takenOf (a .client .number) (a .settings .n) (a .settings .f)
+    (clientAt (a .clients .now) (a .client .number - 1)) (a .k)
     (a .message) .sends))
 room c =
     let a = start-of (place-of c) .args in
     c .has-room-for .ensures
     ∙ ap (λ (l : List ℕ). roomUp (a .settings) (a .slots .now) (a .client .number - 1)
-    (length (takenOf (a .client .number) (a .settings .f) l (a .k) (a .message) .sends)))
+    (length (takenOf (a .client .number) (a .settings .n) (a .settings .f) l (a .k) (a .message) .sends)))
     (part-is (place-of c))
 
 has-room-for-requires : tie.Need-has-room-for-requires
@@ -67,7 +68,7 @@ returns c =
     (not-true _ (c .if1 .taken))
 
 take-message-requires : tie.Need-take-message-requires
-take-message-requires c κs = let place = place-of (c .before .before) in own-asked _ _ _ _ (asked place)
+take-message-requires c κs = let place = place-of (c .before .before) in own-asked _ _ _ _ _ (asked place)
 
 abbrev taken-at : tie.After-remove → tie.After-take-message
 taken-at c = c .before .before .before .before .before
@@ -85,8 +86,10 @@ returns-2 c =
     (not-false _ (at-if1 .if1 .left)) (at-take-message .take-message .result) _ _ _ _ _
     (at-remove .before .down .ensures)
     (at-take-message .take-message .ensures
-    ∙ ap (λ (x : Client). takenOf (a .client .number) (x .f) (part place) (a .k) (a .message)) (start .pre .6)
-    ∙ ap (λ (l : List ℕ). takenOf (a .client .number) (a .settings .f) l (a .k) (a .message)) (part-is place))
+    ∙ ap (λ (x : Client). takenOf (a .client .number) (x .n) (x .f) (part place) (a .k) (a .message))
+    (start .pre .6)
+    ∙ ap (λ (l : List ℕ). takenOf (a .client .number) (a .settings .n) (a .settings .f) l (a .k)
+    (a .message)) (part-is place))
     (put-back (clientStart (a .client .number - 1)) clientLength (a .clients .now) _
     (place .client-start .ensures) _ _ refl) (at-remove .remove .ensures) (c .send-up .ensures)
 

@@ -3,7 +3,7 @@
 -- Assumes nothing.
 use Rattle.basics.proofs.Prelude.{_≡_, refl, sym, ap, _∙_, true, List, take, drop, ℕ, _+_, _-_, arith}
 use Rattle.basics.proofs.Prelude.{not-true, needs}
-use Rattle.register.proofs.Vocabulary.{Message, Good, goes, size}
+use Rattle.register.proofs.Vocabulary.{Message, Good, goes}
 use Rattle.client.specs.declared.Client.{Client}
 use Rattle.client.specs.Memory as client
 use Rattle.client.specs.Sound.{isSoundMemory}
@@ -68,10 +68,11 @@ part-is c = lent (clientStart (start-of c .args .d - 1)) clientLength (start-of 
 
 -- the client that is loaded
 loaded : (c : tie.After-load) → let a = start-of (place-of c) .args in
-    c .load .result ≡ client.loaded (a .d) (a .settings .f) (clientAt (a .clients .now) (a .d - 1))
+    c .load .result
+    ≡ client.loaded (a .d) (a .settings .n) (a .settings .f) (clientAt (a .clients .now) (a .d - 1))
 loaded c =
     let a = start-of (place-of c) .args in
-    c .load .ensures ∙ ap (client.loaded (a .d) (a .settings .f)) (part-is (place-of c))
+    c .load .ensures ∙ ap (client.loaded (a .d) (a .settings .n) (a .settings .f)) (part-is (place-of c))
 
 number : (c : tie.After-load) → c .load .result .number ≡ start-of (place-of c) .args .d
 number c = ap (λ (x : Client). x .number) (loaded c)
@@ -83,7 +84,8 @@ is-taken-requires c κs =
       search needs,
       start .pre .4,
       omega (arith, start .pre .0, start .pre .5),
-      load .load .ensures ∙ ap (λ (x : Client). client.loaded (x .number) (x .f) (part (place-of load)))
+      load .load .ensures
+          ∙ ap (λ (x : Client). client.loaded (x .number) (x .n) (x .f) (part (place-of load)))
           (sym (load .load .ensures)),
     )
 
@@ -108,7 +110,7 @@ returns-2 c =
     ∙ not-true _ (c .before .before .if1 .taken) in
     off-gives (a .settings) (a .clients .now) (a .slots .now) (a .d) (a .k) (start .pre .0) (start .pre .7)
     (start .pre .2) (start .pre .3) (start .pre .6) _ (message-is place)
-    (not-taken (size (a .settings .f)) (a .settings .f) (a .d) _ (a .k) (message place) other) _ _
+    (not-taken (a .settings .n) (a .settings .f) (a .d) _ (a .k) (message place) other) _ _
     (first-of place .before .before .down .ensures) (c .remove2 .ensures)
 
 take-message-requires : tie.Need-take-message-requires
@@ -123,10 +125,10 @@ take-message-requires c κs =
       omega (arith, same, start .pre .3),
       start .pre .4,
       start .pre .5,
-      loaded load ∙ ap (λ (d : ℕ). client.loaded d (a .settings .f) (clientAt (a .clients .now) (d - 1)))
-          (sym same),
-      ap (λ (d : ℕ). isSoundMemory (a .settings .f) (clientAt (a .clients .now) (d - 1))) same
-          ∙ start .pre .6,
+      loaded load ∙ ap (λ (d : ℕ). client.loaded d (a .settings .n) (a .settings .f)
+          (clientAt (a .clients .now) (d - 1))) (sym same),
+      ap (λ (d : ℕ). isSoundMemory (a .settings .n) (a .settings .f)
+          (clientAt (a .clients .now) (d - 1))) same ∙ start .pre .6,
       ap (λ (d : ℕ). replyAt (a .slots .now) d (a .k)) same ∙ message-is (place-of load),
       start .pre .7,
       start .pre .8,

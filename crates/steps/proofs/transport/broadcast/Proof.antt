@@ -2,7 +2,7 @@
 -- Assumes nothing.
 use Rattle.basics.proofs.Prelude.{_≡_, refl, sym, ap, _∙_, ⊎-elim, ℕ, _-_, _≤_, arith, not-true, not-false}
 use Rattle.basics.proofs.Prelude.{needs}
-use Rattle.register.proofs.Vocabulary.{Message, wordsOf, size, mostServers}
+use Rattle.register.proofs.Vocabulary.{Message, wordsOf, mostServers}
 use Rattle.steps.specs.InMemory.{broadcast}
 use Rattle.steps.proofs.SendLaws.{put-message, broadcast-honest, broadcast-faulty}
 use Rattle.steps.proofs.transport.broadcast.Statement.{statement}
@@ -18,7 +18,7 @@ abbrev μ-loop : tie.MeasureT-loop
 
 loop-holds : tie.Need-loop-holds Inv-loop μ-loop
 unfolding broadcast
-loop-holds c = (search needs, omega (arith, c .servers .ensures), λ message e. refl)
+loop-holds c = (search needs, omega arith, λ message e. refl)
 
 loop-again : tie.Need-loop-again Inv-loop μ-loop
 loop-again c =
@@ -41,10 +41,9 @@ loop-again c =
 
 returns : tie.Need-returns Inv-loop μ-loop
 returns c =
-    let counted = c .before .before in
-    let at-words-of = counted .before .before in
+    let at-words-of = c .before .before .before .before in
     let a = at-words-of .before .args in
-    let last : c .before .loop .j ≡ size (a .settings .f) = omega (arith, counted .servers .ensures) in
+    let last : c .before .loop .j ≡ a .settings .n = omega arith in
     c .before .loop .inv .2 (a .message) (at-words-of .words-of .ensures)
     ∙ ap (λ (n : ℕ). broadcast (a .settings .faulty) (a .slots .now) (a .i) (a .message) n) last
 
@@ -52,6 +51,6 @@ pub broadcast-spec : {M : Type 1} → statement M
 broadcast-spec =
     tie.close
     (tie.spec
-    Inv-loop μ-loop (search needs) (search needs) (search needs) (search needs) loop-holds
+    Inv-loop μ-loop (search needs) (search needs) (search needs) loop-holds
     (λ c κs. omega arith) (λ c κs. omega arith) (λ c κs. omega arith)
     (search needs) (search needs) loop-again returns)

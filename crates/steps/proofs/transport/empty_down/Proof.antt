@@ -1,7 +1,7 @@
 -- `empty_down`: the loop has emptied the channels from the servers that it passed. Assumes nothing.
 use Rattle.basics.proofs.Prelude.{_≡_, refl, ap, _∙_, List, ℕ, _-_, _≤_, add-one, arith, needs}
 use Rattle.channel.specs.Memory.{cleared}
-use Rattle.register.proofs.Vocabulary.{size, mostServers}
+use Rattle.register.proofs.Vocabulary.{mostServers}
 use Rattle.state.specs.State.{downIndex}
 use Rattle.steps.specs.InMemory.{emptied}
 use Rattle.steps.proofs.transport.empty_down.Statement.{statement}
@@ -15,7 +15,7 @@ abbrev μ-loop : tie.MeasureT-loop
 
 loop-holds : tie.Need-loop-holds Inv-loop μ-loop
 unfolding emptied
-loop-holds c = (search needs, omega (arith, c .servers .ensures), refl)
+loop-holds c = (search needs, omega arith, refl)
 
 loop-again : tie.Need-loop-again Inv-loop μ-loop
 unfolding emptied
@@ -32,14 +32,13 @@ loop-again c =
 
 returns : tie.Need-returns Inv-loop μ-loop
 returns c =
-    let counted = c .before .before in
-    let a = counted .before .args in
-    let last : c .before .loop .j ≡ size (a .settings .f) = omega (arith, counted .servers .ensures) in
+    let a = c .before .before .before .args in
+    let last : c .before .loop .j ≡ a .settings .n = omega arith in
     c .before .loop .inv .2 ∙ ap (emptied (a .slots .now) (a .i)) last
 
 pub empty-down-spec : {M : Type 1} → statement M
 empty-down-spec =
     tie.close
     (tie.spec
-    Inv-loop μ-loop (search needs) (search needs) loop-holds
+    Inv-loop μ-loop (search needs) loop-holds
     (λ c κs. omega arith) (λ c κs. omega arith) (search needs) (search needs) loop-again returns)

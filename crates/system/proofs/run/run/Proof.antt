@@ -28,7 +28,7 @@ counted c = c .before .before .before .before
 
 -- the setup is accepted
 accepted : (c : tie.After-setup) → let a = start (c .before .before) .args in
-    setupOf (a .f) (a .count) (a .faulty) ≡ Set (c .setup .given .0 .0)
+    setupOf (a .f) (a .n) (a .count) (a .faulty) ≡ Set (c .setup .given .0 .0)
 accepted c = sym (set-up-answer _ _ _ _ _ _ _ _ (c .before .before .set-up .ensures)) ∙ c .setup .given .1
 
 step-all-requires : tie.Need-step-all-requires
@@ -36,7 +36,7 @@ step-all-requires c κs =
     let n = counted c in
     let told = n .before .before in
     let many = n .least .ensures in (
-      allowed-of _ (allowed-set _ _ _ _ (accepted told)),
+      allowed-of _ (allowed-set _ _ _ _ _ (accepted told)),
       set-up-stored _ _ _ _ _ _ _ _ (told .before .before .set-up .ensures) _ (told .setup .given .1),
       omega arith,
       omega arith,
@@ -61,7 +61,7 @@ returns-2 c =
       sym e,
       rw e (
         run-for _ (a .steps .now) (a .out .now) _ many (n .least .ensures) _ _ _ _ (all .step-all .ensures),
-        demand-three _ (allowed-set _ _ _ _ e .accepted) (stepsIn (a .steps .now) many),
+        demand-three _ (allowed-set _ _ _ _ _ e .accepted) (stepsIn (a .steps .now) many),
       ),
     )
 
