@@ -4,6 +4,7 @@ pub mod Entries
 pub mod Partition
 pub mod Kept
 pub mod Renewed
+pub mod Sum
 pub mod Differences
 pub mod Ends
 pub mod Left

@@ -3,10 +3,10 @@
 -- A licence's fields, moved to a year of the calendar, are a licence's (`later-licensed`): the date stays
 -- real (`Kept`) and the state is kept. So a renewed licence is a licence entry whose year is later by the
 -- span, with month, copies and state kept and the day by the rule (`renewed`). What may not be renewed is
--- refused, and nothing else (`renewed-when`, `refused-when`).
+-- refused, and nothing else (`renewed-when`, `refused-when`; by bounds `allowed-renewed`, `refused-unless`).
 -- Assumes nothing.
 use Rattle.basics.proofs.Prelude.{_≡_, ap, subst, true, false, _&&_, ℕ, _+_, _^_, _≤_, _<_, arith, leb}
-use Rattle.basics.proofs.Prelude.{leb-true}
+use Rattle.basics.proofs.Prelude.{leb-true, le-leb}
 use Rattle.basics.proofs.Cases.{by-test, both, clash}
 use Rattle.refusal.specs.Numbers.{numbered}
 use Rattle.calendar.specs.Calendar.{lastYear}
@@ -73,7 +73,16 @@ module _ (entry years : ℕ) where
   unfolding renewedOf
   refused-when f = rw f
 
+  pub refused-unless : (Renewable entry years → ⊥) → renewedOf entry years ≡ Renewal.Refused (numbered 8)
+  refused-unless h = by-test (isRenewable entry years) (λ t. absurd (h (renewable t))) refused-when
+
   module _ (allowed : Renewable entry years) where
+    pub allowed-renewed : renewedOf entry years ≡ Renewal.Entry (joined moved)
+    unfolding isRenewable
+    allowed-renewed =
+        renewed-when
+        (rw (allowed .licence, le-leb _ _ (allowed .years-most), le-leb _ _ (allowed .year-most)))
+
     moved-licensed : isLicensed moved ≡ true
     moved-licensed =
         later-licensed (fieldsOf entry) _ (entry-fields entry (allowed .licence)) (omega arith)
@@ -83,10 +92,10 @@ module _ (entry years : ℕ) where
     unfolding later
     moved-copies = fields-narrow entry .copies
 
-    same-fields : fieldsOf (joined moved) ≡ moved
+    pub same-fields : fieldsOf (joined moved) ≡ moved
     same-fields = split-join moved (narrow moved moved-licensed moved-copies)
 
-    is-renewed : Renewed entry years (joined moved)
+    pub is-renewed : Renewed entry years (joined moved)
     unfolding later
     is-renewed =
         record {

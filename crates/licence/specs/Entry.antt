@@ -4,7 +4,7 @@
 -- licence's last day.
 --
 -- In order: the places of the fields; splitting and joining; the states; what is a licence entry, the empty
--- entry, and no entry; the answer of joining any fields.
+-- entry, and no entry; the answer of joining any fields; a licence for examples.
 -- Assumes nothing.
 use Prim.Native.Nat.{ℕ, _+_, _^_, _<_}
 use mathlib.Core.Bool.{Bool, cond, not, _&&_}
@@ -99,3 +99,7 @@ joinedAnswer (some why) entry = Joined.Refused why
 -- the entry of any fields, refused where they are not a licence's
 unfoldable pub joinedOf : Fields → Joined
 joinedOf fields = joinedAnswer (lowest (8 whenever not (isLicensed fields) ∷ [])) (joined fields)
+
+-- for examples: an open licence of 40 copies that ends on a date
+abbrev pub ending : ℕ → ℕ → ℕ → Fields
+ending year month day = record { year = year; month = month; day = day; copies = 40; state = opened }

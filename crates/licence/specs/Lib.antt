@@ -1,3 +1,4 @@
 pub mod Entry
 pub mod Renewal
+pub mod Sum
 pub mod Verdict

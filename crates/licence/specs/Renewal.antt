@@ -1,8 +1,8 @@
--- Renewal by a number of years (01: 'Renewal by 0 to 10 years; 0 means 1').
+-- Renewal by a number of years (01: 'Renewal by 0 to 10 years; 0 means 1'; the day by 02, C-12).
 --
--- In order: the years that are added; the day that the end falls on in another year; the fields with their
--- end in another year; what may be renewed; the answer. Callers go by its laws (proofs/Renewed.antt), since
--- C-12 and C-16 change `keptDay` and `span`.
+-- In order: the years that are added; the last day of February, and the day that the end falls on in another
+-- year; the fields with their end in another year; what may be renewed; the answer. Callers go by its laws
+-- (proofs/Renewed.antt), since C-16 changes `span`.
 -- Assumes nothing.
 use Prim.Native.Nat.{ℕ, _+_}
 use mathlib.Core.Bool.{Bool, cond, not, _&&_}
@@ -11,7 +11,7 @@ use mathlib.Core.Option.{Option, none, some}
 use lib.Dec.{eqb, leb}
 use Rattle.refusal.specs.declared.Refusal.{Refusal}
 use Rattle.refusal.specs.Ladder.{_whenever_, lowest}
-use Rattle.calendar.specs.Calendar.{lastYear, leap}
+use Rattle.calendar.specs.Calendar.{lastYear, leap, monthLength}
 use Rattle.licence.specs.declared.Fields.{Fields}
 use Rattle.licence.specs.declared.Renewal.{Renewal}
 use Rattle.licence.specs.Entry.{fieldsOf, joined, isLicence}
@@ -20,10 +20,21 @@ use Rattle.licence.specs.Entry.{fieldsOf, joined, isLicence}
 unfoldable pub span : ℕ → ℕ
 span years = cond (eqb years 0) 1 years
 
--- the end's day in a year: it stays, but 29 February becomes the 28th where the year has no 29th
+abbrev pub february : ℕ
+february = 2
+
+-- the last day of February in a year: the 28th, or the 29th of a leap year
+unfoldable pub lastOfFebruary : ℕ → ℕ
+lastOfFebruary year = monthLength (leap year) february
+
+-- the end is on the last day of February
+unfoldable pub endsOnLastOfFebruary : Fields → Bool
+endsOnLastOfFebruary fields =
+    eqb (fields .month) february && eqb (fields .day) (lastOfFebruary (fields .year))
+
+-- the end's day in a year: the last day of February stays the last, and every other day stays
 unfoldable pub keptDay : Fields → ℕ → ℕ
-keptDay fields year =
-    cond (eqb (fields .month) 2 && eqb (fields .day) 29 && not (leap year)) 28 (fields .day)
+keptDay fields year = cond (endsOnLastOfFebruary fields) (lastOfFebruary year) (fields .day)
 
 -- the fields with their end in a year
 unfoldable pub later : Fields → ℕ → Fields

@@ -1,11 +1,11 @@
 // A licence entry of forty bits: its fields, its kind, renewal, days left and verdict (01, section 'Entry and
-// calendar').
+// calendar'; 02, C-12).
 ghost use mathlib.Core.Path.{_≡_};
 ghost use Prim.Native.Nat.{_^_, _<_};
 ghost use lib.IntN.{pos, _-ℤ_};
 ghost use Rattle.licence.specs.Entry.{fieldsOf, joined, Narrow, isLicensed, isLicence, kindOf};
 ghost use Rattle.licence.specs.Entry.{joinedOf};
-ghost use Rattle.licence.specs.Renewal.{span, keptDay, later, renewedOf};
+ghost use Rattle.licence.specs.Renewal.{span, lastOfFebruary, keptDay, later, renewedOf};
 ghost use Rattle.licence.specs.Verdict.{daysLeft, verdictBy, verdictOf};
 use calendar::DayNumber;
 use refusal::Refusal;
@@ -40,7 +40,9 @@ const SUSPENDED: u8 = 2;
 const WITHDRAWN: u8 = 3;
 
 // The most years that a renewal adds.
-const MOST_YEARS: u8 = 10;
+pub const MOST_YEARS: u8 = 10;
+
+const FEBRUARY: u8 = 2;
 
 // The fields of an entry. The date is the licence's last day.
 pub struct Fields {
@@ -138,12 +140,19 @@ fn years_added(years: u8) -> u8
     if years == 0 { 1 } else { years }
 }
 
+// The last day of February in a year.
+fn last_of_february(year: u16) -> u8
+    ensures { λ r. ⌜ r ≡ lastOfFebruary year ⌝ }
+{
+    if calendar::is_leap(year) { 29 } else { 28 }
+}
+
 // The day that the end falls on in another year.
 fn kept_day(fields: Fields, year: u16) -> u8
     ensures { λ r. ⌜ r ≡ keptDay fields year ⌝ }
 {
-    if fields.month == 2 && fields.day == 29 && !calendar::is_leap(year) {
-        return 28;
+    if fields.month == FEBRUARY && fields.day == last_of_february(fields.year) {
+        return last_of_february(year);
     }
     fields.day
 }

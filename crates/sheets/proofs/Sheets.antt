@@ -4,7 +4,8 @@ use mathlib.Core.Path.{refl}
 use Rattle.calendar.specs.Calendar.{leap, yearLength, firstDay, monthLength}
 use Rattle.calendar.specs.Calendar.{daysBefore, isDate, dayOf, dayNumber}
 use Rattle.licence.specs.Entry.{isLicensed, isLicence, kindOf, joinedOf}
-use Rattle.licence.specs.Renewal.{span, keptDay, later, isRenewable, renewedOf}
+use Rattle.licence.specs.Renewal.{span, lastOfFebruary, endsOnLastOfFebruary, keptDay, later}
+use Rattle.licence.specs.Renewal.{isRenewable, renewedOf}
 use Rattle.licence.specs.Verdict.{daysLeft, verdictBy, verdictOf}
 use Rattle.basics.specs.Bytes.{bigEndian}
 use Rattle.basics.specs.Counting.{countBelow}
@@ -16,8 +17,16 @@ use Rattle.sheets.specs.Sheets.{Entries, Days, Messages, Counting, Sheet
 
 entries : Entries
 unfolding leap monthLength isDate isLicensed isLicence kindOf joinedOf
-    span keptDay later isRenewable renewedOf
-entries = record { packed = refl; other-year = refl; renewed-by-1 = refl; renewed-by-4 = refl }
+    span lastOfFebruary endsOnLastOfFebruary keptDay later isRenewable renewedOf
+entries =
+    record {
+      packed = refl;
+      other-year = refl;
+      renewed-by-1 = refl;
+      renewed-by-4 = refl;
+      last-renewed = refl;
+      not-last-renewed = refl;
+    }
 
 days : Days
 unfolding leap yearLength firstDay monthLength daysBefore isDate dayOf dayNumber

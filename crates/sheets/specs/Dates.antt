@@ -8,6 +8,7 @@ use Rattle.calendar.specs.Calendar.{dayNumber}
 use Rattle.sheets.specs.declared.dates.Digests.{Digests}
 use Rattle.sheets.specs.Digest.{mixed, inTurn}
 use Rattle.sheets.specs.Licences.{withRenewals, withEnd}
+use Rattle.sheets.specs.Sums.{withSums}
 
 -- an entry that ends on a date, with copies that change from date to date
 abbrev pub entryOf : ℕ → ℕ → ℕ → ℕ → ℕ
@@ -20,22 +21,38 @@ numberIn (DayNumber.Refused why) digest = mixed (numberOf why) digest
 unfoldable pub withNumber : ℕ → ℕ → ℕ → ℕ → ℕ
 withNumber year month day digest = numberIn (dayNumber year month day) digest
 
+-- all but the day number, for one entry
+unfoldable pub withState : ℕ → ℕ → ℕ → ℕ → Digests → Digests
+withState year month day state digests =
+    let given = entryOf year month day state in
+    record {
+      numbers = digests .numbers;
+      renewals = withRenewals given (digests .renewals);
+      verdicts = withEnd given year month day (digests .verdicts);
+      sums = withSums given (digests .sums);
+    }
+
 -- entries of the states 0 to 4
-abbrev pub withStates : ℕ → ℕ → ℕ → ℕ → ℕ
-withStates year month day digest =
-    inTurn (λ (state : ℕ). withEnd (entryOf year month day state) year month day) 5 digest
+abbrev pub withStates : ℕ → ℕ → ℕ → Digests → Digests
+withStates year month day digests = inTurn (withState year month day) 5 digests
 
 abbrev pub withDate : ℕ → ℕ → ℕ → Digests → Digests
 withDate year month day digests =
+    let judged = withStates year month day digests in
     record {
       numbers = withNumber year month day (digests .numbers);
-      renewals = withRenewals (entryOf year month day 1) (digests .renewals);
-      verdicts = withStates year month day (digests .verdicts);
+      renewals = judged .renewals;
+      verdicts = judged .verdicts;
+      sums = judged .sums;
     }
 
 -- the i-th pattern: months 0 to 15, days 0 to 31
 abbrev pub withPattern : ℕ → ℕ → Digests → Digests
 withPattern year i = withDate year (i / 32) (i % 32)
 
+abbrev pub noDigests : Digests
+noDigests =
+    record { numbers = 0; renewals = 0; verdicts = 0; sums = record { twice = 0; differing = 0 } }
+
 abbrev pub yearDigests : ℕ → Digests
-yearDigests year = inTurn (withPattern year) 512 (record { numbers = 0; renewals = 0; verdicts = 0 })
+yearDigests year = inTurn (withPattern year) 512 noDigests

@@ -1,5 +1,6 @@
 pub mod Digest
 pub mod Licences
+pub mod Sums
 pub mod Dates
 pub mod Messages
 pub mod Sheets

@@ -1,5 +1,5 @@
--- The marked proof sheets of 01 as one table, `Sheets`, whose proof is computed from the definitions
--- (proofs/Sheets.antt).
+-- The marked proof sheets of 01 as one table, `Sheets`, with C-12's two, whose proof is computed from the
+-- definitions (proofs/Sheets.antt).
 --
 -- In order: entries; days; messages; what counts, and what a set keeps; all of them.
 -- Assumes nothing.
@@ -13,13 +13,12 @@ use lib.IntN.{negsuc}
 use lib.ListN.{getD}
 use Rattle.calendar.specs.Calendar.{dayNumber}
 use Rattle.calendar.specs.declared.DayNumber.the-variants.{Day}
-use Rattle.licence.specs.declared.Fields.{Fields}
 use Rattle.licence.specs.declared.Joined.{Joined}
 use Rattle.licence.specs.declared.Kind.the-variants.{Nothing}
 use Rattle.licence.specs.declared.Renewal.{Renewal}
 use Rattle.licence.specs.declared.DaysLeft.{DaysLeft}
 use Rattle.licence.specs.declared.Verdict.the-variants.{Pulp}
-use Rattle.licence.specs.Entry.{joined, joinedOf, kindOf, opened}
+use Rattle.licence.specs.Entry.{joined, joinedOf, kindOf, ending}
 use Rattle.licence.specs.Renewal.{renewedOf}
 use Rattle.licence.specs.Verdict.{daysLeft, verdictOf}
 use Rattle.message.specs.declared.Message.the-variants.{WriteInfo}
@@ -30,10 +29,6 @@ use Rattle.register.specs.declared.Phase.the-variants.{Reading}
 use Rattle.register.specs.PairSet.{add}
 use Rattle.register.specs.Client.{Client, counts, setLimit}
 
--- an open licence of 40 copies that ends on a date
-abbrev pub ending : ℕ → ℕ → ℕ → Fields
-ending year month day = record { year = year; month = month; day = day; copies = 40; state = opened }
-
 -- entries and renewals
 pub record Entries : Type 0 where
   -- 29 February 2024, 40 copies, open is 7E82E80141
@@ -43,6 +38,9 @@ pub record Entries : Type 0 where
   -- it renewed by 1 ends 28 February 2025; by 4, 29 February 2028
   pub renewed-by-1 : renewedOf 0x7E82E80141 1 ≡ Renewal.Entry (joined (ending 2025 2 28))
   pub renewed-by-4 : renewedOf 0x7E82E80141 4 ≡ Renewal.Entry (joined (ending 2028 2 29))
+  -- 28 February 2027 renewed by 1 ends on 29 February 2028; 28 February 2028 on 28 February 2029 (02, C-12)
+  pub last-renewed : renewedOf (joined (ending 2027 2 28)) 1 ≡ Renewal.Entry (joined (ending 2028 2 29))
+  pub not-last-renewed : renewedOf (joined (ending 2028 2 28)) 1 ≡ Renewal.Entry (joined (ending 2029 2 28))
 
 -- day numbers, days left, verdicts
 pub record Days : Type 0 where

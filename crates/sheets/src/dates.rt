@@ -1,10 +1,13 @@
 // Digests of a year over every pattern of month and day that an entry can hold, real dates or not.
 ghost use mathlib.Core.Path.{_≡_};
 ghost use Prim.Native.Nat.{_≤_, _<_};
-ghost use Rattle.sheets.specs.Dates.{entryOf, withNumber, withStates, withDate, yearDigests};
+ghost use Rattle.sheets.specs.Dates.{entryOf, withNumber, withState, withStates, withDate};
+ghost use Rattle.sheets.specs.Dates.{yearDigests};
 use crate::digest::mix;
 use crate::licences::with_end;
 use crate::licences::with_renewals;
+use crate::sums::Sums;
+use crate::sums::with_sums;
 use calendar::DayNumber;
 
 // States 1 to 3, and one too low and one too high.
@@ -13,11 +16,12 @@ const STATES: u8 = 5;
 // Months 0 to 15, days 0 to 31.
 const PATTERNS: u16 = 512;
 
-// A year's digests: day numbers, renewals, days left with verdicts.
+// A year's digests: day numbers, renewals, days left with verdicts, two renewals beside one by the sum.
 pub struct Digests {
     pub numbers: u64,
     pub renewals: u64,
     pub verdicts: u64,
+    pub sums: Sums,
 }
 
 // An entry that ends on a date, with copies that change from date to date.
@@ -38,20 +42,37 @@ fn with_number(digest: u64, year: u16, month: u8, day: u8) -> u64
     }
 }
 
-fn with_states(start: u64, year: u16, month: u8, day: u8) -> u64
+// All but the day number, for one entry.
+fn with_state(digests: Digests, year: u16, month: u8, day: u8, state: u8) -> Digests
+    requires { ⌜ 1 ≤ year ⌝ }
+    requires { ⌜ year < 65535 ⌝ }
+    requires { ⌜ month < 16 ⌝ }
+    requires { ⌜ day < 32 ⌝ }
+    ensures { λ r. ⌜ r ≡ withState year month day state digests ⌝ }
+{
+    let given = entry(year, month, day, state);
+    Digests {
+        numbers: digests.numbers,
+        renewals: with_renewals(digests.renewals, given),
+        verdicts: with_end(digests.verdicts, given, year, month, day),
+        sums: with_sums(digests.sums, given),
+    }
+}
+
+fn with_states(start: Digests, year: u16, month: u8, day: u8) -> Digests
     requires { ⌜ 1 ≤ year ⌝ }
     requires { ⌜ year < 65535 ⌝ }
     requires { ⌜ month < 16 ⌝ }
     requires { ⌜ day < 32 ⌝ }
     ensures { λ r. ⌜ r ≡ withStates year month day start ⌝ }
 {
-    let mut digest = start;
+    let mut digests = start;
     let mut state: u8 = 0;
     while state < STATES {
-        digest = with_end(digest, entry(year, month, day, state), year, month, day);
+        digests = with_state(digests, year, month, day, state);
         state += 1;
     }
-    digest
+    digests
 }
 
 fn with_date(digests: Digests, year: u16, month: u8, day: u8) -> Digests
@@ -61,11 +82,9 @@ fn with_date(digests: Digests, year: u16, month: u8, day: u8) -> Digests
     requires { ⌜ day < 32 ⌝ }
     ensures { λ r. ⌜ r ≡ withDate year month day digests ⌝ }
 {
-    Digests {
-        numbers: with_number(digests.numbers, year, month, day),
-        renewals: with_renewals(digests.renewals, entry(year, month, day, 1)),
-        verdicts: with_states(digests.verdicts, year, month, day),
-    }
+    let mut next = with_states(digests, year, month, day);
+    next.numbers = with_number(digests.numbers, year, month, day);
+    next
 }
 
 pub fn of_year(year: u16) -> Digests
@@ -77,6 +96,10 @@ pub fn of_year(year: u16) -> Digests
         numbers: 0,
         renewals: 0,
         verdicts: 0,
+        sums: Sums {
+            twice: 0,
+            differing: 0,
+        },
     };
     let mut i: u16 = 0;
     while i < PATTERNS {

@@ -6,11 +6,12 @@ ghost use Rattle.sheets.specs.Licences.{dayBefore, near, monthBefore, ye
 use crate::digest::mix;
 use crate::digest::raise;
 use licence::DaysLeft;
+use licence::MOST_YEARS;
 use licence::Renewal;
 use licence::Verdict;
 
 // Lengths 0 to 10, and one too many.
-const LENGTHS: u8 = 12;
+const LENGTHS: u8 = MOST_YEARS + 2;
 
 fn with_renewal(digest: u64, entry: u64, years: u8) -> u64
     ensures { λ r. ⌜ r ≡ withRenewal entry years digest ⌝ }

@@ -9,6 +9,7 @@ mod dates;
 mod digest;
 mod licences;
 mod messages;
+mod sums;
 
 use dates::Digests;
 
@@ -27,6 +28,10 @@ fn print_line(year: u16, digests: Digests) {
     io::print_decimal(1, digests.renewals);
     io::write_all(1, b" ");
     io::print_decimal(1, digests.verdicts);
+    io::write_all(1, b" ");
+    io::print_decimal(1, digests.sums.twice);
+    io::write_all(1, b" ");
+    io::print_decimal(1, digests.sums.differing);
     io::write_all(1, b"\n");
 }
 

@@ -1,18 +1,14 @@
 -- `of_year`: after i turns the digests are those of the first i patterns.
 -- Assumes nothing.
 use Rattle.basics.proofs.Prelude.{_≡_, _-_, _≤_, arith, needs}
-use Rattle.sheets.specs.declared.dates.Digests.{Digests}
 use Rattle.sheets.specs.Digest.{inTurn}
-use Rattle.sheets.specs.Dates.{withPattern}
+use Rattle.sheets.specs.Dates.{withPattern, noDigests}
 use Rattle.sheets.proofs.Turns.{no-turn, one-more}
 use Rattle.sheets.proofs.dates.of_year.Statement.{statement}
 use Rattle.sheets.proofs.dates.of_year.Tie as tie
 
-abbrev zeros : Digests
-zeros = record { numbers = 0; renewals = 0; verdicts = 0 }
-
 abbrev Inv-loop : tie.InvT-loop
-Inv-loop year digest₀ i₀ digest i = (i ≤ 512) × (digest ≡ inTurn (withPattern year) i zeros)
+Inv-loop year digest₀ i₀ digest i = (i ≤ 512) × (digest ≡ inTurn (withPattern year) i noDigests)
 
 abbrev μ-loop : tie.MeasureT-loop
 μ-loop year digest₀ i₀ digest i = 512 - i
