@@ -143,7 +143,7 @@ def test_law(end, twice, once):
     """C-12's law for a date: the answers of renewing twice and of renewing once by the sum, in the order of LENGTHS."""
     year, month, day = end
     may_differ = (month, day) == (2, 28) and (year, 2, 29) in NUMBERS
-    for (first, second), by_two, by_one in zip(LENGTHS, twice, once):
+    for (first, second), by_two, by_one in zip(LENGTHS, twice, once, strict=True):
         late = year + first + second > 2199
         if by_two != by_one and not may_differ:
             broken = "only 28 February of a leap year may differ"
@@ -203,7 +203,7 @@ def line(year, counts):
                 for other in around:
                     verdicts = digest(verdicts, judged(end, state, other))
                 by_two, by_one = renewed_both_ways(fields)
-                differences = [int(two != one) for two, one in zip(by_two, by_one)]
+                differences = [int(two != one) for two, one in zip(by_two, by_one, strict=True)]
                 twice = digest(twice, by_two)
                 differing = digest(differing, differences)
                 if is_licence(*fields):

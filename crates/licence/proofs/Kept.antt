@@ -25,20 +25,22 @@ span-given years h = rw (ne-eqb years 0 (λ e. omega arith))
 
 -- February's last day, by the year
 module _ (year : ℕ) where
-  pub leap-end : leap year ≡ true → lastOfFebruary year ≡ 29
+  pub last-in-leap-year : leap year ≡ true → lastOfFebruary year ≡ 29
   unfolding lastOfFebruary monthLength
-  leap-end l = rw l
+  last-in-leap-year l = rw l
 
-  pub common-end : leap year ≡ false → lastOfFebruary year ≡ 28
+  pub last-in-common-year : leap year ≡ false → lastOfFebruary year ≡ 28
   unfolding lastOfFebruary monthLength
-  common-end l = rw l
+  last-in-common-year l = rw l
 
-  end-most : lastOfFebruary year ≤ 29
-  end-most = by-test (leap year) (λ l. omega (arith, leap-end l)) (λ l. omega (arith, common-end l))
+  last-most : lastOfFebruary year ≤ 29
+  last-most =
+      by-test (leap year) (λ l. omega (arith, last-in-leap-year l))
+      (λ l. omega (arith, last-in-common-year l))
 
-  pub end-least : 28 ≤ lastOfFebruary year
+  pub last-least : 28 ≤ lastOfFebruary year
   unfolding lastOfFebruary
-  end-least = month-least (leap year) february
+  last-least = month-least (leap year) february
 
 -- only February's length depends on the year
 other-month : (leapYear otherYear : Bool) (month : ℕ) → month ≢ february
@@ -93,7 +95,7 @@ module _ (fields : Fields) (year : ℕ) where
   -- 28 February of a leap year is not the last
   pub leap-28-stays : leap (fields .year) ≡ true → fields .day ≡ 28 → keptDay fields year ≡ 28
   leap-28-stays l d =
-      day-stays (not-last fields (λ p. omega (arith, d, p .1, leap-end (fields .year) l))) ∙ d
+      day-stays (not-last fields (λ p. omega (arith, d, p .1, last-in-leap-year (fields .year) l))) ∙ d
 
   module _ (bounds : Real (fields .year) (fields .month) (fields .day)) where
     abbrev Within : Type 0
@@ -102,14 +104,14 @@ module _ (fields : Fields) (year : ℕ) where
     within-last : endsOnLastOfFebruary fields ≡ true → Within
     within-last t =
         let new = february-length (fields .month) year (last-parts fields t .0) in
-        (omega (arith, last-stays t, end-least year), omega (arith, last-stays t, new))
+        (omega (arith, last-stays t, last-least year), omega (arith, last-stays t, new))
 
     within-february : endsOnLastOfFebruary fields ≡ false → fields .month ≡ february → Within
     within-february f m =
         let new = february-length (fields .month) year m in
         let before = before-last fields bounds f m in (
           omega (arith, day-stays f, bounds .day-least),
-          omega (arith, day-stays f, before, new, end-least year, end-most (fields .year)),
+          omega (arith, day-stays f, before, new, last-least year, last-most (fields .year)),
         )
 
     within-other : endsOnLastOfFebruary fields ≡ false → fields .month ≢ february → Within

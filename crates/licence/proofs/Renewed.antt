@@ -43,7 +43,7 @@ pub record Renewable (entry years : ℕ) : Type 0 where
   pub years-most : years ≤ mostYears
   pub year-most : fieldsOf entry .year + span years ≤ lastYear
 
--- what the renewed entry r is
+-- what the renewed entry is
 pub record Renewed (entry years result : ℕ) : Type 0 where
   pub renewable : Renewable entry years
   pub licence : isLicence result ≡ true

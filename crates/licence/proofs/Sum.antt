@@ -21,8 +21,8 @@ use Rattle.licence.specs.Renewal.{isRenewable, renewedOf}
 use Rattle.licence.specs.Sum.{renewedAgain, renewedTwice, endsOn28InLeapYear, Lengths, SumLaw}
 use Rattle.licence.proofs.Licensed.{licensed}
 use Rattle.licence.proofs.Entries.{entry-fields}
-use Rattle.licence.proofs.Kept.{span-given, leap-end, common-end, end-least, last-parts, last-of}
-use Rattle.licence.proofs.Kept.{not-last, before-last, last-stays, day-stays}
+use Rattle.licence.proofs.Kept.{span-given, last-in-leap-year, last-in-common-year, last-least}
+use Rattle.licence.proofs.Kept.{last-parts, last-of, not-last, before-last, last-stays, day-stays}
 use Rattle.licence.proofs.Renewed.{Renewable, allowed-renewed, refused-unless, same-fields, is-renewed}
 
 -- an end in another year, and from there in another
@@ -34,8 +34,8 @@ module _ (fields : Fields) (bounds : Real (fields .year) (fields .month) (fields
       let before = before-last fields bounds f m in
       by-test (leap (fields .year))
       (λ l. let not-28 = eqb-false (fields .day) 28 (rw (l, eq-eqb (fields .month) february m) at other) in
-      omega (arith, before, leap-end (fields .year) l))
-      (λ l. omega (arith, before, common-end (fields .year) l))
+      omega (arith, before, last-in-leap-year (fields .year) l))
+      (λ l. omega (arith, before, last-in-common-year (fields .year) l))
 
   module _ (year next : ℕ) where
     last-again : endsOnLastOfFebruary fields ≡ true → endsOnLastOfFebruary (later fields year) ≡ true
@@ -46,7 +46,7 @@ module _ (fields : Fields) (bounds : Real (fields .year) (fields .month) (fields
     unfolding later
     not-last-again f =
         let kept = day-stays fields year f in
-        not-last (later fields year) (λ p. omega (arith, kept, before-28 f (p .0), p .1, end-least year))
+        not-last (later fields year) (λ p. omega (arith, kept, before-28 f (p .0), p .1, last-least year))
 
     kept-again : keptDay (later fields year) next ≡ keptDay fields next
     unfolding later

@@ -38,12 +38,12 @@ withStates year month day digests = inTurn (withState year month day) 5 digests
 
 abbrev pub withDate : ℕ → ℕ → ℕ → Digests → Digests
 withDate year month day digests =
-    let judged = withStates year month day digests in
+    let next = withStates year month day digests in
     record {
       numbers = withNumber year month day (digests .numbers);
-      renewals = judged .renewals;
-      verdicts = judged .verdicts;
-      sums = judged .sums;
+      renewals = next .renewals;
+      verdicts = next .verdicts;
+      sums = next .sums;
     }
 
 -- the i-th pattern: months 0 to 15, days 0 to 31

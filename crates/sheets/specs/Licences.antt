@@ -11,7 +11,7 @@ use Rattle.refusal.specs.Numbers.{numberOf}
 use Rattle.licence.specs.declared.Renewal.{Renewal}
 use Rattle.licence.specs.declared.DaysLeft.{DaysLeft}
 use Rattle.licence.specs.declared.Verdict.{Verdict}
-use Rattle.licence.specs.Renewal.{renewedOf}
+use Rattle.licence.specs.Renewal.{mostYears, renewedOf}
 use Rattle.licence.specs.Verdict.{daysLeft, verdictOf}
 use Rattle.sheets.specs.Digest.{mixed, raised, inTurn}
 
@@ -22,9 +22,9 @@ renewalIn (Renewal.Refused why) digest = mixed (numberOf why) digest
 unfoldable pub withRenewal : ℕ → ℕ → ℕ → ℕ
 withRenewal entry years digest = renewalIn (renewedOf entry years) digest
 
--- by 0 to 10 years, and by one too many
+-- by 0 years up to the most, and by one too many
 abbrev pub withRenewals : ℕ → ℕ → ℕ
-withRenewals entry digest = inTurn (withRenewal entry) 12 digest
+withRenewals entry digest = inTurn (withRenewal entry) (mostYears + 2) digest
 
 abbrev pub daysIn : DaysLeft → ℕ → ℕ
 daysIn (DaysLeft.Days days) digest = mixed (raised days) (mixed 0 digest)

@@ -1,4 +1,4 @@
--- The marked proof sheets of 01 as one table, `Sheets`, with C-12's two, whose proof is computed from the
+-- The marked proof sheets of 01, with C-12's two, as one table, `Sheets`, whose proof is computed from the
 -- definitions (proofs/Sheets.antt).
 --
 -- In order: entries; days; messages; what counts, and what a set keeps; all of them.

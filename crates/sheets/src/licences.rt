@@ -10,7 +10,7 @@ use licence::MOST_YEARS;
 use licence::Renewal;
 use licence::Verdict;
 
-// Lengths 0 to 10, and one too many.
+// Lengths from 0 to the most, and one too many.
 const LENGTHS: u8 = MOST_YEARS + 2;
 
 fn with_renewal(digest: u64, entry: u64, years: u8) -> u64

@@ -1,7 +1,7 @@
 -- `last_of_february`: the test for a leap year is the definition's.
 -- Assumes nothing.
 use Rattle.basics.proofs.Prelude.{sym, _∙_, needs}
-use Rattle.licence.proofs.Kept.{leap-end, common-end}
+use Rattle.licence.proofs.Kept.{last-in-leap-year, last-in-common-year}
 use Rattle.licence.proofs.last_of_february.Statement.{statement}
 use Rattle.licence.proofs.last_of_february.Tie as tie
 
@@ -10,5 +10,5 @@ last-of-february-spec =
     tie.close
     (tie.spec
     (search needs)
-    (λ c. sym (leap-end _ (sym (c .before .is-leap .ensures) ∙ c .if1 .taken)))
-    (λ c. sym (common-end _ (sym (c .before .is-leap .ensures) ∙ c .if1 .left))))
+    (λ c. sym (last-in-leap-year _ (sym (c .before .is-leap .ensures) ∙ c .if1 .taken)))
+    (λ c. sym (last-in-common-year _ (sym (c .before .is-leap .ensures) ∙ c .if1 .left))))
