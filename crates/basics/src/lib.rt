@@ -1,5 +1,7 @@
 // What is not about licences or registers: a byte as a wider number, the bytes of a number, the lower of two,
 // the digits of a number.
+#![tactic(auto)]
+
 ghost use Rattle.std.specs.Prelude.{◌≡◌, ◌<◌, ◌+◌, ◌*◌, ◌/◌, ◌%◌, ◌^◌, min};
 ghost use Rattle.basics.specs.Digits.{hex_digit};
 

@@ -1,5 +1,7 @@
 // The Gregorian calendar from 1900 to 2199: leap years, real dates, day numbers (01, section 'Entry and
 // calendar').
+#![tactic(auto)]
+
 ghost use Rattle.std.specs.Prelude.{◌≡◌, ◌<◌};
 ghost use Rattle.calendar.specs.Calendar.{year_count, leap, first_day, month_length, days_before};
 ghost use Rattle.calendar.specs.Calendar.{is_date, day_number};

@@ -4,6 +4,8 @@
 // Channel i has its count at place i. Behind the counts each channel has eight slots of two numbers, oldest
 // message first. A slot that is not used is zero. What the numbers stand for is in specs/Layout; proofs/ has
 // the laws that callers use.
+#![tactic(auto)]
+
 ghost use Rattle.std.specs.Prelude.{◌≡◌, ◌+◌, ◌*◌, ◌<◌, ◌≤◌, replicate};
 ghost use Rattle.basics.specs.Tests.{all_pass, all_below};
 ghost use Rattle.channel.specs.Sound.{channel_tests, slot_goes, sound, words_go, zero_from};

@@ -2,6 +2,8 @@
 // in memory that it is lent (specs/Memory). Inside a step the client is loaded, goes by value, and its head
 // is stored again. The inner functions ask for a sound client; the entry points, at the end, ask for nothing
 // and refuse. The memory has neither the client's number nor n and f: a caller gives the same at each call.
+#![tactic(auto)]
+
 ghost use Rattle.std.specs.Prelude.{◌≡◌, true, false, ◌+◌, ◌<◌, ◌≤◌, length, replicate};
 ghost use Rattle.message.specs.Layout.{last_read};
 ghost use Rattle.register.specs.Settings.{most_clients, most_servers};

@@ -1,5 +1,7 @@
 // A licence entry of forty bits: its fields, its kind, renewal, days left and verdict (01, section 'Entry and
 // calendar'; 02, C-12).
+#![tactic(auto)]
+
 ghost use Rattle.std.specs.Prelude.{◌≡◌, ◌^◌, ◌<◌, pos, ◌-ℤ◌};
 ghost use Rattle.licence.specs.Entry.{fields_of, joined, Narrow, is_licensed, is_licence, kind_of};
 ghost use Rattle.licence.specs.Entry.{joined_of};

@@ -1,4 +1,6 @@
 // The refusals, each with its number in paper 01's table. Everything that refuses uses this enum.
+#![tactic(auto)]
+
 ghost use Rattle.std.specs.Prelude.{◌≡◌};
 ghost use Rattle.refusal.specs.Numbers.{number_of};
 

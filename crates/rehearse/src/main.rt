@@ -2,6 +2,8 @@
 //
 // Input and output go in blocks of fixed size, for any number of lines of any length. Here are only the
 // reads and writes: what is made of a block is in `lines`, and what all turns together write in specs/Blocks.
+#![tactic(auto)]
+
 ghost use Rattle.std.specs.Prelude.{◌+◌, ◌<◌, ◌≤◌, ◌≡◌, length, take, drop};
 ghost use Rattle.script.specs.Writing.{Written};
 ghost use Rattle.rehearse.specs.Blocks.{joined, input_bytes, output_bytes};

@@ -1,5 +1,7 @@
 // What the servers have replied to one client, in memory that it is lent, in four rows (specs/Replies).
 // A server is named here by its place, which is its number less one.
+#![tactic(auto)]
+
 ghost use Rattle.std.specs.Prelude.{◌≡◌, cond, suc, ◌+◌, ◌*◌, ◌<◌, ◌≤◌, length, drop, replicate};
 ghost use Rattle.basics.specs.Counting.{count_below};
 ghost use Rattle.register.specs.Settings.{most_servers};

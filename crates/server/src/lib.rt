@@ -1,6 +1,8 @@
 // The server (01: the keeper end): one pair and a set of reading clients, and what it answers to each
 // message. It stands in memory that it is lent (specs/Memory). Inside a step it is loaded, goes by value, and
 // is stored again.
+#![tactic(auto)]
+
 ghost use Rattle.std.specs.Prelude.{◌≡◌, true, ℕ, ◌≤◌, length};
 ghost use Rattle.register.specs.Server.{stored};
 ghost use Rattle.register.specs.Settings.{most_clients};

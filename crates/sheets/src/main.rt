@@ -2,6 +2,8 @@
 // prints digests.
 //
 // `tests/sheets_oracle.py` computes the same lines another way, and `stdout` is what it wrote.
+#![tactic(auto)]
+
 ghost use Rattle.std.specs.Prelude.{◌<◌, ◌^◌};
 ghost use Rattle.message.specs.Layout.{kind_bits};
 

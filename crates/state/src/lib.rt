@@ -1,5 +1,7 @@
 // The state of the whole system (01, 'Rehearsal'): settings by value, all else in three lent arrays of
 // numbers. All zero is the setup. What stands where is in specs/State.
+#![tactic(auto)]
+
 ghost use Rattle.std.specs.Prelude.{◌≡◌, suc, ◌<◌};
 ghost use Rattle.basics.specs.BitSets.{contains};
 ghost use Rattle.register.specs.Settings.{most_servers, most_clients};
