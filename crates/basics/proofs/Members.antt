@@ -7,6 +7,7 @@ use Rattle.basics.proofs.Cases.{by_either}
 
 module _ {A : Type 0} where
   pub member_left : (a : A) (s t : List A) → Member a s → Member a (s ++ t)
+  member_left a [] t x' = elim x' [ ]
   member_left a (x ∷ s) t (inl e) = inl e
   member_left a (x ∷ s) t (inr m) = inr (member_left a s t m)
 
@@ -35,5 +36,6 @@ module _ {A : Type 0} where
   every_of P (x ∷ xs) h = (h x (inl refl), every_of P xs (λ a m. h a (inr m)))
 
   pub every_at : (P : A → Type 0) (list : List A) → Every P list → (a : A) → Member a list → P a
+  every_at P [] h a x'' = elim x'' [ ]
   every_at P (x ∷ xs) h a (inl e) = subst P (sym e) h.0
   every_at P (x ∷ xs) h a (inr m) = every_at P xs h.1 a m

@@ -18,6 +18,7 @@ use Rattle.basics.proofs.Members.{Every, every_of, every_at}
 -- ---- places
 
 pub place : (list : List ℕ) (a : ℕ) → Member a list → (i : ℕ) × At list a i
+place [] a x' = elim x' [ ]
 place (x ∷ xs) a (inl e) = (0, record { inside = omega arith; is = sym e })
 place (x ∷ xs) a (inr m) =
     let r = place xs a m in
@@ -87,6 +88,7 @@ module _ (key : ℕ → ℕ) where
 
   pub sort_mem : (b : ℕ) (list : List ℕ) → Member b list → Member b (sort_by list)
   unfolding sort_by
+  sort_mem b [] x' = elim x' [ ]
   sort_mem b (x ∷ xs) (inl q) = insert_member x b (sort_by xs) (inl q)
   sort_mem b (x ∷ xs) (inr q) = insert_member x b (sort_by xs) (inr (sort_mem b xs q))
 
