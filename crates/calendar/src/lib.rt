@@ -16,7 +16,7 @@ pub const FIRST_YEAR: u16 = 1900;
 pub const LAST_YEAR: u16 = 2199;
 
 // The number of a day, 1 for 1 January 1900, or the refusal of what is no date.
-#[derive(Drop)]
+#[derive(Clone, Copy)]
 pub enum DayNumber {
     Day(u32),
     Refused(Refusal),

@@ -52,7 +52,7 @@ const STORING: u64 = 3;
 
 // A client by its number, of n servers of which f may be faulty, as a step loads it. What the servers replied
 // stays in memory.
-#[derive(Drop)]
+#[derive(Clone, Copy)]
 pub struct Client {
     pub phase: Phase,
     pub reads: ReadNumber,
@@ -62,7 +62,7 @@ pub struct Client {
 }
 
 // What goes on the channels to all servers.
-#[derive(Drop)]
+#[derive(Clone, Copy)]
 pub enum Sends {
     Nothing,
     GetInfo(ReadNumber),
@@ -71,7 +71,7 @@ pub enum Sends {
 }
 
 // The client after a step, what it sends, and what it answers.
-#[derive(Drop)]
+#[derive(Clone, Copy)]
 pub struct Transition {
     pub client: Client,
     pub sends: Sends,
@@ -79,7 +79,7 @@ pub struct Transition {
 }
 
 // What a step sends and answers; the client after it stands in its memory.
-#[derive(Drop)]
+#[derive(Clone, Copy)]
 pub struct Outcome {
     pub sends: Sends,
     pub answer: Answer,

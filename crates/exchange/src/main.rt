@@ -35,7 +35,7 @@ const SECOND: u64 = 0x7E_C2E8_0141;
 // Five servers and two clients: the memory that they are lent, and the messages that each client sent, which
 // are the same for every server. Only the first n servers are there. Clients, servers and messages are
 // counted from 0.
-#[derive(Drop)]
+#[derive(Clone, Copy)]
 struct Group {
     servers: [u64; SERVERS_LENGTH],
     clients: [u64; CLIENTS_LENGTH],

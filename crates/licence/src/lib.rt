@@ -46,7 +46,7 @@ pub const MOST_YEARS: u8 = 10;
 const FEBRUARY: u8 = 2;
 
 // The fields of an entry. The date is the licence's last day.
-#[derive(Drop)]
+#[derive(Clone, Copy)]
 pub struct Fields {
     pub year: u16,
     pub month: u8,
@@ -102,7 +102,7 @@ pub fn is_licence(entry: u64) -> bool
 }
 
 // What a value is: every one is exactly one of these.
-#[derive(Drop)]
+#[derive(Clone, Copy)]
 pub enum Kind {
     Licence,
     Empty,
@@ -122,7 +122,7 @@ pub fn kind_of(entry: u64) -> Kind
 }
 
 // The entry of some fields.
-#[derive(Drop)]
+#[derive(Clone, Copy)]
 pub enum Joined {
     Entry(u64),
     Refused(Refusal),
@@ -175,7 +175,7 @@ fn moved(fields: Fields, year: u16) -> Fields
 }
 
 // A renewed entry.
-#[derive(Drop)]
+#[derive(Clone, Copy)]
 pub enum Renewal {
     Entry(u64),
     Refused(Refusal),
@@ -199,7 +199,7 @@ pub fn renew(entry: u64, years: u8) -> Renewal
 }
 
 // The days from a day to the licence's last: 0 on the last, negative afterwards.
-#[derive(Drop)]
+#[derive(Clone, Copy)]
 pub enum DaysLeft {
     Days(i32),
     Refused(Refusal),
@@ -230,7 +230,7 @@ pub fn days_left(entry: u64, year: u16, month: u8, day: u8) -> DaysLeft
 }
 
 // What to do with the copies on a day.
-#[derive(Drop)]
+#[derive(Clone, Copy)]
 pub enum Verdict {
     Pulp,
     Hold,

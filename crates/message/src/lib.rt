@@ -16,28 +16,28 @@ use refusal::Refusal;
 
 // The number of a client's read (01: the tag). Never a write counter, although document 001 calls both
 // my_ctr: only the functions below read it, and none has both.
-#[derive(Drop)]
+#[derive(Clone, Copy)]
 pub struct ReadNumber(u32);
 
 // The counter of a write, half of its timestamp.
-#[derive(Drop)]
+#[derive(Clone, Copy)]
 pub struct WriteCounter(u32);
 
 // The forty bits of a licence's end, whatever they say.
-#[derive(Drop)]
+#[derive(Clone, Copy)]
 pub struct Entry(pub u64);
 
 // Counter and client in 24 bits, counter * 16 + client, so that the order of timestamps is the order of
 // numbers.
-#[derive(Drop)]
+#[derive(Clone, Copy)]
 pub struct Timestamp(pub u32);
 
 // Timestamp and entry in 64 bits: counter 20, client 4, entry 40.
-#[derive(Drop)]
+#[derive(Clone, Copy)]
 pub struct Pair(pub u64);
 
 // A message by its kind.
-#[derive(Drop)]
+#[derive(Clone, Copy)]
 pub enum Message {
     GetInfo(ReadNumber), // 1
     Info(ReadNumber, Pair), // 2
@@ -48,18 +48,18 @@ pub enum Message {
 }
 
 // The message of bytes, or the refusal of those that are none: always 9.
-#[derive(Drop)]
+#[derive(Clone, Copy)]
 pub enum Unpacked {
     Good(Message),
     Refused(Refusal),
 }
 
 // The eleven bytes as two numbers: the first three, and the last eight.
-#[derive(Drop)]
+#[derive(Clone, Copy)]
 pub struct Words(pub u32, pub u64);
 
 // What packing answers.
-#[derive(Drop)]
+#[derive(Clone, Copy)]
 pub enum Packed {
     Done,
     Refused(Refusal),

@@ -17,7 +17,7 @@ use system::setup::{Setup, set_up};
 
 // What the lines of a block leave: the settings, whether a setup was accepted, the next line's number,
 // where the line that is cut begins, and how much output there is.
-#[derive(Drop)]
+#[derive(Clone, Copy)]
 pub struct Turn {
     pub settings: Settings,
     pub is_set: bool,
@@ -41,7 +41,7 @@ pub fn turn_of(settings: Settings, is_set: bool, number: Numeral, at: usize, use
 // ---- what a line does
 
 // What is printed of a line, and the settings after it, with whether a setup was accepted.
-#[derive(Drop)]
+#[derive(Clone, Copy)]
 struct Obeyed {
     what: Output,
     settings: Settings,

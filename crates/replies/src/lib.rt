@@ -36,7 +36,7 @@ const STAMP_BITS: u32 = message::COUNTER_BITS + message::CLIENT_BITS;
 const MOST_NOTED: u64 = 1 << STAMP_BITS;
 
 // The pair that is chosen, if one counts.
-#[derive(Drop)]
+#[derive(Clone, Copy)]
 pub enum Choice {
     Found(Pair),
     Nothing,

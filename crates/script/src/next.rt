@@ -12,14 +12,14 @@ use register::Step;
 const QUICK: usize = 8;
 
 // Where a line ends, and what it says.
-#[derive(Drop)]
+#[derive(Clone, Copy)]
 pub struct Found {
     pub end: usize,
     pub line: Line,
 }
 
 // A step and where its line ends, or that the line has to be read by `parse`.
-#[derive(Drop)]
+#[derive(Clone, Copy)]
 enum Quick {
     Is(Step, usize),
     No,

@@ -27,7 +27,7 @@ const HIGH_DIGITS: usize = 2 * HEAD_BYTES;
 const MARKS: usize = MOST_SERVERS as usize;
 
 // A setup has f, n, the number of clients and the marks.
-#[derive(Drop)]
+#[derive(Clone, Copy)]
 pub enum Line {
     Setup(u32, u32, u32, u32),
     Do(Step),
@@ -35,21 +35,21 @@ pub enum Line {
 }
 
 // The number that a text is, if it is one.
-#[derive(Drop)]
+#[derive(Clone, Copy)]
 pub enum Number {
     Is(u32),
     No,
 }
 
 // The same for hexadecimal digits.
-#[derive(Drop)]
+#[derive(Clone, Copy)]
 pub enum Hex {
     Is(u64),
     No,
 }
 
 // A number at the start of a text, and where the text behind the blank after it begins.
-#[derive(Drop)]
+#[derive(Clone, Copy)]
 pub enum First {
     Is(u32, usize),
     No,

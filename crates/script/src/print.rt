@@ -16,7 +16,7 @@ use refusal::Refusal;
 use register::Answer;
 
 // What the program says of a line: that it set up, that the line is unreadable, or the answer of its step.
-#[derive(Drop)]
+#[derive(Clone, Copy)]
 pub enum Output {
     Set,
     Unread,
@@ -168,7 +168,7 @@ pub fn put_output(out: &mut [u8], at: usize, what: Output) -> usize
 
 // A number of 3 to 8 digits with the digits of its hundreds, number / 100, and how many they are. Of another
 // number none are kept. The last two digits, number % 100, are kept as a number: to divide costs more.
-#[derive(Drop)]
+#[derive(Clone, Copy)]
 pub struct Numeral {
     pub number: u64,
     pub text: [u8; 8],

@@ -15,7 +15,7 @@ use message::{Message, Pair, ReadNumber, Unpacked};
 use refusal::Refusal;
 
 // One pair, and the clients that read: bit d - 1 is client d.
-#[derive(Drop)]
+#[derive(Clone, Copy)]
 pub struct Server {
     pub pair: Pair,
     pub readers: u8,
@@ -23,7 +23,7 @@ pub struct Server {
 
 // What a server sends for a message of a client. Forward: FWD of the pair to each client of the set, lowest
 // first, and then WRITE_ACK with the pair's counter to the sender.
-#[derive(Drop)]
+#[derive(Clone, Copy)]
 pub enum Sends {
     Nothing,
     Info(ReadNumber, Pair),
@@ -31,14 +31,14 @@ pub enum Sends {
 }
 
 // A message served: the next server, and what it sends.
-#[derive(Drop)]
+#[derive(Clone, Copy)]
 pub struct Served {
     pub server: Server,
     pub sends: Sends,
 }
 
 // What serving bytes answers.
-#[derive(Drop)]
+#[derive(Clone, Copy)]
 pub enum Outcome {
     Sent(Sends),
     Refused(Refusal),

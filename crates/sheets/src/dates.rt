@@ -15,7 +15,7 @@ const STATES: u8 = 5;
 const PATTERNS: u16 = 512;
 
 // A year's digests: day numbers, renewals, days left with verdicts, two renewals beside one by the sum.
-#[derive(Drop)]
+#[derive(Clone, Copy)]
 pub struct Digests {
     pub numbers: u64,
     pub renewals: u64,

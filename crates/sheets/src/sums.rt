@@ -8,7 +8,7 @@ use crate::digest::mix;
 use licence::{MOST_YEARS, Renewal};
 
 // Digests of what two renewals give, and of 1 where one by the sum differs, else 0: it is 0 while none does.
-#[derive(Drop)]
+#[derive(Clone, Copy)]
 pub struct Sums {
     pub twice: u64,
     pub differing: u64,

@@ -10,7 +10,7 @@ ghost use Rattle.state.specs.State as state;
 pub mod sound;
 
 // Of n servers at most f may be faulty. Bit k - 1 of faulty: server k is.
-#[derive(Drop)]
+#[derive(Clone, Copy)]
 pub struct Settings {
     pub f: u8,
     pub n: u8,

@@ -9,7 +9,7 @@ use state::sound::{count_faulty, is_in_range};
 use state::{CLIENTS_LENGTH, Clients, SERVERS, SERVERS_LENGTH, Servers, Settings};
 
 // A setup is accepted, or refused.
-#[derive(Drop)]
+#[derive(Clone, Copy)]
 pub enum Setup {
     Set(Settings),
     Refused(Refusal),
