@@ -116,6 +116,7 @@ pub data Passes : List Bool → Bool → Type 0 where
   pass : {a b : Bool} {l : List Bool} → a ≡ true → Passes l b → Passes (a ∷ l) b
 
 pub passes : {b : Bool} (l : List Bool) → Passes l b → b ≡ all_pass l
+passes {b = b} [] x' = elim x' [ ]
 passes (a ∷ []) (last e) = e ∙ sym (and-true a)
 passes (a ∷ l) (fail e) = rw e
 passes (a ∷ l) (pass e rest) = rw e (passes l rest)

@@ -4,7 +4,7 @@
 -- clients only by a start or a server's message (`WellClient`), and channels within their room
 -- (`WellChannels`). Only servers, clients and channels that are used change at all.
 -- Assumes nothing.
-use Rattle.basics.proofs.Prelude.{◌≡◌, refl, ◌∙◌, subst, false, List, ℕ, zero, suc, arith}
+use Rattle.basics.proofs.Prelude.{◌≡◌, refl, sym, ◌∙◌, subst, false, List, ℕ, zero, suc, arith}
 use Rattle.basics.proofs.Cases.{by_either, true_or_false}
 use Rattle.register.specs.Settings.{Settings, Accepted, is_client, is_honest}
 use Rattle.register.specs.Server.{Server, new_server}
@@ -14,7 +14,7 @@ use Rattle.register.specs.Steps.{Step, Formats, event_of}
 use Rattle.register.specs.History.{step_at, world_at}
 use Rattle.register.specs.WellFormed.{FromClient, FromServer, WellPhase, WellServer, WellClient}
 use Rattle.register.specs.WellFormed.{WellFormed}
-use Rattle.register.proofs.Vocabulary.{Phase, Idle, Reading, ReadingForWrite, Storing}
+use Rattle.register.proofs.Vocabulary.{Response, Phase, Idle, Reading, ReadingForWrite, Storing}
 use Rattle.register.proofs.Enabled.{Enabled, Starts, enabled}
 use Rattle.register.proofs.Lawful.{Lawful}
 use Rattle.register.proofs.Frames.{ServerNext, kept, served, server_next, ClientNext, same, starts}
@@ -71,7 +71,8 @@ module _ (settings : Settings) (judge : Formats) (accepted : Accepted settings) 
     λ h. absurd (true_or_false _ checked.client h),
   )
   client_well event d (responds taken response is _) = (
-    rw is (well_response settings judge accepted lawful world well d taken.server taken.message
+    subst (λ (r : Response). WellClient settings judge r.client) (sym is)
+        (well_response settings judge accepted lawful world well d taken.server taken.message
         taken.rest taken.enabled
         ).client,
     λ h. absurd (true_or_false _ taken.enabled.client h),

@@ -107,6 +107,7 @@ module _ (settings : Settings) (judge : Formats) (accepted : Accepted settings) 
   tag_only : (d : ℕ) → (world.clients d).reads.0 < last_read
       → (message : Message) → Member message (GetInfo (next_read (world.clients d)) ∷ []) → FromClient message
   unfolding next_read
+  tag_only d low message (inr x') = elim x' [ ]
   tag_only d low message (inl e) = rw e (omega arith)
 
   -- the response of client d' to the oldest message of server k'
@@ -235,6 +236,7 @@ module _ (settings : Settings) (judge : Formats) (accepted : Accepted settings) 
       (rw (append-nil (world.down d k)) (down_now d k)))
     where
       kind : (other : Message) → Member other (message ∷ []) → FromServer other
+      kind other (inr x'') = elim x'' [ ]
       kind other (inl e) =
           rw e
           (reply_kind message checked.reply (lawful.fits checked.bytes message checked.message))

@@ -55,6 +55,7 @@ module _ (settings : Settings) (server : Server) (d : ℕ) (client : is_client s
     (well : WellServer settings server) where
   well_reply : (message : Message) → FromServer message → (reply : Sent) → Member reply (sent d message ∷ [])
       → WellSent settings reply
+  well_reply message kind reply (inr x') = elim x' [ ]
   well_reply message kind reply (inl e) = rw e (record { client = client; kind = kind })
 
   reader_client : (d' : ℕ) → server.readers d' ≡ true → is_client settings d' ≡ true

@@ -12,6 +12,7 @@ use Rattle.replies.specs.Sound.{is_first, is_rising}
 
 above_all : (p : Pair) (l : List Pair) → is_first p l ≡ true → Ordered l
     → (y : Pair) → Member y l → p.0 < y.0
+above_all p [] h o y x3 = elim x3 [ ]
 above_all p (q ∷ qs) h o y (inl e) = rw e (ltb-true p.0 q.0 h)
 above_all p (q ∷ qs) h o y (inr m) = lt_trans (ltb-true p.0 q.0 h) (o.0 y m)
 

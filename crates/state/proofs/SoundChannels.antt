@@ -20,6 +20,7 @@ use Rattle.state.proofs.Formats.{client_suits, server_suits, goes_up_lem, goes_d
 
 all_member : {A : Type 0} (p : A → Bool) (l : List A) → all_pass (map p l) ≡ true → (m : A) → Member m l
     → p m ≡ true
+all_member {A = A} p [] h m x'' = elim x'' [ ]
 all_member p (x ∷ xs) h m (inl e) = ap p e ∙ (both (p x) (all_pass (map p xs)) h).0
 all_member p (x ∷ xs) h m (inr n) = all_member p xs (both (p x) (all_pass (map p xs)) h).1 m n
 
