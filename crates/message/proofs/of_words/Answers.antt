@@ -36,4 +36,14 @@ returns-in-6 c =
 
 pub returns-in_default : goal.returns-in_default
 unfolding by_words
-returns-in_default c = let h = c.in_default in ?
+returns-in_default c =
+    let kind = c.args.words.0 / 2 ^ tag_bits in
+    rw (
+      of_words_is c.args.words (omega arith),
+      ne_eqb kind 1 (λ e. omega arith),
+      ne_eqb kind 2 (λ e. omega arith),
+      ne_eqb kind 3 (λ e. omega arith),
+      ne_eqb kind 4 (λ e. omega arith),
+      ne_eqb kind 5 (λ e. omega arith),
+      ne_eqb kind 6 (λ e. omega arith),
+    )
