@@ -6,4 +6,4 @@ use Rattle.message.proofs.client_of.Goals as goal
 
 pub returns : goal.returns
 unfolding client
-returns c = and_mask (c.before.args.pair.0 / 2 ^ client_at) client_bits
+returns c = and_mask (c.args.pair.0 / 2 ^ client_at) client_bits

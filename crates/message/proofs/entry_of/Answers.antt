@@ -5,4 +5,4 @@ use Rattle.message.proofs.entry_of.Goals as goal
 
 pub returns : goal.returns
 unfolding entry
-returns c = let e = and_mask c.before.args.pair.0 entry_bits in λ i. record { 0 = e i }
+returns c = let e = and_mask c.args.pair.0 entry_bits in λ i. record { 0 = e i }

@@ -8,5 +8,8 @@ use Rattle.message.proofs.load.Goals as goal
 pub returns : goal.returns
 returns c =
     words_back c.read_bytes.result c.read_bytes-2.result c.read_bytes-2.ensures.within
-    ∙ ap words (cc (spelt_two c.args.bytes.now c.args.at 3 8 (omega arith), c.read_bytes.ensures.spelt,
-        c.read_bytes-2.ensures.spelt))
+    ∙ ap words (cc (
+      spelt_two c.args.bytes.now c.args.at 3 8 (omega arith),
+      c.read_bytes.ensures.spelt,
+      c.read_bytes-2.ensures.spelt,
+    ))

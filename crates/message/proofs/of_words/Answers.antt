@@ -1,10 +1,9 @@
 -- `of_words`: the first word is kind and tag, and the cases of the code are those of `by_words`, one for each
 -- kind.
-use Rattle.basics.proofs.Prelude.{◌≡◌, sym, ◌∙◌, ℕ, ◌/◌, ◌^◌, arith, ne_eqb}
-use lib.Bits.{bit_and, and_mask}
-use Rattle.message.specs.declared.Words.{Words}
+use Rattle.basics.proofs.Prelude.{sym, ◌∙◌, ◌/◌, ◌^◌, arith, ne_eqb}
+use lib.Bits.{and_mask}
 use Rattle.message.specs.Pair.{counter_at}
-use Rattle.message.specs.Layout.{tag_bits, last_read, message_of, words_number}
+use Rattle.message.specs.Layout.{tag_bits}
 use Rattle.message.proofs.Fields.{by_words, of_words_is, found_as}
 use Rattle.message.proofs.of_words.Goals as goal
 

@@ -1,8 +1,8 @@
 -- `pack`: refused first, in the order of the table, and stored after.
-use Rattle.basics.proofs.Prelude.{◌≡◌, sym, ap, ◌∙◌, true, ℕ, arith, not-true, not-false}
+use Rattle.basics.proofs.Prelude.{◌≡◌, sym, ap, ◌∙◌, ℕ, arith}
 use lib.Seq.{sets}
 use Rattle.basics.specs.Bytes.{big_endian}
-use Rattle.message.specs.Layout.{message_bytes, well_formed, number_of, words_number}
+use Rattle.message.specs.Layout.{message_bytes, number_of, words_number}
 use Rattle.message.proofs.Numbers.{words_number_lem}
 use Rattle.message.proofs.Packing.{malformed, short, packed}
 use Rattle.message.proofs.pack.Goals as goal

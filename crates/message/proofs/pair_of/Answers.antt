@@ -21,6 +21,6 @@ joined count d content h narrow small =
 pub returns : goal.returns
 unfolding pair_of
 returns c =
-    let a = c.before.before.args in
-    let b = c.before.before.requires in
+    let a = c.args in
+    let b = c.requires in
     let e = joined a.count.0 a.d a.content.0 b.0 b.1 b.2 in λ i. record { 0 = e i }

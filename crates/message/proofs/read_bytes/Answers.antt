@@ -1,6 +1,6 @@
 -- `read_bytes`: the bytes read so far spell the number, and one byte more spells that * 256 + byte
 -- (`spelt_more`).
-use Rattle.basics.proofs.Prelude.{◌≡◌, refl, sym, ap, ◌∙◌, subst, get_or, take, drop, ℕ, ◌+◌, ◌-◌, ◌*◌, ◌^◌}
+use Rattle.basics.proofs.Prelude.{◌≡◌, refl, sym, ap, ◌∙◌, subst, get_or, take, drop, ℕ, ◌+◌, ◌*◌, ◌^◌}
 use Rattle.basics.proofs.Prelude.{◌≤◌, ◌<◌, add-one, arith}
 use native.Mathlib.Nat.{pow-succ', pow-le-pow_right}
 use lib.Dec.{lit<}
@@ -42,5 +42,5 @@ returns c =
     let all : l.i ≡ c.args.count = omega arith in
     let rest = drop c.args.at c.args.bytes.now in
     let both = subst (λ (n : ℕ). (l.number < 256 ^ n) × (l.number ≡ spelt 0 (take n rest))) all
-        (l.invariant.1, l.invariant.2) in
+    (l.invariant.1, l.invariant.2) in
     record { within = both.0; spelt = both.1 }

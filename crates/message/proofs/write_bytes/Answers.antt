@@ -15,23 +15,20 @@ turn number k out i n byte e h = rw (h, add-one i, e, pow_256 k)
 
 pub loop-rest-preserved : goal.loop-rest-preserved
 loop-rest-preserved c =
-    let turned = c.before.before in
-    let l = turned.loop-rest in
-    let a = turned.before.before.args in (
+    let l = c.loop-rest in (
       omega arith,
       omega arith,
       length-set l.out l.i c.byte.result ∙ l.invariant.2,
-      turn a.number (l.rest - 1) l.out l.i l.rest c.byte.result c.byte.ensures
+      turn c.args.number (l.rest - 1) l.out l.i l.rest c.byte.result c.byte.ensures
           (omega arith) ∙ l.invariant.3,
     )
 
 pub returns : goal.returns
 unfolding big_endian
 returns c =
-    let l = c.before.loop-rest in
+    let l = c.loop-rest in
     let none : l.rest ≡ 0 = omega arith in
-    let number = c.before.before.before.args.number in
-    sym (ap (λ (n : ℕ). sets l.out l.i (big_endian n number)) none) ∙ l.invariant.3
+    sym (ap (λ (n : ℕ). sets l.out l.i (big_endian n c.args.number)) none) ∙ l.invariant.3
 
 pub loop-rest-init : goal.loop-rest-init
 loop-rest-init c = (refl, omega arith, refl, refl)

@@ -1,7 +1,7 @@
 -- `write_bytes`: what is written and the bytes of the rest, written behind it, are all bytes written.
 --
 -- The first byte of the rest is the one that a turn writes, so a turn changes nothing of that (`turn`).
-use Rattle.basics.proofs.Prelude.{◌≡◌, length, ◌+◌, ◌-◌}
+use Rattle.basics.proofs.Prelude.{◌≡◌, length, ◌+◌}
 use Rattle.basics.proofs.Prelude.{◌≤◌}
 use lib.Seq.{sets}
 use Rattle.basics.specs.Bytes.{big_endian}
