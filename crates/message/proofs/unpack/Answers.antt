@@ -16,6 +16,6 @@ returns c =
     let bytes = c.args.bytes.now in
     let eleven : length bytes ≡ message_bytes = omega arith in
     let all : take message_bytes bytes ≡ bytes = take_all message_bytes bytes (omega arith) in
-    let all-bytes = are_bytes_lem bytes (λ i. omega (arith, c.type_inv.bytes i)) in
+    let all_bytes = are_bytes_lem bytes (λ i. omega (arith, c.type_inv.bytes i)) in
     c.of_words.ensures ∙ ap (λ (words : Words). message_of (words_number words)) c.load.ensures
-    ∙ rw all (of_words_unpacks bytes eleven all-bytes)
+    ∙ rw all (of_words_unpacks bytes eleven all_bytes)
