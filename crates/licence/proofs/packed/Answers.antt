@@ -18,16 +18,16 @@ adds : (fields : Fields) → Narrow fields →
     (fields.day * 2 ^ 19 % 2 ^ 64)) (fields.copies * 2 ^ 3 % 2 ^ 64)) fields.state
     ≡ joined fields
 adds fields narrow =
-    let to-year = fields.year * 2 ^ 28 in
-    let to-month = to-year + fields.month * 2 ^ 24 in
-    let to-day = to-month + fields.day * 2 ^ 19 in
-    let to-copies = to-day + fields.copies * 2 ^ 3 in
+    let to_year = fields.year * 2 ^ 28 in
+    let to_month = to_year + fields.month * 2 ^ 24 in
+    let to_day = to_month + fields.day * 2 ^ 19 in
+    let to_copies = to_day + fields.copies * 2 ^ 3 in
     rw (
       shl_exact 12 28 64 narrow.year (lit≤ tt),
-      or_field to-year fields.month 4 24 (omega arith) narrow.month (lit≤ tt),
-      or_field to-month fields.day 5 19 (omega arith) narrow.day (lit≤ tt),
-      or_field to-day fields.copies 16 3 (omega arith) narrow.copies (lit≤ tt),
-      or_adds to-copies 3 fields.state (omega arith) narrow.state,
+      or_field to_year fields.month 4 24 (omega arith) narrow.month (lit≤ tt),
+      or_field to_month fields.day 5 19 (omega arith) narrow.day (lit≤ tt),
+      or_field to_day fields.copies 16 3 (omega arith) narrow.copies (lit≤ tt),
+      or_adds to_copies 3 fields.state (omega arith) narrow.state,
       mul-one fields.state,
     )
 
