@@ -55,12 +55,12 @@ module _ (front back : List ℕ) (at : ℕ) (e : length front ≡ at) where
       let k = per_channel - (length held + 1) * per_message in
       let free : per_channel - length held * per_message ≡ suc (suc k) = omega arith in
       let zeros : List ℕ = replicate k 0 in
-      let free-at : length (front ++ packed held) ≡ at + length held * per_message =
+      let free_at : length (front ++ packed held) ≡ at + length held * per_message =
       length-append front (packed held) ∙ rw (e, packed_length held) in
       rw (
         free,
         regroup front (packed held) (0 ∷ 0 ∷ zeros) back,
-        stored_between (front ++ packed held) (at + length held * per_message) free-at (zeros ++ back) 0 0
+        stored_between (front ++ packed held) (at + length held * per_message) free_at (zeros ++ back) 0 0
             (words_of message),
         length-append held (message ∷ []),
         packed_more held message,

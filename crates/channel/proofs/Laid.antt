@@ -112,11 +112,11 @@ module _ (held : ℕ → List Message) (fits : Fitting held) (good : Suiting hel
     sound_channel =
         let memory = layout held in
         let go = below_of (λ j. slot_goes (is_down i) memory (slot i j)) count used in
-        let zero-behind = below_of (λ j. eqb (get_or memory (slot i count + j) 0) 0) free
+        let zero_behind = below_of (λ j. eqb (get_or memory (slot i count + j) 0) 0) free
         (λ j less. eq-eqb (get_or memory (slot i count + j) 0) 0 (unused j less)) in
         all_of (channel_tests memory i)
         (rw (layout_count held fits i inside)
-        (le-leb count capacity (fits i inside), (go, (zero-behind, tt))))
+        (le-leb count capacity (fits i inside), (go, (zero_behind, tt))))
 
   pub sound_messages : sound (layout held) ≡ true
   unfolding sound

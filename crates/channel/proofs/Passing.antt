@@ -4,9 +4,8 @@
 -- numbers joined by OR are zero where each is (`or_zero`); a channel without messages is sound where its
 -- slots are zero (`empty_sound`).
 -- Assumes nothing.
-use Rattle.basics.proofs.Prelude.{◌≡◌, refl, sym, ◌∙◌, Bool, true, false, not, ◌&&◌, List, ℕ, ◌+◌, ◌≤◌, ◌<◌}
+use Rattle.basics.proofs.Prelude.{◌≡◌, refl, sym, ◌∙◌, Bool, true, false, ◌&&◌, List, ℕ, ◌+◌, ◌≤◌, ◌<◌}
 use Rattle.basics.proofs.Prelude.{add-zero, add-one, arith, eqb, eqb-true, eqb-false, eq-eqb, ne_eqb}
-use Rattle.basics.proofs.Prelude.{not-true, not-false}
 use mathlib.Core.Bool.{and-true}
 use lib.Bits.{bit_and, bit_or, or_add_and, and_le_l, and_le_r}
 use Rattle.basics.specs.Tests.{all_pass, all_below}
@@ -17,11 +16,11 @@ use Rattle.channel.specs.Sound.{zero_from, is_down, slot_goes, channel_tests}
 
 -- ---- what the code finds of a test: a result
 
-pub passed : {result test : Bool} → result ≡ test → not result ≡ false → test ≡ true
-passed {result} e h = sym e ∙ not-false result h
+pub passed : {result test : Bool} → result ≡ test → result ≡ true → test ≡ true
+passed e h = sym e ∙ h
 
-pub failed : {result test : Bool} → result ≡ test → not result ≡ true → test ≡ false
-failed {result} e h = sym e ∙ not-true result h
+pub failed : {result test : Bool} → result ≡ test → result ≡ false → test ≡ false
+failed e h = sym e ∙ h
 
 -- ---- a loop that leaves at the first failure, of tests with results
 
@@ -30,12 +29,12 @@ module _ (test : ℕ → Bool) where
   unfolding all_below
   none_passed = refl
 
-  pub one_more : (i : ℕ) {result : Bool} → all_below test i ≡ true → result ≡ test i → not result ≡ false
+  pub one_more : (i : ℕ) {result : Bool} → all_below test i ≡ true → result ≡ test i → result ≡ true
       → all_below test (i + 1) ≡ true
   unfolding all_below
   one_more i h e left = rw (add-one, h) (passed e left)
 
-  pub fails_here : (n i : ℕ) {result : Bool} → i < n → result ≡ test i → not result ≡ true
+  pub fails_here : (n i : ℕ) {result : Bool} → i < n → result ≡ test i → result ≡ false
       → false ≡ all_below test n
   fails_here n i less e removed = sym (below_fails test n i less (failed e removed))
 
