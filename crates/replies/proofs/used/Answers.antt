@@ -1,0 +1,11 @@
+-- `used`: the loop counts the numbers in use.
+-- Assumes nothing.
+use Rattle.basics.proofs.Prelude.{refl}
+use Rattle.replies.proofs.Steps.{counted_none, counted_more}
+use Rattle.replies.proofs.used.Goals as goal
+
+pub loop-i-init : goal.loop-i-init
+loop-i-init c = counted_none _ _
+
+pub loop-i-preserved : goal.loop-i-preserved
+loop-i-preserved c = counted_more _ _ _ _ _ c.loop-i-test.true refl c.loop-i.invariant
