@@ -3,14 +3,11 @@
 -- A sound server stored again is itself (`Views`); the rest is adding or removing one client of the set
 -- (`Sets`).
 -- Assumes nothing.
-use Rattle.basics.proofs.Prelude.{◌≡◌, true, [], ◌∷◌, ℕ, ◌-◌, ◌≤◌}
+use Rattle.basics.proofs.Prelude.{◌≡◌, refl, true, ℕ, ◌-◌, ◌≤◌}
 use Rattle.basics.proofs.BitSets.{set_back}
 use lib.Bits.{bit_and, bit_or}
-use types.Run.{OneOf, miss}
-use denote.Enum.Declared.{tag_of}
 use Rattle.register.proofs.Vocabulary.{Message, GetInfo, Info, Done, WriteInfo, Fwd, WriteAck, Pair}
 use Rattle.register.proofs.Vocabulary.{ReadNumber, stored, next_server, server_sends, most_clients}
-use Rattle.message.specs.contracts.Message as kinds
 use Rattle.server.specs.declared.Sends.TheVariants as sends
 use Rattle.server.specs.declared.Server.{Server}
 use Rattle.server.specs.State.{view, store, sound}
@@ -37,14 +34,13 @@ module _ (server : Server) (d : ℕ) (h : sound server ≡ true) (low : 1 ≤ d)
   done = rw (removes server.readers d (few server h) low top)
 
   -- a message that is neither GET_INFO nor DONE nor WRITE_INFO changes nothing
-  pub other : (message : Message) → OneOf (1 ∷ 2 ∷ 3 ∷ 4 ∷ 5 ∷ []) (tag_of kinds.the_type message)
-      → OneOf (0 ∷ 1 ∷ 3 ∷ 4 ∷ 5 ∷ []) (tag_of kinds.the_type message)
-      → OneOf (0 ∷ 1 ∷ 2 ∷ 4 ∷ 5 ∷ []) (tag_of kinds.the_type message)
+  pub other : (message : Message) → ((tag : ReadNumber) → message ≡ GetInfo tag → ⊥) → (message ≡ Done → ⊥)
+      → ((pair : Pair) → message ≡ WriteInfo pair → ⊥)
       → after_of d (record { server = server; sends = sends.Nothing }) ≡ served_of server d message
   unfolding next_server server_sends sent_by answer_of
-  other (GetInfo tag) get done write = absurd (miss (1 ∷ 2 ∷ 3 ∷ 4 ∷ 5 ∷ []) 0 tt get)
-  other Done get done write = absurd (miss (0 ∷ 1 ∷ 3 ∷ 4 ∷ 5 ∷ []) 2 tt done)
-  other (WriteInfo pair) get done write = absurd (miss (0 ∷ 1 ∷ 2 ∷ 4 ∷ 5 ∷ []) 3 tt write)
+  other (GetInfo tag) get done write = absurd (get tag refl)
+  other Done get done write = absurd (done refl)
+  other (WriteInfo pair) get done write = absurd (write pair refl)
   other (Info tag pair) get done write = rw (store_view server h)
   other (Fwd pair) get done write = rw (store_view server h)
   other (WriteAck count) get done write = rw (store_view server h)

@@ -37,9 +37,9 @@ record Right (set d : ℕ) : Type 0 where
 each_right : (set i : ℕ) → set < 2 ^ most_clients → i < most_clients → Right set (suc i)
 unfolding tests
 each_right set i small inside =
-    let of-set =
+    let of_set =
     below (λ any. all_below (λ j. all_pass (tests any j)) most_clients) (2 ^ most_clients) all_right set small in
-    let t = each (tests set i) (below (λ j. all_pass (tests set j)) most_clients of-set i inside) in
+    let t = each (tests set i) (below (λ j. all_pass (tests set j)) most_clients of_set i inside) in
     record { added = eqb-true _ _ t.0; removed = eqb-true _ _ t.1.0; low = ltb-true _ _ t.1.1.0 }
 
 module _ (set d : ℕ) (small : set < 2 ^ most_clients) (low : 1 ≤ d) (top : d ≤ most_clients) where
