@@ -1,5 +1,5 @@
 -- `keep`: the loop keeps how many bytes have moved.
-use Rattle.basics.proofs.Prelude.{◌≡◌, ap, ◌∙◌, List, length, get_or, set, ℕ, ◌+◌, ◌-◌, ◌≤◌, arith, rules}
+use Rattle.basics.proofs.Prelude.{◌≡◌, ap, ◌∙◌, List, length, get_or, set, ℕ, ◌+◌, ◌-◌, ◌≤◌, arith}
 use Prim.Native.Nat.{min}
 use Rattle.script.specs.Lines.{most}
 use Rattle.script.proofs.Kept.{moved, length_moved, moved_read, moved_more, kept_written, within}

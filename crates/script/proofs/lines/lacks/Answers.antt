@@ -1,5 +1,5 @@
 -- `lacks`: the loop keeps whether none of the bytes that it has passed is the stop.
-use Rattle.basics.proofs.Prelude.{◌≡◌, refl, ap, Bool, not, ◌&&◌, get_or, ◌+◌, ◌-◌, add-one, arith, eqb}
+use Rattle.basics.proofs.Prelude.{◌≡◌, refl, ap, Bool, not, ◌&&◌, get_or, ◌+◌, add-one, arith, eqb}
 use Rattle.basics.proofs.Prelude.{rules}
 use Rattle.basics.specs.Tests.{all_below}
 use Rattle.script.proofs.lines.lacks.Goals as goal

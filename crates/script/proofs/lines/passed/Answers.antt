@@ -1,5 +1,5 @@
 -- `passed`: the stop is in none of the blocks that the loop has passed.
-use Rattle.basics.proofs.Prelude.{sym, ◌∙◌, ◌-◌, arith}
+use Rattle.basics.proofs.Prelude.{sym, ◌∙◌, arith}
 use Rattle.script.proofs.Places.{pass_all, up_to_short}
 use Rattle.script.proofs.lines.passed.Goals as goal
 

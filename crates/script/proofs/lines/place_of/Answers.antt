@@ -1,5 +1,5 @@
 -- `place_of`: the stop is nowhere before the loop's place, so the loop stops at the first.
-use Rattle.basics.proofs.Prelude.{◌-◌, add-one, arith, rules}
+use Rattle.basics.proofs.Prelude.{add-one, arith}
 use Rattle.script.proofs.Places.{pass, stops, at_end}
 use Rattle.script.proofs.lines.place_of.Goals as goal
 

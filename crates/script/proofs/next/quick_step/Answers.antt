@@ -1,5 +1,5 @@
 -- `quick_step`: the letter, the blank and the number make the line, with what stands behind them.
-use Rattle.basics.proofs.Prelude.{◌≡◌, get_or, ◌+◌, arith}
+use Rattle.basics.proofs.Prelude.{◌+◌, arith}
 use Rattle.script.specs.Lines.{newline}
 use Rattle.script.proofs.Quick.{found_k, found_d, found_l}
 use Rattle.script.proofs.Short.{short_of}

@@ -11,8 +11,7 @@ loop-numbers-init c = (search rules, rw c.leading-numbers.ensures refl)
 pub loop-numbers-preserved : goal.loop-numbers-preserved
 loop-numbers-preserved c =
     let l = c.loop-numbers in
-    let told = c.first_number.ensures in
-    (
+    let told = c.first_number.ensures in (
       starts_within c.args.text.now l.at told c.in-Is.value c.in-Is.next c.in-Is.is l.invariant.0,
       one_read c.args.text.now l.at told l.numbers l.earliest l.earlier l.later (last_of c.args.letter) _ l.invariant.1
           (omega arith) c.in-Is.value c.in-Is.next c.in-Is.is,

@@ -1,6 +1,6 @@
 -- `hex_in`: the loop keeps that `bad` is below 16 exactly where all bytes that it has passed are digits, and
 -- their value if they are. There are at most 16.
-use Rattle.basics.proofs.Prelude.{◌≡◌, refl, sym, ap, ◌∙◌, true, List, length, get_or, take, ℕ, ◌+◌, ◌-◌}
+use Rattle.basics.proofs.Prelude.{refl, sym, ap, ◌∙◌, length, get_or, take, ℕ, ◌+◌}
 use Rattle.basics.proofs.Prelude.{◌*◌, ◌%◌, ◌^◌, ◌≤◌, ◌<◌, arith, eq-eqb, lt-ltb, le-ltb, rules}
 use lib.Seq.{take_all}
 use Rattle.basics.proofs.Bits.{or_small}
@@ -60,5 +60,5 @@ returns-else-bad-lt16 c =
     let text = c.args.text.now in
     let n = length text in
     let whole = take_all loop.i text (omega arith) in
-    let some-bad = sym loop.invariant.1 ∙ le-ltb loop.bad 16 c.if-bad-lt16.false in
-    simp (eq-eqb n n refl, rw whole at some-bad)
+    let some_bad = sym loop.invariant.1 ∙ le-ltb loop.bad 16 c.if-bad-lt16.false in
+    simp (eq-eqb n n refl, rw whole at some_bad)

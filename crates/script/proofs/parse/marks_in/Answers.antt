@@ -29,8 +29,8 @@ unfolding marks_in
 returns-then-not-is_mark c =
     let bytes = c.args.text.now in
     let fits = sized bytes most_servers c.if-text-lt1.false c.if-text-gt-MARKS.false in
-    let no-mark = sym c.is_mark.ensures ∙ c.if-not-is_mark.true in
-    simp (fits, all_fails is_mark bytes (c.loop-i.i - 1) (omega arith) no-mark)
+    let no_mark = sym c.is_mark.ensures ∙ c.if-not-is_mark.true in
+    simp (fits, all_fails is_mark bytes (c.loop-i.i - 1) (omega arith) no_mark)
 
 -- where the loop goes on: the byte is a mark, and the marks passed so far are those behind its place
 pub loop-i-preserved : goal.loop-i-preserved

@@ -1,5 +1,5 @@
 -- `number_in`: the loop keeps the value of the digits that it has passed.
-use Rattle.basics.proofs.Prelude.{◌≡◌, refl, sym, ◌∙◌, length, get_or, ◌-◌, ◌*◌, ◌^◌, ◌<◌}
+use Rattle.basics.proofs.Prelude.{refl, sym, ◌∙◌, length, get_or, ◌*◌, ◌^◌, ◌<◌}
 use Rattle.basics.proofs.Prelude.{arith, le-leb, lt-leb, rules}
 use lib.Seq.{take_all}
 use Rattle.script.specs.Numbers.{is_digit, digit_value, all_bytes, value_from, number_in}

@@ -26,13 +26,13 @@ overflow_mul-power c =
     pow-le-pow_right (zero-lt-suc 9) {i = loop.count} {j = 18} (omega arith) in
     omega arith
 
-times-ten : (n power : ℕ) → power ≡ 10 ^ n → power * 10 ≡ 10 ^ (n + 1)
-times-ten n power is = rw (is, add-one n, pow-suc 10 n)
+times_ten : (n power : ℕ) → power ≡ 10 ^ n → power * 10 ≡ 10 ^ (n + 1)
+times_ten n power is = rw (is, add-one n, pow-suc 10 n)
 
 pub loop-power-preserved : goal.loop-power-preserved
 loop-power-preserved c =
     let loop = c.loop-power in
-    let higher = times-ten loop.count loop.power loop.invariant.2 in
+    let higher = times_ten loop.count loop.power loop.invariant.2 in
     let some_more = more c.args.value loop.count loop.power loop.invariant.1 loop.invariant.2 (omega arith) in
     (omega arith, omega arith, higher, omega (arith, some_more))
 

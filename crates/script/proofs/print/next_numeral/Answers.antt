@@ -26,11 +26,11 @@ goes_along {numeral} n same e =
 
 one_higher : (numeral : Numeral) → numeral ≡ numeral_of numeral.number → numeral.number < 2 ^ 64 - 1
     → numeral.last_two < 99 → record {
-  number = numeral.number + 1;
-  text = numeral.text;
-  kept = numeral.kept;
-  last_two = numeral.last_two + 1;
-}
+      number = numeral.number + 1;
+      text = numeral.text;
+      kept = numeral.kept;
+      last_two = numeral.last_two + 1;
+    }
     ≡ numeral_of (next_number numeral.number)
 one_higher numeral own h few =
     let n = numeral.number in

@@ -3,7 +3,6 @@
 use Rattle.basics.proofs.Prelude.{◌≡◌, refl, sym, List, length, set, ℕ, ◌+◌, ◌-◌, ◌/◌, ◌%◌, ◌≤◌}
 use Rattle.basics.proofs.Prelude.{arith}
 use Rattle.script.specs.Numbers.{digits_of, digit_count, decimal}
-use Rattle.script.specs.Writing.{Written}
 use Rattle.script.proofs.Digits.{digits_length, digit_below_ten}
 use Rattle.script.proofs.Trailing.{Trailing, none_yet, wide, one_more, two_more, all_written}
 use Rattle.script.proofs.Writing.{named}

@@ -1,6 +1,5 @@
 -- `put_decimal`: the loop keeps the digits behind place i written. Where one is rest at its end, the first
 -- digit is written too.
-use Rattle.basics.proofs.Prelude.{◌-◌}
 use Rattle.script.proofs.Trailing.{Trailing}
 use Rattle.script.proofs.print.put_decimal.Given as goal
 

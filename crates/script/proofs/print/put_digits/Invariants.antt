@@ -1,5 +1,4 @@
 -- `put_digits`: the loop keeps the digits behind place i written.
-use Rattle.basics.proofs.Prelude.{◌-◌}
 use Rattle.script.proofs.Trailing.{Trailing}
 use Rattle.script.proofs.print.put_digits.Given as goal
 

@@ -1,5 +1,5 @@
 -- `put_text`: the loop keeps the first i bytes written.
-use Rattle.basics.proofs.Prelude.{ap, ◌∙◌, List, get_or, set, ℕ, ◌+◌, ◌-◌, add-one, arith}
+use Rattle.basics.proofs.Prelude.{ap, ◌∙◌, List, get_or, set, ℕ, ◌+◌, add-one, arith}
 use lib.Seq.{paste-suc}
 use Rattle.script.proofs.print.put_text.Goals as goal
 
