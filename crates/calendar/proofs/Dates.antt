@@ -35,20 +35,20 @@ module _ {year month day : ℕ} where
   pub last_test : first_year ≤ year → year ≤ last_year → 1 ≤ month → month ≤ 12 → 1 ≤ day
       → is_date year month day ≡ leb day (month_length (leap year) month)
   unfolding is_date
-  last_test year-low year-high month-low month-high day-low =
+  last_test year_low year_high month_low month_high day_low =
       rw (
-        le-leb first_year year year-low,
-        le-leb year last_year year-high,
-        le-leb 1 month month-low,
-        le-leb month 12 month-high,
-        le-leb 1 day day-low,
+        le-leb first_year year year_low,
+        le-leb year last_year year_high,
+        le-leb 1 month month_low,
+        le-leb month 12 month_high,
+        le-leb 1 day day_low,
       )
       (and-true _)
 
   pub bounds_date : first_year ≤ year → year ≤ last_year → 1 ≤ month → month ≤ 12 → 1 ≤ day
       → day ≤ month_length (leap year) month → is_date year month day ≡ true
-  bounds_date year-low year-high month-low month-high day-low day-high =
-      last_test year-low year-high month-low month-high day-low ∙ le-leb _ _ day-high
+  bounds_date year_low year_high month_low month_high day_low day_high =
+      last_test year_low year_high month_low month_high day_low ∙ le-leb _ _ day_high
 
   pub real_date : Real year month day → is_date year month day ≡ true
   real_date bounds =

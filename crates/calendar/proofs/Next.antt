@@ -15,8 +15,8 @@ use Rattle.calendar.proofs.Counts.{month_up, year_up, twelve_months, month_least
 
 pub same_date : (one other : Date) → one.year ≡ other.year → one.month ≡ other.month
     → one.day ≡ other.day → one ≡ other
-same_date one other same-year same-month same-day =
-    λ i. record { year = same-year i; month = same-month i; day = same-day i }
+same_date one other same_year same_month same_day =
+    λ i. record { year = same_year i; month = same_month i; day = same_day i }
 
 -- the three cases of the next date, each with the place of the date
 by_place {ℓ} : (P : Date → Type ℓ) (today : Date)

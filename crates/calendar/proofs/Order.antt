@@ -78,23 +78,23 @@ kept : (first second : Date) → Real first.year first.month first.day
     → Real second.year second.month second.day → Earlier first second
     → number first < number second
 unfolding day_of
-kept first second real-first real-second (by_year y) =
+kept first second real_first real_second (by_year y) =
     let grows = first_grows (first.year + 1 - first_year) (second.year - first_year) (omega arith) in
-    omega (arith, below_year_end first real-first, grows)
-kept first second real-first real-second (by_month y m) =
+    omega (arith, below_year_end first real_first, grows)
+kept first second real_first real_second (by_month y m) =
     let grows = before_grows (leap first.year) first.month (second.month - 1) (omega arith) in
     omega (
       arith,
       january first second y,
       months first second (second.month - 1) y,
-      below_month_end first real-first,
+      below_month_end first real_first,
       grows,
     )
-kept first second real-first real-second (by_day y m d) =
+kept first second real_first real_second (by_day y m d) =
     let month : days_before (leap second.year) (first.month - 1)
     ≡ days_before (leap second.year) (second.month - 1) =
     ap (λ (n : ℕ). days_before (leap second.year) (n - 1)) m in
-    omega (arith, january first second y, months first second (first.month - 1) y, real-first.day_least)
+    omega (arith, january first second y, months first second (first.month - 1) y, real_first.day_least)
 
 -- which of two numbers is lower, or that they are the same
 by_order {ℓ} : {C : Type ℓ} (a b : ℕ) → (a < b → C) → (a ≡ b → C) → (b < a → C) → C

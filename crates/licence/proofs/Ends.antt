@@ -15,8 +15,8 @@ use Rattle.licence.proofs.Licensed.{licensed}
 use Rattle.licence.proofs.Entries.{entry_fields}
 
 pub end_real : (entry : ℕ) → is_licence entry ≡ true → is_real (end_of (fields_of entry)) ≡ true
-end_real entry licensed-entry =
-    real_date (licensed (fields_of entry) (entry_fields entry licensed-entry)).date
+end_real entry licensed_entry =
+    real_date (licensed (fields_of entry) (entry_fields entry licensed_entry)).date
 
 pub not_numbered : (year month day : ℕ) (why : Refusal) → day_number year month day ≡ Refused why
     → is_date year month day ≡ false

@@ -33,7 +33,7 @@ module _ (fields : Fields) (bounds : Real fields.year fields.month fields.day)
   before_28 f m =
       let before = before_last fields bounds f m in
       by_test (leap fields.year)
-      (λ l. let not-28 = eqb-false fields.day 28 (rw (l, eq-eqb fields.month february m) at other) in
+      (λ l. let not_28 = eqb-false fields.day 28 (rw (l, eq-eqb fields.month february m) at other) in
       omega (arith, before, last_in_leap_year fields.year l))
       (λ l. omega (arith, before, last_in_common_year fields.year l))
 

@@ -4,7 +4,7 @@
 -- the tag are those of low alone, and they are all zero exactly when low is. So `message_of` asks of low and
 -- the tag what `by_words` says, which is what the code asks.
 -- Assumes nothing.
-use Rattle.basics.proofs.Prelude.{◌≡◌, refl, sym, ap, ◌∙◌, Bool, true, cond, ◌&&◌, [], ◌∷◌, ℕ, ◌+◌, ◌-◌, ◌*◌}
+use Rattle.basics.proofs.Prelude.{◌≡◌, refl, sym, ap, ◌∙◌, Bool, true, cond, ◌&&◌, [], ◌∷◌, ℕ, ◌+◌, ◌*◌}
 use Rattle.basics.proofs.Prelude.{◌/◌, ◌%◌, ◌^◌, ◌<◌, arith, eqb, eqb-true, eq-eqb}
 use lib.Bits.{bit_and, and_mask}
 use Rattle.basics.proofs.Cases.{by_test, both, both_of, true_or_false}

@@ -24,19 +24,19 @@ fine down true message g = refl
 fine down false message g = absurd (true_or_false false g refl)
 
 -- of three messages, each by its test, all go the other way: so none goes this way
-none_goes : (down is_one is-two is-three fine-one fine-two fine-three : Bool) (one two three : Message)
+none_goes : (down is_one is_two is_three fine_one fine_two fine_three : Bool) (one two three : Message)
     → goes down (Good one) ≡ false → goes down (Good two) ≡ false → goes down (Good three) ≡ false
-    → goes down (cond is_one (if_fine fine-one one)
-    (cond is-two (if_fine fine-two two) (cond is-three (if_fine fine-three three) malformed)))
+    → goes down (cond is_one (if_fine fine_one one)
+    (cond is_two (if_fine fine_two two) (cond is_three (if_fine fine_three three) malformed)))
     ≡ false
 unfolding goes
-none_goes down true is-two is-three true fine-two fine-three one two three p q r = p
-none_goes down true is-two is-three false fine-two fine-three one two three p q r = refl
-none_goes down false true is-three fine-one true fine-three one two three p q r = q
-none_goes down false true is-three fine-one false fine-three one two three p q r = refl
-none_goes down false false true fine-one fine-two true one two three p q r = r
-none_goes down false false true fine-one fine-two false one two three p q r = refl
-none_goes down false false false fine-one fine-two fine-three one two three p q r = refl
+none_goes down true is_two is_three true fine_two fine_three one two three p q r = p
+none_goes down true is_two is_three false fine_two fine_three one two three p q r = refl
+none_goes down false true is_three fine_one true fine_three one two three p q r = q
+none_goes down false true is_three fine_one false fine_three one two three p q r = refl
+none_goes down false false true fine_one fine_two true one two three p q r = r
+none_goes down false false true fine_one fine_two false one two three p q r = refl
+none_goes down false false false fine_one fine_two fine_three one two three p q r = refl
 
 -- by kind, tag and low bits, as the code asks
 pub kind_known : (down test : Bool) (message : Message) {found : Unpacked} → found ≡ if_fine test message

@@ -7,9 +7,9 @@ use Rattle.calendar.specs.Calendar.{days_before, month_length}
 use Rattle.calendar.proofs.days_before.Goals as goal
 
 -- the row of a test: 1 where it holds
-row-less : (b : Bool) → bool_byte b < 2
-row-less true = omega arith
-row-less false = omega arith
+row_less : (b : Bool) → bool_byte b < 2
+row_less true = omega arith
+row_less false = omega arith
 
 row_back : (b : Bool) → eqb (bool_byte b) 1 ≡ b
 row_back true = refl
@@ -19,7 +19,7 @@ pub returns : goal.returns
 unfolding days_before month_length
 returns c =
     let a = c.before.args in
-    let row : bool_byte a.leap < 2 = row-less a.leap in
+    let row : bool_byte a.leap < 2 = row_less a.leap in
     let place : a.place < 12 = c.before.requires in
     let tested : true ≡ true = refl in
     rw (row_entry (λ (i k : ℕ). days_before (eqb i 1) k) 12)
