@@ -1,6 +1,6 @@
 -- What a message, and a phase, can be once some kinds of it are ruled out.
 -- Assumes nothing.
-use Rattle.basics.proofs.Prelude.{◌≡◌, refl, sym, ap, ◌∙◌, false, List, [], ◌∷◌, ℕ}
+use Rattle.basics.proofs.Prelude.{◌≡◌, refl, sym, ap, ◌∙◌, false, List, ℕ}
 use Rattle.register.proofs.Vocabulary.{Entry, Message, GetInfo, Info, Done, WriteInfo, Fwd, WriteAck, Pair}
 use Rattle.register.proofs.Vocabulary.{ReadNumber, WriteCounter, is_storing, uses_info, client_takes}
 use Rattle.register.specs.declared.Phase.{Phase}

@@ -1,7 +1,7 @@
 -- The outcome of the code's step is that of the model's: where nothing follows, where the replies are
 -- emptied, and where a chosen pair leads to the next phase.
 -- Assumes nothing.
-use Rattle.basics.proofs.Prelude.{◌≡◌, refl, sym, ap, ◌∙◌, Bool, true, false, cond, List, [], ◌∷◌, Option}
+use Rattle.basics.proofs.Prelude.{◌≡◌, refl, sym, ap, ◌∙◌, Bool, true, false, cond, List, [], Option}
 use Rattle.basics.proofs.Prelude.{replicate, ℕ, ◌+◌, ◌^◌, ◌<◌, arith, eqb, eqb-false}
 use Rattle.basics.proofs.Cases.{true_or_false}
 use Rattle.register.proofs.Vocabulary.{Entry, Pair, WriteCounter, last_counter, pair_bits, counter, pair_of}

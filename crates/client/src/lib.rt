@@ -111,7 +111,7 @@ pub fn is_reading(phase: Phase) -> bool
     }
 }
 
-#[tactic(auto, using(crate::proofs::Others::not_storing), unfolding(crate::specs::Sound::stores))]
+#[tactic(auto, unfolding(crate::specs::Sound::stores))]
 fn is_storing(phase: Phase) -> bool
     ensures { result ≡ stores phase }
 {
@@ -121,7 +121,7 @@ fn is_storing(phase: Phase) -> bool
     true
 }
 
-#[tactic(auto, using(crate::proofs::Others::not_storing_with), unfolding(register::specs::Client::is_storing))]
+#[tactic(auto, unfolding(register::specs::Client::is_storing))]
 fn is_storing_with(phase: Phase, counter: WriteCounter) -> bool
     ensures { result ≡ is_storing phase counter }
 {
@@ -382,7 +382,7 @@ fn code_of(phase: Phase) -> u64
     }
 }
 
-#[tactic(auto, using(crate::proofs::Others::no_counter), unfolding(crate::specs::Memory::counter_in))]
+#[tactic(auto, unfolding(crate::specs::Memory::counter_in))]
 fn counter_in(phase: Phase) -> u64
     ensures { result ≡ counter_in phase }
 {

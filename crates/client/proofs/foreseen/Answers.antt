@@ -3,7 +3,7 @@
 use Rattle.client.proofs.Facts.{of_client}
 use Rattle.client.proofs.Outcomes.{no_choice_sends, choice_sends}
 use Rattle.client.proofs.Shown.{sound_long, few_servers_lem}
-use Rattle.client.proofs.Taking.{collected_reading, follows_sends, drops_silently}
+use Rattle.client.proofs.Taking.{collected_reading, follows_sends}
 use Rattle.client.proofs.foreseen.Goals as goal
 
 pub choose-requires : goal.choose-requires

@@ -12,7 +12,8 @@ pub returns-in-WriteAck : goal.returns-in-WriteAck
 returns-in-WriteAck c = search ack_taken
 
 pub returns-in_default-message-2 : goal.returns-in_default-message-2
-returns-in_default-message-2 c = search (none_taken, c.in_default.not-Info, c.in_default-message.not-Fwd, c.in_default-message-2.not-WriteAck)
+returns-in_default-message-2 c =
+    none_taken _ _ _ c.in_default-message-2.not-Info c.in_default.not-Fwd c.in_default-message.not-WriteAck
 
 pub returns : goal.returns
 returns c = search info_taken

@@ -1,6 +1,6 @@
 -- `start`: the refusals in order; otherwise the start.
 -- Assumes nothing.
-use Rattle.basics.proofs.Prelude.{refl, rules}
+use Rattle.basics.proofs.Prelude.{refl}
 use Rattle.refusal.proofs.Ladders.{stop, next, end}
 use Rattle.client.proofs.Ladders.{no, yes, rung, idle_rung, reads_rung, long}
 use Rattle.client.proofs.Ladders.{start_refused, start_done}

@@ -1,6 +1,5 @@
 -- `take`: the refusals in order; otherwise what `take_message` does.
 -- Assumes nothing.
-use Rattle.basics.proofs.Prelude.{refl}
 use Rattle.refusal.proofs.Ladders.{stop, next, end}
 use Rattle.client.proofs.Ladders.{no, yes, rung, no_client, server_rung, malformed_rung, reply_rung, long}
 use Rattle.client.proofs.Ladders.{received_as_lem, take_refused, take_done}
