@@ -22,7 +22,6 @@ use Rattle.client.specs.Sound.{is_sound_memory}
 use Rattle.client.specs.Outcome.{After, after, started_of, taken_of}
 use Rattle.client.specs.Entry.{refused_by, decided, read_refusals, write_refusals, take_refusals}
 use Rattle.client.specs.Entry.{start_refusals, is_client, is_server, received_as, start_of, write_of, take_of}
-use Rattle.client.proofs.Facts.{holds, fails}
 use Rattle.client.proofs.Memory.{memory_facts}
 
 -- ---- in the table's order
@@ -57,6 +56,13 @@ by_take P d n f memory k bytes =
 
 -- ---- a ladder climbed
 
+-- a test that fails, and one that passes, where a rung has it behind `not`
+pub no : {b : Bool} → b ≡ false → not b ≡ true
+no e = ap not e
+
+pub yes : {b : Bool} → b ≡ true → not b ≡ false
+yes e = ap not e
+
 -- what a test of the code says of a rung
 pub rung : (b t u : Bool) → b ≡ t → not b ≡ u → not t ≡ u
 rung b t u e n = ap not (sym e) ∙ n
@@ -73,14 +79,14 @@ pub room : (b : Bool) (n : ℕ) → b ≡ leb last_read n → b ≡ false → n 
 room b n e left = leb-false last_read n (sym e ∙ left)
 
 module _ (n f : ℕ) (memory : List ℕ) (b : Bool) (told : b ≡ is_sound_memory n f memory)
-    (left : not b ≡ false) where
+    (left : b ≡ true) where
   pub long : length memory ≡ client_length
-  long = (memory_facts n f memory (holds b (is_sound_memory n f memory) told left)).long
+  long = (memory_facts n f memory (sym told ∙ left)).long
 
   pub own_sound : (client : Client) (d : ℕ) → client ≡ loaded d n f memory
       → is_sound_memory client.n client.f memory ≡ true
   own_sound client d e = ap (λ (x : Client). is_sound_memory x.n x.f memory) e
-      ∙ holds b (is_sound_memory n f memory) told left
+      ∙ sym told ∙ left
 
 abbrev refusal : Refusal → Outcome
 refusal why = record { sends = Nothing; answer = Refused why }
@@ -135,12 +141,12 @@ write_is d n f memory entry licensed given told is =
 
 -- bytes from a server: the rungs of processes and of replies
 module _ (b : Bool) (d n k : ℕ) (told : b ≡ is_client d) where
-  pub no_client : not b ≡ true → not (is_client d && is_server n k) ≡ true
-  no_client taken = rw (fails b (is_client d) told taken)
+  pub no_client : b ≡ false → not (is_client d && is_server n k) ≡ true
+  no_client taken = rw (sym told ∙ taken)
 
-  module _ (left : not b ≡ false) (server : Bool) (told-too : server ≡ is_server n k) where
+  module _ (left : b ≡ true) (server : Bool) (told-too : server ≡ is_server n k) where
     pub server_rung : (u : Bool) → not server ≡ u → not (is_client d && is_server n k) ≡ u
-    server_rung u o = rw (holds b (is_client d) told left) (ap not (sym told-too) ∙ o)
+    server_rung u o = rw (sym told ∙ left) (ap not (sym told-too) ∙ o)
 
 module _ (result : Unpacked) (bytes : List ℕ) (is : result ≡ unpack_of bytes) where
   pub malformed_rung : (why : Refusal) → result ≡ unpacked.Refused why
@@ -155,19 +161,19 @@ module _ (result : Unpacked) (bytes : List ℕ) (is : result ≡ unpack_of bytes
       ap (λ (v : Unpacked). not (goes_down v)) (sym is ∙ e) ∙ ap not (sym told) ∙ n
 
 -- the client and the server are in range
-module _ (d : ℕ) (b : Bool) (told : b ≡ is_client d) (n : not b ≡ false) where
+module _ (d : ℕ) (b : Bool) (told : b ≡ is_client d) (n : b ≡ true) where
   pub client_low : 1 ≤ d
-  client_low = leb-true 1 d (both (leb 1 d) (leb d most_clients) (holds b (is_client d) told n)).0
+  client_low = leb-true 1 d (both (leb 1 d) (leb d most_clients) (sym told ∙ n)).0
 
   pub client_high : d ≤ most_clients
-  client_high = leb-true d most_clients (both (leb 1 d) (leb d most_clients) (holds b (is_client d) told n)).1
+  client_high = leb-true d most_clients (both (leb 1 d) (leb d most_clients) (sym told ∙ n)).1
 
-module _ (n k : ℕ) (b : Bool) (told : b ≡ is_server n k) (left : not b ≡ false) where
+module _ (n k : ℕ) (b : Bool) (told : b ≡ is_server n k) (left : b ≡ true) where
   pub server_low : 1 ≤ k
-  server_low = leb-true 1 k (both (leb 1 k) (leb k n) (holds b (is_server n k) told left)).0
+  server_low = leb-true 1 k (both (leb 1 k) (leb k n) (sym told ∙ left)).0
 
   pub server_high : k ≤ n
-  server_high = leb-true k n (both (leb 1 k) (leb k n) (holds b (is_server n k) told left)).1
+  server_high = leb-true k n (both (leb 1 k) (leb k n) (sym told ∙ left)).1
 
 -- what the bytes bring is taken
 pub received_as_lem : (client : Client) (d n f : ℕ) (memory : List ℕ) (k : ℕ) (result : Unpacked) (bytes : List ℕ)

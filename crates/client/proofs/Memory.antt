@@ -10,7 +10,7 @@
 -- a client that is loaded.
 -- Assumes nothing.
 use Rattle.basics.proofs.Prelude.{◌≡◌, sym, ap, ◌∙◌, Bool, true, List, [], ◌∷◌, ◌++◌, length, get_or, set, drop}
-use Rattle.basics.proofs.Prelude.{replicate, length-append, ℕ, ◌%◌, ◌^◌, ◌≤◌, ◌<◌, arith, eqb, leb, ltb}
+use Rattle.basics.proofs.Prelude.{replicate, length-append, ℕ, ◌%◌, ◌^◌, ◌≤◌, ◌<◌, arith, eqb, ltb}
 use Rattle.basics.proofs.Prelude.{eqb-true, eq-eqb, leb-true, le-leb}
 use lib.Seq.{drop-cons, sets-eq}
 use Rattle.basics.proofs.Tests.{each, all_of}

@@ -1,10 +1,8 @@
 -- The outcome of the code's step is that of the model's: where nothing follows, where the replies are
 -- emptied, and where a chosen pair leads to the next phase.
 -- Assumes nothing.
-use Rattle.basics.proofs.Prelude.{◌≡◌, refl, sym, ap, ◌∙◌, Bool, true, false, cond, List, [], ◌∷◌, Option}
+use Rattle.basics.proofs.Prelude.{◌≡◌, refl, sym, ap, ◌∙◌, Bool, true, false, cond, List, [], Option}
 use Rattle.basics.proofs.Prelude.{replicate, ℕ, ◌+◌, ◌^◌, ◌<◌, arith, eqb, eqb-false}
-use types.Run.{OneOf, miss}
-use denote.Enum.Declared.{tag_of}
 use Rattle.basics.proofs.Cases.{true_or_false}
 use Rattle.register.proofs.Vocabulary.{Entry, Pair, WriteCounter, last_counter, pair_bits, counter, pair_of}
 use Rattle.register.proofs.Vocabulary.{Response, is_reading, cleared, sends_nothing, counts, chosen}
@@ -17,7 +15,6 @@ use Rattle.message.specs.Pair.{counter_bits}
 use Rattle.message.proofs.Pairs.{counter_fits}
 use Rattle.register.specs.Client as model
 use Rattle.register.specs.Client.{not_old, valid}
-use Rattle.register.specs.contracts.Phase as P
 use Rattle.replies.specs.declared.Choice.{Choice}
 use Rattle.replies.specs.declared.Choice.TheVariants as choice
 use Rattle.replies.specs.Replies.{store_replies, choice_of, replies_length}
@@ -65,19 +62,19 @@ module _ (client : Client) (pair : Pair) where
   concluded_in phase = stored client (concluded client.n client.f client.number
       (view client empty) phase pair)
 
-  -- a read ends; the tags of the other phases than reading for a write
-  abbrev no_write : List ℕ
-  no_write = 0 ∷ 1 ∷ 3 ∷ []
+  -- a read ends: the phase is another than reading for a write
+  abbrev NoWrite : Phase → Type 0
+  NoWrite phase = (entry : Entry) → phase ≡ ReadingForWrite entry → ⊥
 
-  ends_in : (phase : Phase) → is_reading phase ≡ true → OneOf no_write (tag_of P.the_type phase)
+  ends_in : (phase : Phase) → is_reading phase ≡ true → NoWrite phase
       → after (ends_with client Done (Read pair)) empty ≡ concluded_in phase
   unfolding concluded is_reading
   ends_in Idle reading other = absurd (true_or_false false reading refl)
   ends_in Reading reading other = empties client Idle Done (Read pair)
-  ends_in (ReadingForWrite entry) reading other = absurd (miss no_write 2 tt other)
+  ends_in (ReadingForWrite entry) reading other = absurd (other entry refl)
   ends_in (Storing entry count) reading other = absurd (true_or_false false reading refl)
 
-  pub read_ends : is_reading client.phase ≡ true → OneOf no_write (tag_of P.the_type client.phase)
+  pub read_ends : is_reading client.phase ≡ true → NoWrite client.phase
       → (step : Transition) → step ≡ ends_with client Done (Read pair)
       → after step empty ≡ concluded_of client pair
   read_ends reading other step e =

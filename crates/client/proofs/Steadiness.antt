@@ -5,7 +5,7 @@
 -- since what a ladder does not refuse is in range.
 -- Assumes nothing.
 use Rattle.basics.proofs.Prelude.{◌≡◌, refl, sym, ap, ◌∙◌, Bool, true, List, drop, replicate, ℕ}
-use Rattle.basics.proofs.Prelude.{◌≤◌, arith, leb, leb-true, not-false}
+use Rattle.basics.proofs.Prelude.{arith, leb, leb-true, not-false}
 use Rattle.basics.proofs.Cases.{both}
 use Rattle.register.proofs.Vocabulary.{lowest, Entry, unpack_of, most_clients, are_servers_in_range, new_client}
 use Rattle.register.proofs.Vocabulary.{client_takes, started}

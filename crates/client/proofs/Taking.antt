@@ -1,8 +1,7 @@
 -- The cases of one message: which test of the model's decides, and what follows then.
 -- Assumes nothing.
 use Rattle.basics.proofs.Prelude.{◌≡◌, refl, sym, ap, ◌∙◌, subst, Bool, true, false, cond, not, ◌&&◌, List}
-use Rattle.basics.proofs.Prelude.{[], length, replicate, ℕ, suc, ◌-◌, ◌^◌, ◌≤◌, ◌<◌, arith, eqb, not-true}
-use Rattle.basics.proofs.Prelude.{not-false}
+use Rattle.basics.proofs.Prelude.{[], length, replicate, ℕ, suc, ◌-◌, ◌^◌, ◌≤◌, ◌<◌, arith, eqb}
 use Rattle.basics.proofs.Cases.{by_test, both, true_or_false}
 use Rattle.register.proofs.Vocabulary.{Message, GetInfo, Info, Done, WriteInfo, Fwd, WriteAck, Pair}
 use Rattle.register.proofs.Vocabulary.{ReadNumber, WriteCounter, pair_bits, stamp, pair_of, counted}
@@ -21,7 +20,7 @@ use Rattle.client.specs.State.{view}
 use Rattle.client.specs.Sound.{is_sound}
 use Rattle.client.specs.Sends.{After, after, ends_with, stored, followed, chosen_of, received_of}
 use Rattle.client.specs.Collecting.{is_collected, with_reply, Collected, received_pair_of}
-use Rattle.client.proofs.Facts.{holds, fails, storing_is, client_facts, of_client, storing_fits}
+use Rattle.client.proofs.Facts.{storing_is, client_facts, of_client, storing_fits}
 use Rattle.client.proofs.Outcomes.{kept, unchanged_is, empties}
 use Rattle.client.proofs.Shown as shown
 use Rattle.client.proofs.Shown.{paired, informed, pair_view, info_view, ack_view, pair_sound}
@@ -84,10 +83,10 @@ module _ (client : Client) (replies : List ℕ) (k : ℕ) where
   -- an INFO is noted, and then its pair is added
   module _ (noted : List ℕ) (number : ℕ) (pair : Pair) (tag : ReadNumber) (b : Bool)
       (noted_is : noted ≡ put_note replies (k - 1) number) (stamp_is : number ≡ stamp pair)
-      (fits : pair.0 < 2 ^ pair_bits) (told : b ≡ takes tag) (n : not b ≡ false)
+      (fits : pair.0 < 2 ^ pair_bits) (told : b ≡ takes tag) (n : b ≡ true)
       (h : is_sound client replies ≡ true) (low : 1 ≤ k) (high : k ≤ client.n) where
     taken : takes tag ≡ true
-    taken = holds b (takes tag) told n
+    taken = sym told ∙ n
 
     reading : is_reading client.phase ≡ true
     reading = takes_reading tag taken
@@ -130,29 +129,29 @@ module _ (client : Client) (replies : List ℕ) (k : ℕ) where
   -- the choice, or nothing, follows
   module _ (message : Message) (b : Bool) (left : List ℕ)
       (done : Collected client replies k message b left) where
-    pub collected_reading : not b ≡ false → is_reading client.phase ≡ true
+    pub collected_reading : b ≡ true → is_reading client.phase ≡ true
     collected_reading n =
-        collects_reading message (holds b (is_collected client replies k message) done.told n)
+        collects_reading message (sym done.told ∙ n)
 
-    pub follows : not b ≡ false → (outcome : After) → outcome ≡ chosen_of client left
+    pub follows : b ≡ true → (outcome : After) → outcome ≡ chosen_of client left
         → outcome ≡ received_pair_of client replies k message
     follows n outcome e =
-        let yes = holds b (is_collected client replies k message) done.told n in
+        let yes = sym done.told ∙ n in
         e ∙ rw yes (ap (λ (self : model.Client). stored client (followed client self)) (done.shows ∙ rw yes))
 
-    pub dropped : not b ≡ true → (step : Transition) → step ≡ kept client
+    pub dropped : b ≡ false → (step : Transition) → step ≡ kept client
         → after step left ≡ received_pair_of client replies k message
     dropped n step e =
-        let no = fails b (is_collected client replies k message) done.told n in
+        let no = sym done.told ∙ n in
         rw no (unchanged_is client left step done.sound e
         ∙ ap (λ (self : model.Client). stored client (sends_nothing self)) (done.shows ∙ rw no))
 
     -- and what is sent in each case
-    pub follows_sends : not b ≡ false → (sent : List Message) → sent ≡ (chosen_of client left).sends
+    pub follows_sends : b ≡ true → (sent : List Message) → sent ≡ (chosen_of client left).sends
         → sent ≡ (received_pair_of client replies k message).sends
     follows_sends n sent e = e ∙ ap (λ (a : After). a.sends) (follows n (chosen_of client left) refl)
 
-    pub drops_silently : not b ≡ true → [] ≡ (received_pair_of client replies k message).sends
+    pub drops_silently : b ≡ false → [] ≡ (received_pair_of client replies k message).sends
     drops_silently n = ap (λ (a : After). a.sends) (dropped n (kept client) refl)
 
   -- a WRITE_ACK sends nothing
@@ -175,18 +174,18 @@ module _ (client : Client) (replies : List ℕ) (k : ℕ) where
 module _ (client : Client) (replies : List ℕ) (k : ℕ) (h : is_sound client replies ≡ true)
     (counter : WriteCounter) (b : Bool) (told : b ≡ is_storing client.phase counter) where
   -- of another write, or outside one, it is dropped
-  pub ack_dropped : not b ≡ true → (step : Transition) → step ≡ kept client
+  pub ack_dropped : b ≡ false → (step : Transition) → step ≡ kept client
       → after step replies ≡ received_of client replies k (WriteAck counter)
   unfolding client_takes
   ack_dropped n step e =
-      rw (fails b (is_storing client.phase counter) told n) (unchanged_is client replies step h e)
+      rw (sym told ∙ n) (unchanged_is client replies step h e)
 
   -- otherwise it is noted
-  module _ (low : 1 ≤ k) (high : k ≤ client.n) (n : not b ≡ false) (left : List ℕ)
+  module _ (low : 1 ≤ k) (high : k ≤ client.n) (n : b ≡ true) (left : List ℕ)
       (noted : left ≡ put_ack replies (k - 1))
     where
       storing : is_storing client.phase counter ≡ true
-      storing = holds b (is_storing client.phase counter) told n
+      storing = sym told ∙ n
 
       pub ack_sound : is_sound client left ≡ true
       ack_sound =
@@ -229,11 +228,11 @@ module _ (client : Client) (replies : List ℕ) (k : ℕ) (h : is_sound client r
             (ap (view client) noted ∙ ack_view client replies k h low high)
             ∙ rw storing
 
-        pub ack_waits : not is-enough ≡ true → step ≡ kept client
+        pub ack_waits : is-enough ≡ false → step ≡ kept client
             → after step left ≡ received_of client replies k (WriteAck counter)
-        ack_waits few e = unchanged_is client left step ack_sound e ∙ acked_is false (not-true is-enough few)
+        ack_waits few e = unchanged_is client left step ack_sound e ∙ acked_is false few
 
-        pub ack_ends : not is-enough ≡ false → (emptied : List ℕ) → emptied ≡ replicate replies_length 0
+        pub ack_ends : is-enough ≡ true → (emptied : List ℕ) → emptied ≡ replicate replies_length 0
             → (entry : ℕ) → entry ≡ (entry_of client.phase).0 → (pair : Pair)
             → pair ≡ pair_of counter client.number (record { 0 = entry })
             → step ≡ ends_with client Nothing (Wrote pair)
@@ -241,4 +240,4 @@ module _ (client : Client) (replies : List ℕ) (k : ℕ) (h : is_sound client r
         ack_ends many emptied el entry ee pair ep et =
             rw (et, el, ep, ee) (empties client Idle Nothing
             (Wrote (pair_of counter client.number (entry_of client.phase)))
-            ∙ acked_is true (not-false is-enough many))
+            ∙ acked_is true many)

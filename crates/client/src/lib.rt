@@ -87,6 +87,7 @@ pub struct Outcome {
 
 // ---- phases
 
+#[tactic(auto, unfolding(register::specs::Client::is_idle))]
 pub fn is_idle(phase: Phase) -> bool
     ensures { result ≡ is_idle phase }
 {
@@ -98,6 +99,7 @@ pub fn is_idle(phase: Phase) -> bool
     }
 }
 
+#[tactic(auto, unfolding(register::specs::Client::is_reading))]
 pub fn is_reading(phase: Phase) -> bool
     ensures { result ≡ is_reading phase }
 {
@@ -109,6 +111,7 @@ pub fn is_reading(phase: Phase) -> bool
     }
 }
 
+#[tactic(auto, unfolding(crate::specs::Sound::stores))]
 fn is_storing(phase: Phase) -> bool
     ensures { result ≡ stores phase }
 {
@@ -118,6 +121,7 @@ fn is_storing(phase: Phase) -> bool
     true
 }
 
+#[tactic(auto, unfolding(register::specs::Client::is_storing))]
 fn is_storing_with(phase: Phase, counter: WriteCounter) -> bool
     ensures { result ≡ is_storing phase counter }
 {
@@ -127,6 +131,7 @@ fn is_storing_with(phase: Phase, counter: WriteCounter) -> bool
     message::same_counter(own, counter)
 }
 
+#[tactic(auto, unfolding(register::specs::Client::entry_of))]
 fn entry_of(phase: Phase) -> u64
     ensures { result ≡ (entry_of phase).0 }
 {
@@ -332,6 +337,7 @@ fn foreseen(client: Client, k: u8, message: Message, replies: &mut [u64]) -> Sen
 
 // ---- a client in its memory
 
+#[tactic(auto, unfolding(crate::specs::Memory::phase_of))]
 fn phase_of(code: u64, entry: Entry, counter: WriteCounter) -> Phase
     ensures { result ≡ phase_of code entry.0 counter.0 }
 {
@@ -364,6 +370,7 @@ pub fn load(memory: &[u64], number: u8, n: u8, f: u8) -> Client
     }
 }
 
+#[tactic(auto, unfolding(crate::specs::Memory::code_of))]
 fn code_of(phase: Phase) -> u64
     ensures { result ≡ code_of phase }
 {
@@ -375,6 +382,7 @@ fn code_of(phase: Phase) -> u64
     }
 }
 
+#[tactic(auto, unfolding(crate::specs::Memory::counter_in))]
 fn counter_in(phase: Phase) -> u64
     ensures { result ≡ counter_in phase }
 {

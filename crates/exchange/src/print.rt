@@ -2,90 +2,93 @@
 use basics::{hex_digit, wide};
 use message::Pair;
 use register::Answer;
+use std::io;
 
-fn print_byte(byte: u8) {
+fn print_byte(rt: &impl Print, byte: u8) -> io::Result<()> {
     let text = [hex_digit(wide(byte) / 16), hex_digit(wide(byte) % 16)];
-    io::write_all(1, &text);
+    rt.write_all(&text)
 }
 
-fn print_bytes(bytes: &[u8]) {
+fn print_bytes(rt: &impl Print, bytes: &[u8]) -> io::Result<()> {
     let mut i: usize = 0;
     while i < bytes.len() {
-        print_byte(bytes[i]);
+        print_byte(rt, bytes[i])?;
         i += 1;
     }
+    Ok(())
 }
 
-fn print_name(word: &[u8], number: u64) {
-    io::write_all(1, word);
-    io::print_decimal(1, number);
+fn print_name(rt: &impl Print, word: &[u8], number: u64) -> io::Result<()> {
+    rt.write_all(word)?;
+    print!(rt; "{number}")
 }
 
-fn print_message(bytes: &[u8]) {
-    io::write_all(1, b": ");
-    print_bytes(bytes);
-    io::write_all(1, b"\n");
+fn print_message(rt: &impl Print, bytes: &[u8]) -> io::Result<()> {
+    print!(rt; ": ")?;
+    print_bytes(rt, bytes)?;
+    println!(rt;)
 }
 
-fn print_request(d: u64, k: u64, bytes: &[u8]) {
-    print_name(b"client ", d);
-    print_name(b" to server ", k);
-    print_message(bytes);
+fn print_request(rt: &impl Print, d: u64, k: u64, bytes: &[u8]) -> io::Result<()> {
+    print_name(rt, b"client ", d)?;
+    print_name(rt, b" to server ", k)?;
+    print_message(rt, bytes)
 }
 
 // What client d sends to servers 1 to n.
-pub fn print_requests(d: u64, n: u64, bytes: &[u8]) {
+pub fn print_requests(rt: &impl Print, d: u64, n: u64, bytes: &[u8]) -> io::Result<()> {
     let mut k: u64 = 0;
     while k < n {
         k += 1;
-        print_request(d, k, bytes);
+        print_request(rt, d, k, bytes)?;
     }
+    Ok(())
 }
 
 // What server k sends to client d.
-pub fn print_reply(k: u64, d: u64, bytes: &[u8]) {
-    print_name(b"server ", k);
-    print_name(b" to client ", d);
-    print_message(bytes);
+pub fn print_reply(rt: &impl Print, k: u64, d: u64, bytes: &[u8]) -> io::Result<()> {
+    print_name(rt, b"server ", k)?;
+    print_name(rt, b" to client ", d)?;
+    print_message(rt, bytes)
 }
 
-fn print_entry(entry: u64) {
-    print_byte(basics::byte(entry, 32));
-    print_byte(basics::byte(entry, 24));
-    print_byte(basics::byte(entry, 16));
-    print_byte(basics::byte(entry, 8));
-    print_byte(basics::byte(entry, 0));
+fn print_entry(rt: &impl Print, entry: u64) -> io::Result<()> {
+    print_byte(rt, basics::byte(entry, 32))?;
+    print_byte(rt, basics::byte(entry, 24))?;
+    print_byte(rt, basics::byte(entry, 16))?;
+    print_byte(rt, basics::byte(entry, 8))?;
+    print_byte(rt, basics::byte(entry, 0))
 }
 
-fn print_pair(word: &[u8], pair: Pair) {
-    print_name(word, message::counter_word(message::counter_of(pair)));
-    print_name(b" ", message::client_of(pair) as u64);
-    io::write_all(1, b" ");
-    print_entry(message::entry_of(pair).0);
+fn print_pair(rt: &impl Print, word: &[u8], pair: Pair) -> io::Result<()> {
+    print_name(rt, word, message::counter_word(message::counter_of(pair)))?;
+    print_name(rt, b" ", message::client_of(pair) as u64)?;
+    print!(rt; " ")?;
+    print_entry(rt, message::entry_of(pair).0)
 }
 
-fn print_outcome(d: u64, word: &[u8], pair: Pair) {
-    print_name(b"client ", d);
-    print_pair(word, pair);
-    io::write_all(1, b"\n");
+fn print_outcome(rt: &impl Print, d: u64, word: &[u8], pair: Pair) -> io::Result<()> {
+    print_name(rt, b"client ", d)?;
+    print_pair(rt, word, pair)?;
+    println!(rt;)
 }
 
-fn print_refused(d: u64, number: u8) {
-    print_name(b"client ", d);
-    print_name(b" REFUSED ", number as u64);
-    io::write_all(1, b"\n");
+fn print_refused(rt: &impl Print, d: u64, number: u8) -> io::Result<()> {
+    print_name(rt, b"client ", d)?;
+    print_name(rt, b" REFUSED ", number as u64)?;
+    println!(rt;)
 }
 
 // What client d answers, unless it only goes on.
-pub fn print_answer(d: u64, answer: Answer) {
+pub fn print_answer(rt: &impl Print, d: u64, answer: Answer) -> io::Result<()> {
     match answer {
-        Answer::Went => {}
-        Answer::Read(pair) => print_outcome(d, b" READ ", pair),
-        Answer::Wrote(pair) => print_outcome(d, b" WROTE ", pair),
+        Answer::Went => Ok(()),
+        Answer::Read(pair) => print_outcome(rt, d, b" READ ", pair),
+        Answer::Wrote(pair) => print_outcome(rt, d, b" WROTE ", pair),
         Answer::Spent => {
-            print_name(b"client ", d);
-            io::write_all(1, b" SPENT\n");
+            print_name(rt, b"client ", d)?;
+            println!(rt; " SPENT")
         }
-        Answer::Refused(why) => print_refused(d, refusal::number(why)),
+        Answer::Refused(why) => print_refused(rt, d, refusal::number(why)),
     }
 }

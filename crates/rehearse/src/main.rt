@@ -8,11 +8,11 @@ ghost use Rattle.std.specs.Prelude.{◌+◌, ◌<◌, ◌≤◌, ◌≡◌, leng
 ghost use Rattle.script.specs.Writing.{Written};
 ghost use Rattle.rehearse.specs.Blocks.{joined, input_bytes, output_bytes};
 
-use libc::{STDERR_FILENO, STDIN_FILENO, STDOUT_FILENO};
 use lines::{obey_lines, turn_of};
 use script::lines::{NEWLINE, keep};
 use script::print::{PRINTED_BYTES, numeral_of};
 use state::{CLIENTS_LENGTH, SERVERS_LENGTH, Settings};
+use std::io::Read;
 
 mod lines;
 
@@ -33,14 +33,16 @@ fn new_output() -> [u8; OUTPUT_BYTES]
     [0; OUTPUT_BYTES]
 }
 
-// Reads behind the bytes that were kept, and answers how many.
-fn read_behind(input: &mut [u8], have: usize) -> usize
+// Reads behind the bytes that were kept, and answers how many. A read that fails counts as the input's end.
+fn read_behind(reader: &mut impl Read, input: &mut [u8], have: usize) -> usize
     requires { have ≤ length input.old }
     ensures { (take have input.new ≡ take have input.old)
         × (have + result ≤ length input.new) }
 {
-    let got = libc::read(STDIN_FILENO, &mut input[have..]);
-    io::count(got, &input[have..])
+    match reader.read(&mut input[have..]) {
+        Ok(more) => more,
+        Err(_) => 0,
+    }
 }
 
 // Closes the block: `have` bytes kept of the last one, and `more` bytes that were read behind them. At the
@@ -63,18 +65,19 @@ fn close(input: &mut [u8], have: usize, more: usize) -> usize
 
 // Writes what the lines of a block print, and answers whether all of it was written. If not, that is said
 // on standard error.
-fn write_out(text: &[u8]) -> bool {
-    if io::write_all(STDOUT_FILENO, text) {
+fn write_out(rt: &(impl Print + Eprint), text: &[u8]) -> bool {
+    if rt.write_all(text).is_ok() {
         return true;
     }
-    io::write_all(STDERR_FILENO, b"rehearse: the output cannot be written\n");
+    let _ = eprintln!(rt; "rehearse: the output cannot be written");
     false
 }
 
 // Every line of input prints at most 80 bytes, so the output of a block has room. A proved loop has to end,
 // and nothing says that the input does: so the loop counts its turns down, from a number that no run uses
 // up.
-fn main() {
+fn main(rt: HostRuntime) {
+    let mut stdin = rt.stdin();
     let mut servers = [0u64; SERVERS_LENGTH];
     let mut clients = [0u64; CLIENTS_LENGTH];
     let mut slots = channel::empty_slots();
@@ -90,7 +93,7 @@ fn main() {
     let mut have = 0;
     let mut turns = u64::MAX;
     while 0 < turns {
-        let more = read_behind(&mut input, have);
+        let more = read_behind(&mut stdin, &mut input, have);
         let total = close(&mut input, have, more);
         if total < 1 {
             return;
@@ -104,7 +107,7 @@ fn main() {
             &mut slots,
         );
         let used = turn.used;
-        if !write_out(&out[..used]) {
+        if !write_out(&rt, &out[..used]) {
             return;
         }
         let at = turn.at;

@@ -130,20 +130,20 @@ module _
     module _
         (low : Hex)
         (second : let rest = take (length text - 6) (drop 6 text) in hex_is low ≡ hex_in (length rest) rest)
-        {upper : ℕ} (is-high : high ≡ hex.Is upper)
+        {upper : ℕ} (is_high : high ≡ hex.Is upper)
       where
         second_is : hex_in 16 (drop 6 text) ≡ hex_is low
         second_is = sym (read_wide 16 (drop 6 text) low (rest_wide text wide) (rw (rest_is text 6) at second))
 
         pub second_none : low ≡ hex.No → Unread ≡ message_after k d text
-        second_none is-low = rw (halves text wide, first_is, is-high, second_is, is-low) refl
+        second_none is_low = rw (halves text wide, first_is, is_high, second_is, is_low) refl
 
         pub both_are : {lower : ℕ} → low ≡ hex.Is lower
             → Do (L k d (record { 0 = upper % 2 ^ 32; 1 = lower })) ≡ message_after k d text
-        both_are {lower} is-low =
-            let small : upper < 2 ^ 24 = hex_small 6 (take 6 text) upper (first_is ∙ ap hex_is is-high) in
-            let fits : lower < 2 ^ 64 = hex_small 16 (drop 6 text) lower (second_is ∙ ap hex_is is-low) in
+        both_are {lower} is_low =
+            let small : upper < 2 ^ 24 = hex_small 6 (take 6 text) upper (first_is ∙ ap hex_is is_high) in
+            let fits : lower < 2 ^ 64 = hex_small 16 (drop 6 text) lower (second_is ∙ ap hex_is is_low) in
             ap (λ (n : ℕ). Do (L k d (record { 0 = n; 1 = lower })))
             (mod-eq_of_lt (lt_of_lt_of_le small (lit≤ tt)))
             ∙ ap (λ (w : Words). Do (L k d w)) (sym (words_back upper lower fits))
-            ∙ rw (halves text wide, first_is, is-high, second_is, is-low) refl
+            ∙ rw (halves text wide, first_is, is_high, second_is, is_low) refl

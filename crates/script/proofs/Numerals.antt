@@ -29,13 +29,13 @@ pub own_number : {numeral : Numeral} (n : ℕ) → numeral ≡ numeral_of n → 
 own_number n e = e ∙ ap numeral_of (sym (ap (λ (numeral : Numeral). numeral.number) e ∙ number_is_lem n))
 
 -- behind a number there is room for the rest of its line
-pub rest_room : (number : ℕ) {before mid : List ℕ} {at number-end : ℕ} → at + longest ≤ length before
-    → Begun (decimal number) before at number-end mid → number-end + 60 ≤ length mid
+pub rest_room : (number : ℕ) {before mid : List ℕ} {at number_end : ℕ} → at + longest ≤ length before
+    → Begun (decimal number) before at number_end mid → number_end + 60 ≤ length mid
 rest_room number free begun = rw (begun_keeps begun) (omega (arith, begun.ends, decimal_short number))
 
 -- the number, and behind it what a line says: the whole line
-pub line_written : (number : ℕ) (output : Output) {at number-end end : ℕ} {before mid after : List ℕ}
-    → Begun (decimal number) before at number-end mid → Written (behind_number output) mid number-end end after
+pub line_written : (number : ℕ) (output : Output) {at number_end end : ℕ} {before mid after : List ℕ}
+    → Begun (decimal number) before at number_end mid → Written (behind_number output) mid number_end end after
     → Written (printed number output) before at end after
 unfolding printed
 line_written number output begun rest = then_over begun (behind_long output) rest
@@ -104,16 +104,16 @@ module _ (numeral : Numeral) (own : numeral ≡ numeral_of numeral.number) where
         → Begun (decimal numeral.number) before at (at + numeral.kept + 2) after
     numeral_begun {at} {end} {before} {mid} {after} wide first is =
         let number : ℕ = numeral.number in
-        let kept-end : ℕ = at + numeral.kept in
+        let kept_end : ℕ = at + numeral.kept in
         let few : numeral.kept ≤ 6 = few_kept in
-        let free : kept-end + 2 ≤ length mid = rw (keeps first) (omega arith) in
-        let two : Written (last_two number) mid kept-end (kept-end + 2) after =
+        let free : kept_end + 2 ≤ length mid = rw (keeps first) (omega arith) in
+        let two : Written (last_two number) mid kept_end (kept_end + 2) after =
         record {
           fits =
               free;
           ends = refl;
           holds = (rw (last_two_lem, last_one number, last_ten number) at is)
-              ∙ two_written mid kept-end (hex_digit (number / 10 % 10)) (hex_digit (number % 10)) free;
+              ∙ two_written mid kept_end (hex_digit (number / 10 % 10)) (hex_digit (number % 10)) free;
         } in
         let same : digits ++ (last_two number ++ rest) ≡ decimal number ++ rest =
         sym (append_assoc digits (last_two number) rest)

@@ -47,10 +47,10 @@ is_hex d h =
 
 -- ---- n digits to a base
 
-module _ (base : ℕ) (some-base : 0 < base) where
+module _ (base : ℕ) (some_base : 0 < base) where
   pos : (n : ℕ) → 0 < base ^ n
   pos zero = rw (pow-zero base) (omega arith)
-  pos (suc n) = rw (pow-suc base n) (mul-pos (pos n) some-base)
+  pos (suc n) = rw (pow-suc base n) (mul-pos (pos n) some_base)
 
   all_back : (test : ℕ → Bool) → ((d : ℕ) → d < base → test (hex_digit d) ≡ true) → (n value : ℕ)
       → all_bytes test (digits_of base n value) ≡ true
@@ -58,7 +58,7 @@ module _ (base : ℕ) (some-base : 0 < base) where
   all_back test each zero value = refl
   all_back test each (suc n) value =
       both_of (test (hex_digit (value / base ^ n % base))) (all_bytes test (digits_of base n value))
-      (each (value / base ^ n % base) (mod-lt (value / base ^ n) some-base)) (all_back test each n value)
+      (each (value / base ^ n % base) (mod-lt (value / base ^ n) some_base)) (all_back test each n value)
 
   value_back : (digit : ℕ → ℕ) → ((d : ℕ) → d < base → digit (hex_digit d) ≡ d)
       → (n number value : ℕ)
@@ -68,9 +68,9 @@ module _ (base : ℕ) (some-base : 0 < base) where
   value_back digit each (suc n) number value =
       let d : ℕ = value / base ^ n % base in
       ap (λ (x : ℕ). value_from digit base (number * base + x) (digits_of base n value))
-      (each d (mod-lt (value / base ^ n) some-base))
+      (each d (mod-lt (value / base ^ n) some_base))
       ∙ value_back digit each n (number * base + d) value
-      ∙ rw (pow-succ' base n, mod-mul value {m = base} {c = base ^ n} some-base (pos n))
+      ∙ rw (pow-succ' base n, mod-mul value {m = base} {c = base ^ n} some_base (pos n))
       (simp (add-mul, mul_assoc, add_assoc))
 
   value_is : (digit : ℕ → ℕ) → ((d : ℕ) → d < base → digit (hex_digit d) ≡ d)

@@ -62,13 +62,13 @@ module _
     pub short_is : (two : Bool) → two ≡ is_digit second → get_or text (at + 1 + bool_byte two) 0 ≡ mark
         → (value : ℕ) → value ≡ short_value byte second
         → Short text at mark value (at + 1 + bool_byte two + 1)
-    short_is two e is value is-value =
+    short_is two e is value is_value =
         let long = word_length two e in
         let few = more_le two in
         record {
           word = short_word byte second;
           few = omega arith;
-          number = word_number byte second digit ∙ ap some (sym is-value);
+          number = word_number byte second digit ∙ ap some (sym is_value);
           bytes = word_bytes two e is;
           behind = omega arith;
         }

@@ -32,6 +32,7 @@ fn entry(year: u16, month: u8, day: u8, state: u8) -> u64
     end * 524288 + copies * 8 + state as u64
 }
 
+#[tactic(auto, unfolding(crate::specs::Dates::with_number))]
 fn with_number(digest: u64, year: u16, month: u8, day: u8) -> u64
     ensures { result ≡ with_number year month day digest }
 {
@@ -42,6 +43,7 @@ fn with_number(digest: u64, year: u16, month: u8, day: u8) -> u64
 }
 
 // All but the day number, for one entry.
+#[tactic(auto, unfolding(crate::specs::Dates::with_state))]
 fn with_state(digests: Digests, year: u16, month: u8, day: u8, state: u8) -> Digests
     requires le_year { 1 ≤ year }
     requires year_bound { year < 65535 }
@@ -58,6 +60,7 @@ fn with_state(digests: Digests, year: u16, month: u8, day: u8, state: u8) -> Dig
     }
 }
 
+#[tactic(auto, using(crate::proofs::Turns::no_turn, crate::proofs::Turns::one_more))]
 fn with_states(start: Digests, year: u16, month: u8, day: u8) -> Digests
     requires le_year { 1 ≤ year }
     requires year_bound { year < 65535 }
@@ -86,6 +89,7 @@ fn with_date(digests: Digests, year: u16, month: u8, day: u8) -> Digests
     next
 }
 
+#[tactic(auto, using(crate::proofs::Turns::no_turn, crate::proofs::Turns::one_more))]
 pub fn of_year(year: u16) -> Digests
     requires le_year { 1 ≤ year }
     requires year_bound { year < 65535 }

@@ -9,6 +9,7 @@ use licence::{DaysLeft, MOST_YEARS, Renewal, Verdict};
 // Lengths from 0 to the most, and one too many.
 const LENGTHS: u8 = MOST_YEARS + 2;
 
+#[tactic(auto, unfolding(crate::specs::Licences::with_renewal))]
 fn with_renewal(digest: u64, entry: u64, years: u8) -> u64
     ensures { result ≡ with_renewal entry years digest }
 {
@@ -18,6 +19,7 @@ fn with_renewal(digest: u64, entry: u64, years: u8) -> u64
     }
 }
 
+#[tactic(auto, using(crate::proofs::Turns::no_turn, crate::proofs::Turns::one_more))]
 pub fn with_renewals(start: u64, entry: u64) -> u64
     ensures { result ≡ with_renewals entry start }
 {
@@ -30,6 +32,7 @@ pub fn with_renewals(start: u64, entry: u64) -> u64
     digest
 }
 
+#[tactic(auto, unfolding(crate::specs::Licences::with_days))]
 fn with_days(digest: u64, entry: u64, year: u16, month: u8, day: u8) -> u64
     ensures { result ≡ with_days entry year month day digest }
 {
@@ -39,6 +42,7 @@ fn with_days(digest: u64, entry: u64, year: u16, month: u8, day: u8) -> u64
     }
 }
 
+#[tactic(auto, unfolding(crate::specs::Licences::with_verdict))]
 fn with_verdict(digest: u64, entry: u64, year: u16, month: u8, day: u8) -> u64
     ensures { result ≡ with_verdict entry year month day digest }
 {

@@ -14,6 +14,7 @@ mod messages;
 mod sums;
 
 use dates::Digests;
+use std::io;
 
 const FIRST_YEAR: u16 = 1898;
 
@@ -22,50 +23,46 @@ const END_YEAR: u16 = 2203;
 // All that four bits can say.
 const KINDS: u64 = 1 << message::KIND_BITS;
 
-fn print_line(year: u16, digests: Digests) {
-    io::print_decimal(1, year as u64);
-    io::write_all(1, b" ");
-    io::print_decimal(1, digests.numbers);
-    io::write_all(1, b" ");
-    io::print_decimal(1, digests.renewals);
-    io::write_all(1, b" ");
-    io::print_decimal(1, digests.verdicts);
-    io::write_all(1, b" ");
-    io::print_decimal(1, digests.sums.twice);
-    io::write_all(1, b" ");
-    io::print_decimal(1, digests.sums.differing);
-    io::write_all(1, b"\n");
+fn print_line(rt: &impl Print, year: u16, digests: Digests) -> io::Result<()> {
+    println!(rt;
+        "{year} {} {} {} {} {}",
+        digests.numbers,
+        digests.renewals,
+        digests.verdicts,
+        digests.sums.twice,
+        digests.sums.differing
+    )
 }
 
-fn print_kind(kind: u64)
+fn print_kind(rt: &impl Print, kind: u64) -> io::Result<()>
     requires { kind < 2 ^ kind_bits }
 {
-    io::write_all(1, b"kind ");
-    io::print_decimal(1, kind);
-    io::write_all(1, b" ");
-    io::print_decimal(1, messages::of_kind(kind));
-    io::write_all(1, b" ");
-    io::print_decimal(1, messages::packed_kind(kind));
-    io::write_all(1, b"\n");
+    println!(rt;
+        "kind {kind} {} {}",
+        messages::of_kind(kind),
+        messages::packed_kind(kind)
+    )
 }
 
-fn print_years() {
+fn print_years(rt: &impl Print) -> io::Result<()> {
     let mut year = FIRST_YEAR;
     while year < END_YEAR {
-        print_line(year, dates::of_year(year));
+        print_line(rt, year, dates::of_year(year))?;
         year += 1;
     }
+    Ok(())
 }
 
-fn print_kinds() {
+fn print_kinds(rt: &impl Print) -> io::Result<()> {
     let mut kind: u64 = 0;
     while kind < KINDS {
-        print_kind(kind);
+        print_kind(rt, kind)?;
         kind += 1;
     }
+    Ok(())
 }
 
-fn main() {
-    print_years();
-    print_kinds();
+fn main(rt: HostRuntime) -> io::Result<()> {
+    print_years(&rt)?;
+    print_kinds(&rt)
 }

@@ -73,6 +73,7 @@ fn with_message(digest: u64, message: Message) -> u64
 }
 
 // What the bytes are unpacked to.
+#[tactic(auto, unfolding(crate::specs::Messages::with_unpacked))]
 fn with_unpacked(digest: u64, bytes: &[u8]) -> u64
     ensures { result ≡ with_unpacked bytes.now digest }
 {
@@ -82,6 +83,7 @@ fn with_unpacked(digest: u64, bytes: &[u8]) -> u64
     }
 }
 
+#[tactic(auto, using(crate::proofs::Turns::no_turn, crate::proofs::Turns::one_more), unfolding(crate::specs::Messages::with_bytes))]
 fn with_bytes(start: u64, bytes: &[u8]) -> u64
     ensures { result ≡ with_bytes bytes.now start }
 {
@@ -95,6 +97,7 @@ fn with_bytes(start: u64, bytes: &[u8]) -> u64
 }
 
 // What packing answers, and all that the buffer holds afterwards.
+#[tactic(auto, unfolding(crate::specs::Messages::with_packed))]
 fn with_packed(digest: u64, message: Message, out: &mut [u8]) -> u64
     ensures value { result ≡ with_packed message out.old digest }
     ensures out_after { out.new ≡ pack_leaves message out.old }
@@ -147,6 +150,7 @@ fn pattern(kind: u64, i: u64) -> Words
 }
 
 // What the patterns of a kind are unpacked to.
+#[tactic(auto, using(crate::proofs::Turns::no_turn, crate::proofs::Turns::one_more))]
 pub fn of_kind(kind: u64) -> u64
     requires { kind < 2 ^ kind_bits }
     ensures { result ≡ kind_digest kind }
@@ -161,6 +165,7 @@ pub fn of_kind(kind: u64) -> u64
 }
 
 // A message of a kind, 6 where there is no other.
+#[tactic(auto, unfolding(crate::specs::Messages::sample_of))]
 fn sample(kind: u64, number: u32, pair: u64) -> Message
     ensures { result ≡ sample_of kind number pair }
 {
@@ -175,6 +180,7 @@ fn sample(kind: u64, number: u32, pair: u64) -> Message
 }
 
 // A message packed into buffers of 0 to 13 bytes.
+#[tactic(auto, using(crate::proofs::Turns::no_turn, crate::proofs::Turns::one_more), unfolding(crate::specs::Messages::with_buffers))]
 fn with_buffers(start: u64, message: Message) -> u64
     ensures { result ≡ with_buffers message start }
 {
@@ -189,6 +195,7 @@ fn with_buffers(start: u64, message: Message) -> u64
 }
 
 // What messages of a kind are packed to.
+#[tactic(auto, using(crate::proofs::Turns::no_turn, crate::proofs::Turns::one_more))]
 pub fn packed_kind(kind: u64) -> u64
     ensures { result ≡ pack_digest kind }
 {

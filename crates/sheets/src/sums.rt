@@ -52,6 +52,7 @@ fn with_years(sums: Sums, entry: u64, first: u8, second: u8) -> Sums
     }
 }
 
+#[tactic(auto, using(crate::proofs::Turns::no_turn, crate::proofs::Turns::one_more))]
 fn with_seconds(start: Sums, entry: u64, first: u8) -> Sums
     requires { first ≤ most_years }
     ensures { result ≡ with_seconds entry first start }
@@ -65,6 +66,7 @@ fn with_seconds(start: Sums, entry: u64, first: u8) -> Sums
     sums
 }
 
+#[tactic(auto, using(crate::proofs::Turns::no_turn, crate::proofs::Turns::one_more), unfolding(crate::specs::Sums::with_sums))]
 pub fn with_sums(start: Sums, entry: u64) -> Sums
     ensures { result ≡ with_sums entry start }
 {

@@ -2,7 +2,7 @@
 -- Assumes nothing.
 use Rattle.register.proofs.Vocabulary.{all_below, most_servers}
 use Rattle.basics.proofs.Prelude.{◌≡◌, refl, sym, ap, ◌∙◌, Bool, true, false, ◌&&◌, List, length, ℕ, ◌+◌}
-use Rattle.basics.proofs.Prelude.{◌≤◌, ◌<◌, add-one, arith, ltb, eq-eqb, ne_eqb}
+use Rattle.basics.proofs.Prelude.{◌<◌, add-one, arith, ltb, eq-eqb, ne_eqb}
 use Rattle.basics.proofs.Tests.{below_fails}
 use Rattle.replies.specs.Replies.{replies_length}
 use Rattle.replies.specs.Sound.{is_sound_at, are_sound}

@@ -1,7 +1,7 @@
 -- `better`: from the last pair of the set down, the choice is that of the pairs passed. The invariant is this
 -- equation.
 -- Assumes nothing.
-use Rattle.basics.proofs.Prelude.{◌≡◌, length, drop, suc, ◌-◌, ◌≤◌}
+use Rattle.basics.proofs.Prelude.{◌≡◌, length, drop, suc, ◌≤◌}
 use Rattle.register.proofs.Vocabulary.{set_limit}
 use Rattle.replies.specs.Replies.{set_in, choice_of}
 use Rattle.replies.specs.Loops.{counts_in, best_of}

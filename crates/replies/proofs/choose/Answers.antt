@@ -1,9 +1,9 @@
 -- `choose`: with enough timestamps noted, the choice is that of all sets passed, one set more each turn.
 -- Assumes nothing.
-use Rattle.basics.proofs.Prelude.{◌≡◌, refl, sym, ap, ◌∙◌, Bool, not, List, Option, ℕ, suc, ◌-◌, ◌≤◌, zero-add}
+use Rattle.basics.proofs.Prelude.{◌≡◌, refl, sym, ap, ◌∙◌, Bool, not, List, ℕ, suc, ◌≤◌, zero-add}
 use Rattle.basics.proofs.Prelude.{add-one, arith, eqb}
 use Rattle.basics.specs.Counting.{count_below}
-use Rattle.register.proofs.Vocabulary.{Pair, counted, enough, is_noted, highest_of, all_pairs, most_servers}
+use Rattle.register.proofs.Vocabulary.{counted, enough, is_noted, highest_of, all_pairs, most_servers}
 use Rattle.register.proofs.Vocabulary.{chosen}
 use Rattle.replies.specs.Replies.{note_at, noted_in, set_in}
 use Rattle.replies.specs.Loops.{is_used, counts_in, best_of}

@@ -1,7 +1,7 @@
 -- `copied`: after so many turns that many numbers are copied.
 -- Assumes nothing.
 use Rattle.basics.proofs.Prelude.{◌≡◌, List, ◌++◌, length, take}
-use Rattle.basics.proofs.Prelude.{drop, ℕ, ◌+◌, ◌-◌, ◌≤◌}
+use Rattle.basics.proofs.Prelude.{drop, ℕ, ◌-◌, ◌≤◌}
 use Rattle.replies.specs.Replies.{replies_length}
 use Rattle.replies.proofs.Views.{emptied}
 use Rattle.replies.proofs.copied.Given as goal

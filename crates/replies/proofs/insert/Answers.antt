@@ -98,10 +98,10 @@ returns-then-size-lt-LIMIT c =
     let replies = c.args.replies.now in
     let absent : is_there c.args.pair (set_in replies (suc c.args.i)) ≡ false =
     elim c.if-j-size.branch [
-      then-j-size+else-replies-i w ↦ other replies c.args.i _ _ c.args.pair c.requires.0 c.requires.1
+      | then-j-size+else-replies-i w ↦ other replies c.args.i _ _ c.args.pair c.requires.0 c.requires.1
           c.size_of-size.ensures.0 c.size_of-size.ensures.1 c.rank-j.ensures w.if-j-size.true
-          w.if-replies-i.false |
-      else-j-size w ↦ behind replies c.args.i _ _ c.args.pair c.requires.0 c.requires.1
+          w.if-replies-i.false
+      | else-j-size w ↦ behind replies c.args.i _ _ c.args.pair c.requires.0 c.requires.1
           c.size_of-size.ensures.0 c.size_of-size.ensures.1 c.rank-j.ensures w.if-j-size.false
     ] in
     c.place.ensures
@@ -113,10 +113,10 @@ returns-else-size-lt-LIMIT c =
     let replies = c.args.replies.now in
     let absent : is_there c.args.pair (set_in replies (suc c.args.i)) ≡ false =
     elim c.if-j-size.branch [
-      then-j-size+else-replies-i w ↦ other replies c.args.i _ _ c.args.pair c.requires.0 c.requires.1
+      | then-j-size+else-replies-i w ↦ other replies c.args.i _ _ c.args.pair c.requires.0 c.requires.1
           c.size_of-size.ensures.0 c.size_of-size.ensures.1 c.rank-j.ensures w.if-j-size.true
-          w.if-replies-i.false |
-      else-j-size w ↦ behind replies c.args.i _ _ c.args.pair c.requires.0 c.requires.1
+          w.if-replies-i.false
+      | else-j-size w ↦ behind replies c.args.i _ _ c.args.pair c.requires.0 c.requires.1
           c.size_of-size.ensures.0 c.size_of-size.ensures.1 c.rank-j.ensures w.if-j-size.false
     ] in
     c.place-else-size-lt-LIMIT.ensures

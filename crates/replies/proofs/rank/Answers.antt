@@ -1,10 +1,8 @@
 -- `rank`: the pairs passed are all below the pair, so the rank is their number and the rank in the rest.
 -- Assumes nothing.
-use Rattle.basics.proofs.Prelude.{◌≡◌, List, ◌∷◌, length, drop, ℕ, suc, ◌+◌, ◌-◌, ◌≤◌, ◌<◌, arith, lt-ltb}
+use Rattle.basics.proofs.Prelude.{suc, arith, lt-ltb}
 use Rattle.basics.proofs.Prelude.{le-ltb}
-use Rattle.register.proofs.Vocabulary.{Pair, most_servers}
-use Rattle.replies.specs.Replies.{replies_length, pair_at, set_in}
-use Rattle.replies.specs.Loops.{rank_of}
+use Rattle.replies.specs.Replies.{set_in}
 use Rattle.replies.proofs.Places.{rest_at}
 use Rattle.replies.proofs.Steps.{rank_next, rank_here, rank_none}
 use Rattle.replies.proofs.rank.Goals as goal

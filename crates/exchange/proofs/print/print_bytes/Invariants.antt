@@ -1,0 +1,10 @@
+-- `print_bytes` ends: the index grows up to the slice's length.
+-- Assumes nothing.
+use Rattle.basics.proofs.Prelude.{length, ◌-◌, ◌≤◌}
+use Rattle.exchange.proofs.print.print_bytes.Given as goal
+
+abbrev pub invariant-loop-i : goal.invariant-loop-i
+invariant-loop-i g l = l.i ≤ length l.bytes
+
+abbrev pub decreases-loop-i : goal.decreases-loop-i
+decreases-loop-i g l = length l.bytes - l.i
