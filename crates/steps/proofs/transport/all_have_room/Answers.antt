@@ -26,4 +26,4 @@ pub returns : goal.returns
 unfolding room_down
 returns c pair =
     let last : c.loop-to.to ≡ c.args.settings.clients = omega arith in
-    c.loop-to.invariant.1 pair ∙ ap (all_below _) last
+    rw (← last) (c.loop-to.invariant.1 pair)
