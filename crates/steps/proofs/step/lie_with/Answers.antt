@@ -1,7 +1,7 @@
 -- `lie_with`: dropped, refused for want of room, or put. Assumes nothing.
 use Rattle.register.proofs.Vocabulary.{capacity}
 use Rattle.register.specs.declared.Answer.TheVariants.{Went}
-use Rattle.basics.proofs.Prelude.{◌≡◌, sym, ap, ◌∙◌, ℕ, ◌+◌, arith, leb}
+use Rattle.basics.proofs.Prelude.{sym, ap, ◌∙◌, ℕ, ◌+◌, arith, leb}
 use Rattle.channel.specs.Memory.{count_at, put_on}
 use Rattle.channel.proofs.Passing.{failed}
 use Rattle.steps.specs.InMemory.{placed}

@@ -1,6 +1,5 @@
 -- `serve`: the rungs in turn, and what is left to refuse. Assumes nothing.
-use Rattle.basics.proofs.Prelude.{◌-◌, ◌≤◌, arith, rules}
-use Rattle.register.specs.Settings.{most_clients}
+use Rattle.basics.proofs.Prelude.{◌-◌, arith}
 use Rattle.channel.proofs.Passing.{passed, failed}
 use Rattle.refusal.proofs.Ladders.{stop, next}
 use Rattle.client.proofs.Ladders.{no, yes, rung}
@@ -55,8 +54,7 @@ serve_oldest-requires c =
     let there = both_told c.args.settings c.args.d c.args.k c.both_exist.ensures c.if-not-both_exist.false in
     let sends = request_goes c.args.slots.now c.requires.5 c.args.d c.args.k (omega (arith, there))
     (omega (arith, there)) (omega (arith, there)) (omega (arith, there))
-    (one_waits _ _ _ _ c.count.ensures c.up.ensures c.if-count-eq0.false) in
-    (
+    (one_waits _ _ _ _ c.count.ensures c.up.ensures c.if-count-eq0.false) in (
       c.requires.1,
       omega (arith, there),
       omega (arith, there),

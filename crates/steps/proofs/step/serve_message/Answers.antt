@@ -1,5 +1,5 @@
 -- `serve_message`: the last rung, and the message taken. Assumes nothing.
-use Rattle.basics.proofs.Prelude.{◌≡◌, ap, ◌∙◌, ◌-◌, arith}
+use Rattle.basics.proofs.Prelude.{ap, ◌∙◌, ◌-◌, arith}
 use Rattle.server.specs.declared.Server.{Server}
 use Rattle.server.specs.Memory as server
 use Rattle.server.specs.State.{sound}

@@ -12,9 +12,9 @@ loop-j-init c = (search rules, omega arith, refl)
 pub loop-j-preserved : goal.loop-j-preserved
 unfolding emptied
 loop-j-preserved c = (
-    omega arith,
-    omega arith,
-    rw (add-one c.loop-j.j)
-        (c.clear.ensures ∙ ap (cleared c.loop-j.slots) c.down.ensures
-        ∙ ap (λ (x : List ℕ). cleared x (down_index c.args.i c.loop-j.j)) c.loop-j.invariant.2),
-  )
+  omega arith,
+  omega arith,
+  rw (add-one c.loop-j.j)
+      (c.clear.ensures ∙ ap (cleared c.loop-j.slots) c.down.ensures
+      ∙ ap (λ (x : List ℕ). cleared x (down_index c.args.i c.loop-j.j)) c.loop-j.invariant.2),
+)
