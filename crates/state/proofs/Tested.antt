@@ -2,7 +2,7 @@
 -- is there, by places; allowed settings have at most six clients; the lengths.
 -- Assumes nothing.
 use Rattle.basics.proofs.Prelude.{◌≡◌, refl, Bool, true, false, not, ◌&&◌, List, Option, none, some}
-use Rattle.basics.proofs.Prelude.{length, ℕ, suc, ◌+◌, ◌*◌, ◌%◌, ◌^◌, ◌≤◌, ◌<◌, arith, ltb}
+use Rattle.basics.proofs.Prelude.{length, ℕ, suc, ◌*◌, ◌%◌, ◌^◌, ◌≤◌, arith, ltb}
 use Rattle.basics.proofs.Prelude.{eqb-true, ne_eqb, le-leb}
 use native.Mathlib.Nat.{mod-eq_of_lt}
 use lib.Pow.{pow_mono}
