@@ -44,6 +44,6 @@ returns c =
     let a = c.args in
     let h = sym c.is_sound.ensures ∙ c.if-not-is_sound.false in
     let good = sym c.unpack.ensures ∙ c.in-Good.is in
-    c.serve_message.ensures
-    ∙ sym (served a.memory.now a.d a.bytes.now h (omega arith) (omega arith) _ good
-    (rw (sym c.is_reply.ensures ∙ c.if-is_reply.false)))
+    let e = served a.memory.now a.d a.bytes.now h (omega arith) (omega arith) _ good
+    (rw (sym c.is_reply.ensures ∙ c.if-is_reply.false)) in
+    cc
