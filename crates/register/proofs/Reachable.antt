@@ -105,7 +105,7 @@ module _ (settings : Settings) (judge : Formats) (accepted : Accepted settings) 
         down_drops = λ d k. (down_next settings judge accepted lawful world well event checked d k).drops;
       }
 
-  -- every step, from any well_formed_lem world
+  -- every step, from any well-formed world
   pub well_step : (step : Step)
       → WellFormed settings judge (apply settings world (event_of settings judge world step))
   well_step step = well_next (event_of settings judge world step) (enabled settings judge world step)

@@ -1,4 +1,4 @@
--- Every READ ends exactly one read, and every WROTE or SPENT exactly one write (001, section 3: well_formed_lem
+-- Every READ ends exactly one read, and every WROTE or SPENT exactly one write (001, section 3: well-formed
 -- histories).
 --
 -- Why: what a client answers it has open (`Open`), so the answer is the next of its kind after a beginning.

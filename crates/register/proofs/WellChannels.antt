@@ -55,7 +55,7 @@ module _ (Kind : Message → Type 0) where
   pub well_empty : WellChannel Kind []
   well_empty = record { few = omega arith; kinds = λ message member. absurd member }
 
--- the oldest message of a well_formed_lem channel
+-- the oldest message of a well-formed channel
 pub oldest_kind : (Kind : Message → Type 0) (channel : List Message) (message : Message) (rest : List Message)
     → channel ≡ message ∷ rest → WellChannel Kind channel → Kind message
 oldest_kind Kind channel message rest e well = well.kinds message (rw e (inl refl))

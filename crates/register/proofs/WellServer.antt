@@ -1,4 +1,4 @@
--- A well_formed_lem server stays well formed when it serves a message of a client.
+-- A well-formed server stays well formed when it serves a message of a client.
 --
 -- Why: GET_INFO and DONE change one reader, the sender, who is a client; WRITE_INFO may bring a pair, and
 -- messages on channels have their fields in their widths. What it sends is of the kinds that servers send,

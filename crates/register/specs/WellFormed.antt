@@ -1,4 +1,4 @@
--- A well_formed_lem world (01, 'Rehearsal': 'A state is sound when ..'), said of the model.
+-- A well-formed world (01, 'Rehearsal': 'A state is sound when ..'), said of the model.
 --
 -- In order: the messages of a channel (01: wire); a channel; a server (keeper); a phase, a set, a client
 -- (desk); the world. That the settings are allowed is `Settings.Accepted`. What is not used has its value at

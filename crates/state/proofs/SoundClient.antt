@@ -1,4 +1,4 @@
--- A sound client's memory: it holds a well_formed_lem client, the client at setup where there is none, and
+-- A sound client's memory: it holds a well-formed client, the client at setup where there is none, and
 -- storing what it holds gives it back.
 --
 -- The client's own test is of numbers in memory; here each is read as what it says of the client.

@@ -1,4 +1,4 @@
--- A sound server's memory: it holds a well_formed_lem server, the server at setup where it is not used, and
+-- A sound server's memory: it holds a well-formed server, the server at setup where it is not used, and
 -- storing what it holds gives it back.
 --
 -- A set below 2 ^ n has no member above n (`outside`), and a set with no member above n is below 2 ^ n

@@ -2,7 +2,7 @@
 --
 -- Its noted timestamps, the sizes of its sets, its acknowledgements and the pairs of its sets are the four
 -- rows of its replies. What a memory shows of a server is read from these rows; of what is no server it shows
--- nothing, and the client holds nothing. A well_formed_lem phase is sound (`sound_phase`), so its numbers make it
+-- nothing, and the client holds nothing. A well-formed phase is sound (`sound_phase`), so its numbers make it
 -- again.
 -- Assumes nothing.
 use Rattle.basics.proofs.Prelude.{◌≡◌, refl, sym, ap, ◌∙◌, Bool, true, false, not, List, [], ◌++◌}

@@ -1,6 +1,6 @@
--- The stored replies of a well_formed_lem client are sound, and all their numbers have 64 bits.
+-- The stored replies of a well-formed client are sound, and all their numbers have 64 bits.
 --
--- Why: what a well_formed_lem client holds of a server keeps the bounds that soundness asks, and is nothing where
+-- Why: what a well-formed client holds of a server keeps the bounds that soundness asks, and is nothing where
 -- the server or the phase has no use for it. Each number of the four rows is one of these.
 -- Assumes nothing.
 use Rattle.basics.proofs.Prelude.{◌≡◌, refl, sym, ap, ◌∙◌, Bool, true, false, cond, ◌&&◌, List, ◌++◌, Option}

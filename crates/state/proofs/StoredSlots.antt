@@ -1,6 +1,6 @@
--- The stored slots of a well_formed_lem world: sound, and each channel is found again in them.
+-- The stored slots of a well-formed world: sound, and each channel is found again in them.
 --
--- Why: a channel of a well_formed_lem world has at most 8 messages, and they go its way (`fits`, `suit`). That is
+-- Why: a channel of a well-formed world has at most 8 messages, and they go its way (`fits`, `suit`). That is
 -- all that the laws of the layout ask.
 -- Assumes nothing.
 use Rattle.basics.proofs.Prelude.{◌≡◌, true, length, ℕ, ◌<◌, ltb, ltb-true, ltb-false}

@@ -1,6 +1,6 @@
--- The stored form of a well_formed_lem world is a sound state.
+-- The stored form of a well-formed world is a sound state.
 --
--- Every place is stored from a well_formed_lem part, or from what stands there at setup, and so passes its test.
+-- Every place is stored from a well-formed part, or from what stands there at setup, and so passes its test.
 -- Every number is a field in its width, so it has 64 bits.
 -- Assumes nothing.
 use Rattle.basics.proofs.Prelude.{◌≡◌, ◌∙◌, Bool, true, false, ◌&&◌, List, [], length, get_or, ℕ, zero}

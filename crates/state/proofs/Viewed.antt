@@ -1,4 +1,4 @@
--- A well_formed_lem world is found again in what is stored of it: `view` undoes storing.
+-- A well-formed world is found again in what is stored of it: `view` undoes storing.
 --
 -- Each part is: servers and stopped clients (`StoredServer`), clients (`StoredClient`), channels
 -- (`StoredSlots`). What has no place was never used, and has its value at setup.

@@ -1,4 +1,4 @@
--- A sound state stands for a well_formed_lem world.
+-- A sound state stands for a well-formed world.
 --
 -- Each place of the world that there is in memory is well formed by its own test, or at setup where it is not
 -- used; every other place is at setup by the view.

@@ -1,4 +1,4 @@
--- The code's account of a step is the model's, on the memory of any well_formed_lem world, for all six steps and
+-- The code's account of a step is the model's, on the memory of any well-formed world, for all six steps and
 -- any arguments.
 --
 -- A step that names a client or a server that there is not is refused before anything else is looked at;

@@ -35,7 +35,7 @@ unfolding all_below
 below_same p q zero h = refl
 below_same p q (suc n) h = rw (below_same p q n (λ i less. h i (omega arith)), h n (omega arith))
 
--- a well_formed_lem world under settings that are accepted
+-- a well-formed world under settings that are accepted
 pub record WellStored (settings : Settings) (world : World) : Type 0 where
   pub accepted : Accepted (settings_of settings)
   pub well : WellFormed (settings_of settings) formats world

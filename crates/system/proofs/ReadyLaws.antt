@@ -1,4 +1,4 @@
--- A sound state has what a step asks of it; so has the memory of a well_formed_lem world.
+-- A sound state has what a step asks of it; so has the memory of a well-formed world.
 --
 -- Why: soundness tests every client and every channel, of which those that are not used must be empty; and
 -- the servers are those of a stored world (`state`).
@@ -75,7 +75,7 @@ module _ (settings : Settings) (servers clients slots : List ℕ)
         ways = oldest_goes slots known.channels;
       }
 
--- ---- the memory of a well_formed_lem world
+-- ---- the memory of a well-formed world
 
 module _ (settings : Settings) (allowed : Allowed settings) (world : World)
     (well : WellFormed (settings_of settings) formats world) where

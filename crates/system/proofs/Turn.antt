@@ -1,4 +1,4 @@
--- One turn of a run: a step on the memory of a well_formed_lem world leaves the next world stored, and answers
+-- One turn of a run: a step on the memory of a well-formed world leaves the next world stored, and answers
 -- as the model.
 --
 -- Why: the code's account of the step is the model's (`MemoryIsModel`).

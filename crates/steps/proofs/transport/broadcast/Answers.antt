@@ -1,0 +1,37 @@
+-- `broadcast`: the loop has put the message on the channels to the honest of the servers that it passed.
+-- Assumes nothing.
+use Rattle.basics.proofs.Prelude.{◌≡◌, refl, sym, ap, ◌∙◌, ℕ, ◌-◌, arith, rules}
+use Rattle.steps.specs.InMemory.{broadcast}
+use Rattle.steps.proofs.SendLaws.{put_message, broadcast_honest, broadcast_faulty}
+use Rattle.steps.proofs.transport.broadcast.Goals as goal
+use Rattle.steps.proofs.transport.broadcast.Goals.{then-not-is_in, else-not-is_in}
+
+pub loop-j-init : goal.loop-j-init
+unfolding broadcast
+loop-j-init c = (search rules, omega arith, λ message e. refl)
+
+pub loop-j-preserved : goal.loop-j-preserved
+loop-j-preserved c =
+    let a = c.args in
+    let slots = c.loop-j.slots in
+    let j = c.loop-j.j in (
+      omega arith,
+      omega arith,
+      λ message e. elim c.if-not-is_in.branch [
+        then-not-is_in w ↦
+          broadcast_honest a.settings.faulty a.slots.now slots a.i message j (c.loop-j.invariant.2 message e) _
+          (sym c.is_in.ensures ∙ w.if-not-is_in.true)
+          (w.slots-is ∙ put_message slots _ _ _ _ message w.up.ensures e w.put.ensures)
+      | else-not-is_in w ↦
+          w.slots-is
+          ∙ broadcast_faulty a.settings.faulty a.slots.now slots a.i message j (c.loop-j.invariant.2 message e)
+          (sym c.is_in.ensures ∙ w.if-not-is_in.false)
+      ],
+    )
+
+pub returns : goal.returns
+returns c =
+    let a = c.args in
+    let last : c.loop-j.j ≡ a.settings.n = omega arith in
+    c.loop-j.invariant.2 a.message c.words_of-words.ensures
+    ∙ ap (λ (n : ℕ). broadcast a.settings.faulty a.slots.now a.i a.message n) last
