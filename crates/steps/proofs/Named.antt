@@ -1,10 +1,9 @@
 -- The clients and servers that a step may name have numbers from 1 to as many as the settings say.
 -- Assumes nothing.
-use Rattle.basics.proofs.Prelude.{◌≡◌, Bool, true, false, not, ◌&&◌, ℕ, ◌≤◌}
+use Rattle.basics.proofs.Prelude.{◌≡◌, sym, ◌∙◌, Bool, true, ◌&&◌, ℕ, ◌≤◌}
 use Rattle.basics.proofs.Cases.{both}
 use Rattle.register.proofs.Vocabulary.{is_client, is_server}
 use Rattle.register.proofs.Bounds.{client_range, server_range}
-use Rattle.client.proofs.Facts.{holds}
 use Rattle.state.specs.declared.Settings.{Settings}
 use Rattle.state.specs.State.{settings_of}
 
@@ -28,11 +27,11 @@ both_there settings d k e =
     }
 
 -- what the code's tests say
-pub client_told : (settings : Settings) (d : ℕ) (told : Bool) → told ≡ is_client (settings_of settings) d
-    → not told ≡ false → (1 ≤ d) × (d ≤ settings.clients)
-client_told settings d told is left = client_within settings d (holds told _ is left)
+pub client_told : (settings : Settings) (d : ℕ) {told : Bool} → told ≡ is_client (settings_of settings) d
+    → told ≡ true → (1 ≤ d) × (d ≤ settings.clients)
+client_told settings d is found = client_within settings d (sym is ∙ found)
 
-pub both_told : (settings : Settings) (d k : ℕ) (told : Bool)
-    → told ≡ is_client (settings_of settings) d && is_server (settings_of settings) k → not told ≡ false
+pub both_told : (settings : Settings) (d k : ℕ) {told : Bool}
+    → told ≡ is_client (settings_of settings) d && is_server (settings_of settings) k → told ≡ true
     → There settings d k
-both_told settings d k told is left = both_there settings d k (holds told _ is left)
+both_told settings d k is found = both_there settings d k (sym is ∙ found)

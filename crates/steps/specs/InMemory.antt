@@ -22,7 +22,7 @@ use Rattle.message.specs.declared.Unpacked.TheVariants.{Good}
 use Rattle.message.specs.declared.Words.{Words}
 use Rattle.message.specs.Layout.{unpack_of, words, words_of, last_read, goes_down}
 use Rattle.register.specs.declared.Answer.{Answer}
-use Rattle.register.specs.declared.Answer.TheVariants.{Went, Refused}
+use Rattle.register.specs.declared.Answer.TheVariants.{Went}
 use Rattle.register.specs.declared.Phase.{Phase}
 use Rattle.register.specs.declared.Phase.TheVariants.{Reading, ReadingForWrite}
 use Rattle.register.specs.declared.Step.{Step}

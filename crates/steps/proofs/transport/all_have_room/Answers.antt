@@ -1,6 +1,6 @@
 -- `all_have_room`: the loop has the answer for the channels that it passed. Assumes nothing.
 use Rattle.register.proofs.Vocabulary.{all_below, contains, capacity}
-use Rattle.basics.proofs.Prelude.{◌≡◌, refl, ap, ◌∙◌, ◌||◌, ℕ, suc, ◌+◌, ◌-◌, arith, leb, rules}
+use Rattle.basics.proofs.Prelude.{◌≡◌, refl, ap, ◌∙◌, ◌||◌, ℕ, suc, ◌+◌, arith, leb, rules}
 use Rattle.channel.specs.Memory.{count_at}
 use Rattle.state.specs.State.{down_index}
 use Rattle.steps.specs.InMemory.{room_down}
@@ -18,13 +18,12 @@ loop-to-preserved c =
       omega arith,
       λ pair. tested _ to _ _ (c.loop-to.invariant.1 pair)
           (c.has_room_from-fits.ensures
-          ∙ ap (λ (n : ℕ). contains a.stopped (suc to) || leb (count_at a.slots.now (down_index to a.j) + n) capacity)
-          (c.count_to.ensures.0 pair)),
+          ∙ ap (λ (n : ℕ). contains a.stopped (suc to)
+          || leb (count_at a.slots.now (down_index to a.j) + n) capacity) (c.count_to.ensures.0 pair)),
     )
 
 pub returns : goal.returns
 unfolding room_down
 returns c pair =
-    let a = c.args in
-    let last : c.loop-to.to ≡ a.settings.clients = omega arith in
-    c.loop-to.invariant.1 pair ∙ ap (all_below _) last
+    let last : c.loop-to.to ≡ c.args.settings.clients = omega arith in
+    rw (← last) (c.loop-to.invariant.1 pair)

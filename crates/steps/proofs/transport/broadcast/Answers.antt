@@ -1,6 +1,7 @@
 -- `broadcast`: the loop has put the message on the channels to the honest of the servers that it passed.
 -- Assumes nothing.
-use Rattle.basics.proofs.Prelude.{◌≡◌, refl, sym, ap, ◌∙◌, ℕ, ◌-◌, arith, rules}
+use Rattle.basics.proofs.Prelude.{refl, ◌∙◌, arith, rules}
+use Rattle.channel.proofs.Passing.{passed, failed}
 use Rattle.steps.specs.InMemory.{broadcast}
 use Rattle.steps.proofs.SendLaws.{put_message, broadcast_honest, broadcast_faulty}
 use Rattle.steps.proofs.transport.broadcast.Goals as goal
@@ -18,20 +19,11 @@ loop-j-preserved c =
       omega arith,
       omega arith,
       λ message e. elim c.if-not-is_in.branch [
-        then-not-is_in w ↦
-          broadcast_honest a.settings.faulty a.slots.now slots a.i message j (c.loop-j.invariant.2 message e) _
-          (sym c.is_in.ensures ∙ w.if-not-is_in.true)
-          (w.slots-is ∙ put_message slots _ _ _ _ message w.up.ensures e w.put.ensures)
-      | else-not-is_in w ↦
-          w.slots-is
-          ∙ broadcast_faulty a.settings.faulty a.slots.now slots a.i message j (c.loop-j.invariant.2 message e)
-          (sym c.is_in.ensures ∙ w.if-not-is_in.false)
+        | then-not-is_in w ↦ broadcast_honest a.settings.faulty a.slots.now slots a.i message j
+            (c.loop-j.invariant.2 message e) _ (failed c.is_in.ensures w.if-not-is_in.true)
+            (w.slots-is ∙ put_message slots _ _ _ _ message w.up.ensures e w.put.ensures)
+        | else-not-is_in w ↦ w.slots-is
+            ∙ broadcast_faulty a.settings.faulty a.slots.now slots a.i message j
+            (c.loop-j.invariant.2 message e) (passed c.is_in.ensures w.if-not-is_in.false)
       ],
     )
-
-pub returns : goal.returns
-returns c =
-    let a = c.args in
-    let last : c.loop-j.j ≡ a.settings.n = omega arith in
-    c.loop-j.invariant.2 a.message c.words_of-words.ensures
-    ∙ ap (λ (n : ℕ). broadcast a.settings.faulty a.slots.now a.i a.message n) last

@@ -21,8 +21,7 @@ pub returns-in-Info : goal.returns-in-Info
 unfolding sent_by send_down
 returns-in-Info c =
     let a = c.args in
-    subst (λ (x : Sends). Delivered a.settings a.stopped a.slots.now a.i a.j (sent_by (suc a.i) x) c.reply_one.result
-    c.reply_one.new.slots)
+    subst (λ (x : Sends). Delivered a.settings a.stopped a.slots.now a.i a.j (sent_by (suc a.i) x) c.reply_one.result c.reply_one.new.slots)
     (sym c.in-Info.is) (
       c.reply_one.ensures.0
           ∙ sym (room_info a.settings a.stopped a.slots.now a.i a.j c.requires.2 c.requires.1 c.requires.3 _ _

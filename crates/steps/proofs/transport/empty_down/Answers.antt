@@ -1,5 +1,5 @@
 -- `empty_down`: the loop has emptied the channels from the servers that it passed. Assumes nothing.
-use Rattle.basics.proofs.Prelude.{◌≡◌, refl, ap, ◌∙◌, List, ℕ, ◌-◌, add-one, arith, rules}
+use Rattle.basics.proofs.Prelude.{refl, ap, ◌∙◌, List, ℕ, add-one, arith, rules}
 use Rattle.channel.specs.Memory.{cleared}
 use Rattle.state.specs.State.{down_index}
 use Rattle.steps.specs.InMemory.{emptied}
@@ -11,17 +11,10 @@ loop-j-init c = (search rules, omega arith, refl)
 
 pub loop-j-preserved : goal.loop-j-preserved
 unfolding emptied
-loop-j-preserved c =
-    let j = c.loop-j.j in (
-      omega arith,
-      omega arith,
-      rw (add-one j)
-          (c.clear.ensures ∙ ap (cleared c.loop-j.slots) c.down.ensures
-          ∙ ap (λ (x : List ℕ). cleared x (down_index c.args.i j)) c.loop-j.invariant.2),
-    )
-
-pub returns : goal.returns
-returns c =
-    let a = c.args in
-    let last : c.loop-j.j ≡ a.settings.n = omega arith in
-    c.loop-j.invariant.2 ∙ ap (emptied a.slots.now a.i) last
+loop-j-preserved c = (
+  omega arith,
+  omega arith,
+  rw (add-one c.loop-j.j)
+      (c.clear.ensures ∙ ap (cleared c.loop-j.slots) c.down.ensures
+      ∙ ap (λ (x : List ℕ). cleared x (down_index c.args.i c.loop-j.j)) c.loop-j.invariant.2),
+)

@@ -1,6 +1,6 @@
 -- `has_room_up`: the loop has the answer for the channels that it passed, and all 13 tell whether there is
 -- room. Assumes nothing.
-use Rattle.basics.proofs.Prelude.{◌≡◌, refl, ap, ◌∙◌, ℕ, ◌+◌, ◌-◌, ◌≤◌, arith, leb, rules}
+use Rattle.basics.proofs.Prelude.{◌≡◌, refl, ap, ◌∙◌, ℕ, ◌+◌, arith, leb, rules}
 use Rattle.register.proofs.Vocabulary.{all_below, capacity, most_servers}
 use Rattle.channel.specs.Memory.{count_at}
 use Rattle.steps.proofs.Fitting.{joined}
@@ -11,15 +11,12 @@ pub loop-j-init : goal.loop-j-init
 unfolding all_below
 loop-j-init c = (search rules, refl)
 
--- a channel holds at most 8 messages
-few : (c : goal.After-count) → c.count.result ≤ capacity
-few c = rw c.count.ensures (c.requires.3 _ (omega (arith, c.up.ensures)))
-
 pub loop-j-preserved : goal.loop-j-preserved
 loop-j-preserved c =
-    let a = c.args in (
+    let a = c.args in
+    let l = c.loop-j in (
       omega arith,
-      joined _ c.loop-j.j c.loop-j.over (c.count.result + a.more) c.loop-j.invariant.1
+      joined _ l.j l.over (c.count.result + a.more) l.invariant.1
           (ap (λ (n : ℕ). leb (n + a.more) capacity)
           (c.count.ensures ∙ ap (count_at a.slots.now) c.up.ensures)),
     )

@@ -1,5 +1,5 @@
 -- `reply_all`: the pair forwarded and acknowledged, where there is room for both. Assumes nothing.
-use Rattle.basics.proofs.Prelude.{refl, sym, ap, ◌∙◌, List, ℕ, suc}
+use Rattle.basics.proofs.Prelude.{sym, ap, ◌∙◌, List, ℕ, suc}
 use Rattle.channel.specs.Memory.{removed}
 use Rattle.server.specs.declared.Sends.TheVariants.{Forward}
 use Rattle.server.specs.Serving.{sent_by}

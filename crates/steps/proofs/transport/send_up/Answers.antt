@@ -13,21 +13,17 @@ sent settings slots i x = send_up settings slots i (messages_of x)
 
 pub returns-in-Nothing : goal.returns-in-Nothing
 unfolding send_up
-returns-in-Nothing c =
-    let a = c.args in
-    ap (sent a.settings a.slots.now a.i) (sym c.in-Nothing.is)
+returns-in-Nothing c = ap (sent c.args.settings c.args.slots.now c.args.i) (sym c.in-Nothing.is)
 
 pub returns-in-GetInfo : goal.returns-in-GetInfo
 unfolding send_up
 returns-in-GetInfo c =
-    let a = c.args in
-    c.broadcast.ensures ∙ ap (sent a.settings a.slots.now a.i) (sym c.in-GetInfo.is)
+    c.broadcast.ensures ∙ ap (sent c.args.settings c.args.slots.now c.args.i) (sym c.in-GetInfo.is)
 
 pub returns-in-Done : goal.returns-in-Done
 unfolding send_up
 returns-in-Done c =
-    let a = c.args in
-    c.broadcast-in-Done.ensures ∙ ap (sent a.settings a.slots.now a.i) (sym c.in-Done.is)
+    c.broadcast-in-Done.ensures ∙ ap (sent c.args.settings c.args.slots.now c.args.i) (sym c.in-Done.is)
 
 pub returns-in-DoneAndWrite : goal.returns-in-DoneAndWrite
 unfolding send_up

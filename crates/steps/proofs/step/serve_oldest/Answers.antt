@@ -1,0 +1,12 @@
+-- `serve_oldest`: what is no message goes off its channel; a message is served. Assumes nothing.
+use Rattle.basics.proofs.Prelude.{sym, ap, ◌∙◌}
+use Rattle.state.specs.State.{message_at}
+use Rattle.steps.proofs.Serving.{drop_gives}
+use Rattle.steps.proofs.step.serve_oldest.Goals as goal
+
+pub returns-in_default : goal.returns-in_default
+returns-in_default c =
+    let a = c.args in
+    let found = c.oldest_request.ensures ∙ ap (message_at a.slots.now) c.up-from.ensures in
+    drop_gives a.settings a.stopped a.servers.now a.slots.now a.k a.d c.requires.3 c.requires.4 c.requires.0
+    c.requires.7 c.requires.6 _ (sym found ∙ c.in_default.is) _ _ c.up-from.ensures c.remove.ensures
