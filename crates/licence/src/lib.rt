@@ -238,6 +238,7 @@ pub enum Verdict {
     Refused(Refusal),
 }
 
+#[tactic(auto, unfolding(crate::specs::Verdict::verdict_by))]
 fn judge(left: i32, state: u8) -> Verdict
     ensures { result ≡ verdict_by left state }
 {
