@@ -2,7 +2,7 @@
 --
 -- In order: the start; one turn more.
 -- Assumes nothing.
-use Rattle.basics.proofs.Prelude.{◌≡◌, ap, sym, ◌∙◌, false, length, take, drop, ◌≤◌, arith}
+use Rattle.basics.proofs.Prelude.{◌≡◌, ap, sym, ◌∙◌, false, length, take, drop, arith}
 use Rattle.script.specs.declared.print.Numeral.{Numeral}
 use Rattle.script.specs.Numerals.{numeral_of}
 use Rattle.script.proofs.Writing.{keeps}
