@@ -42,6 +42,7 @@ fn message_of(kind: u64, tag: u64, counter: u64, client: u64, entry: u64) -> Unp
 }
 
 // The five numbers of a message.
+#[tactic(auto, unfolding(crate::specs::Fields::fields_of))]
 fn fields_of(message: Message) -> [u64; 5]
     ensures { result ≡ fields_of message }
 {
