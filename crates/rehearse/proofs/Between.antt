@@ -140,9 +140,9 @@ module _ {left : Turn} {servers clients slots input : List ℕ} {have : ℕ} {ou
   one_turn long wide =
       let turned = turns_more (progress beginning [] []) so_far.parts part in
       let ends = keeping.ends in
-      let closed-long = keeps block in
-      let next-long = keeps keeping in
-      let was-wide = so_far.wide in
+      let closed_long = keeps block in
+      let next_long = keeps keeping in
+      let was_wide = so_far.wide in
       let short : length (kept closed left'.at total) ≤ most = simp length-take (omega arith) in
       record {
         parts = so_far.parts ++ part ∷ [];

@@ -49,10 +49,10 @@ module _ (block : List ℕ) (have more : ℕ) (inside : have < length block)
   pub read_some : 0 < more → Written (joined cut bytes) block 0 (have + more) block
   read_some some =
       let kept_long = many in
-      let read-long = few in
+      let read_long = few in
       let both = joined_some cut bytes (omega arith) in
       let long : length (joined cut bytes) ≡ have + more =
-      cc (both, length-append cut bytes, kept_long, read-long) in
+      cc (both, length-append cut bytes, kept_long, read_long) in
       let ends : have + more ≡ 0 + length (joined cut bytes) = omega arith in
       record {
         fits = omega arith;
@@ -67,7 +67,7 @@ module _ (block : List ℕ) (have more : ℕ) (inside : have < length block)
   pub read_none : more ≤ 0 → have < 1 → Written (joined cut bytes) block 0 0 block
   read_none none empty =
       let kept_long = many in
-      let read-long = few in
+      let read_long = few in
       reads (record { fits = omega arith; ends = refl; holds = written_none block 0 }) (joined cut bytes)
       (sym (joined_none cut bytes (omega arith) (omega arith)))
 
@@ -75,7 +75,7 @@ module _ (block : List ℕ) (have more : ℕ) (inside : have < length block)
   pub read_last : more ≤ 0 → 0 < have → Written (joined cut bytes) block 0 (have + 1) (set block have newline)
   read_last none some =
       let kept_long = many in
-      let read-long = few in
+      let read_long = few in
       let last = joined_last cut bytes (omega arith) (omega arith) in
       let long : length (cut ++ newline ∷ []) ≡ have + 1 =
       length-append cut (newline ∷ []) ∙ rw kept_long refl in

@@ -26,26 +26,26 @@ use Rattle.rehearse.proofs.Whole.{whole}
 
 -- ---- the outputs from an accepted S on
 
-module _ {known : Stage} {setup : Line} {S : Settings} (session-of : Begun known setup S)
+module _ {known : Stage} {setup : Line} {S : Settings} (session_of : Begun known setup S)
     (between after' : List Line)
     (plain : NoneAccepted between) where
   -- the program behind the S
   abbrev first : Stage
-  first = stage_at session-of.settings (steps_of between) 0 (next_number known.number)
+  first = stage_at session_of.settings (steps_of between) 0 (next_number known.number)
 
   -- the outputs of the lines behind the session
   abbrev later : List Output
   later = outputs_of (stage_behind first between) after'
 
   session_outputs_lem : outputs_of known (setup ∷ between ++ after')
-      ≡ session_outputs (settings_of session-of.settings) between ++ later
+      ≡ session_outputs (settings_of session_of.settings) between ++ later
   unfolding outputs_of
   session_outputs_lem =
-      (λ i. session-of.prints i ∷ outputs_of (session-of.leaves (steps_of between) i) (between ++ after'))
+      (λ i. session_of.prints i ∷ outputs_of (session_of.leaves (steps_of between) i) (between ++ after'))
       ∙ ap (λ (os : List Output). output.Set ∷ os)
       (outputs_then first between after'
       ∙ ap (λ (os : List Output). os ++ later)
-      (in_session session-of.settings session-of.allowed (steps_of between) between plain 0
+      (in_session session_of.settings session_of.allowed (steps_of between) between plain 0
       (next_number known.number) refl))
 
 -- ---- the session in a script
@@ -55,19 +55,19 @@ session : (known : Stage) (before between after' : List Line) (setup : Line) (S 
     → NoneAccepted between
     → Session (outputs_of known (before ++ (setup ∷ between ++ after'))) (length before) S between
 session known before between after' setup S e plain =
-    let session-of = begun (stage_behind known before) setup S e in
+    let session_of = begun (stage_behind known before) setup S e in
     let all : List Output = outputs_of known (before ++ (setup ∷ between ++ after')) in
-    subst (λ (T : Settings). Session all (length before) T between) session-of.same
+    subst (λ (T : Settings). Session all (length before) T between) session_of.same
     (record {
       front = outputs_of known before;
-      behind = later session-of between after' plain;
+      behind = later session_of between after' plain;
       many = outputs_many known before;
       answers =
           outputs_then known before (setup ∷ between ++ after')
           ∙ ap (λ (os : List Output). outputs_of known before ++ os)
-          (session_outputs_lem session-of between after' plain);
+          (session_outputs_lem session_of between after' plain);
       demand =
-          demand_three_lem (settings_of session-of.settings) session-of.allowed.accepted (steps_of between);
+          demand_three_lem (settings_of session_of.settings) session_of.allowed.accepted (steps_of between);
     })
 
 -- ---- the program

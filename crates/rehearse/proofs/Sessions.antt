@@ -14,6 +14,7 @@ use Rattle.register.specs.Settings as register
 use Rattle.register.specs.Steps as model
 use Rattle.script.specs.declared.parse.Line.{Line}
 use Rattle.script.specs.declared.parse.Line.TheVariants as line
+use Rattle.script.specs.declared.print.Output.{Output}
 use Rattle.script.specs.declared.print.Output.TheVariants as output
 use Rattle.script.specs.Numerals.{next_number}
 use Rattle.state.specs.declared.Settings.{Settings}
@@ -61,11 +62,12 @@ pub in_session : (settings : Settings) → Allowed settings → (steps : List mo
 unfolding outputs_of output_of after accepted_by steps_of outputs_by
 in_session settings allowed steps [] plain place number e = refl
 in_session settings allowed steps (line.Setup f n count faulty ∷ ls) plain place number e =
-    cc (
-      refused_setup (stage_at settings steps place number) (setup_of f n count faulty)
-          (plain (line.Setup f n count faulty) (inl refl)),
-      in_session settings allowed steps ls (λ l among. plain l (inr among)) place (next_number number) e,
-    )
+    let answer : Setup = setup_of f n count faulty in
+    ap (λ (os : List Output). setup_output answer ∷ os)
+    (ap (λ (known : Stage). outputs_of known ls)
+    (refused_setup (stage_at settings steps place number) answer
+    (plain (line.Setup f n count faulty) (inl refl)))
+    ∙ in_session settings allowed steps ls (λ l among. plain l (inr among)) place (next_number number) e)
 in_session settings allowed steps (line.Do step ∷ ls) plain place number e =
     let here = at_place steps place (model.R 0) (step_of step) (steps_of ls) e in
     cc (
@@ -79,16 +81,16 @@ in_session settings allowed steps (line.Unread ∷ ls) plain place number e =
 -- ---- the S that begins one
 
 -- whatever the program knew, it then is before the first step
-pub record Begun (known : Stage) (setup-line : Line) (S : register.Settings) : Type 0 where
+pub record Begun (known : Stage) (setup_line : Line) (S : register.Settings) : Type 0 where
   pub settings : Settings
   pub allowed : Allowed settings
   pub same : settings_of settings ≡ S
-  pub prints : output_of known setup-line ≡ output.Set
+  pub prints : output_of known setup_line ≡ output.Set
   pub leaves : (steps : List model.Step)
-      → after known setup-line ≡ stage_at settings steps 0 (next_number known.number)
+      → after known setup_line ≡ stage_at settings steps 0 (next_number known.number)
 
-pub begun : (known : Stage) (setup-line : Line) (S : register.Settings) → accepted_by setup-line ≡ some S
-    → Begun known setup-line S
+pub begun : (known : Stage) (setup_line : Line) (S : register.Settings) → accepted_by setup_line ≡ some S
+    → Begun known setup_line S
 unfolding output_of after accepted_by world_at
 begun known (line.Setup f n count faulty) S e =
     let given = accepted_setup (setup_of f n count faulty) S e in

@@ -80,8 +80,8 @@ module _ {first : Stage} {input out : List ℕ} where
           → {used' : ℕ} {out' : List ℕ} → Written (printed known.number what) mid used used' out'
           → (number : ℕ) → number ≡ next_number known.number
           → SoFar first input out (next number) (found.end + 1) used' out'
-      one_more {what} {next} obeys {used'} line number next-number =
-          let leads : next number ≡ after known found.line = ap next next-number ∙ obeys.leaves in
+      one_more {what} {next} obeys {used'} line number is_next =
+          let leads : next number ≡ after known found.line = ap next is_next ∙ obeys.leaves in
           let short = printed_short known.number what in
           let fits = line.ends in
           let few = so_far.few in
