@@ -71,6 +71,7 @@ fn zero(slots: &mut Slots, at: usize, n: usize)
 }
 
 // Puts a message on channel i, behind those that it holds. A full channel stays as it is.
+#[tactic(auto, unfolding(crate::specs::Memory::put_on))]
 pub fn put(slots: &mut Slots, i: usize, words: Words)
     requires { i < channels }
     ensures { slots.new ≡ put_on slots.old i words }
@@ -179,6 +180,7 @@ fn slots_go(slots: &Slots, at: usize, n: usize, down: bool) -> bool
 }
 
 // Whether channel i is sound. Most are empty, and one pass over their slots says so.
+#[tactic(auto, unfolding(crate::specs::Sound::channel_tests))]
 fn channel_sound(slots: &Slots, i: usize) -> bool
     requires { i < channels }
     ensures { result ≡ all_pass (channel_tests slots.now i) }

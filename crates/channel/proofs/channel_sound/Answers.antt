@@ -1,6 +1,6 @@
 -- `channel::channel_sound` meets its contract: each return is one of the channel's tests, in their order.
 -- Assumes nothing.
-use Rattle.basics.proofs.Prelude.{sym, ◌∙◌, le-leb, lt-leb}
+use Rattle.basics.proofs.Prelude.{sym, ◌∙◌, get_or, ◌≤◌, arith, le-leb}
 use mathlib.Core.Bool.{and-true}
 use Rattle.register.specs.Settings.{capacity}
 use Rattle.channel.specs.Sound.{channel_tests}
@@ -11,17 +11,17 @@ pub returns-then-held-eq0 : goal.returns-then-held-eq0
 returns-then-held-eq0 c =
     c.zeros.ensures ∙ sym (empty_sound c.args.slots.now c.args.i c.if-held-eq0.true)
 
-pub returns-then-held-gt-CAPACITY : goal.returns-then-held-gt-CAPACITY
-unfolding channel_tests
-returns-then-held-gt-CAPACITY c = rw (lt-leb _ capacity c.if-held-gt-CAPACITY.true)
-
 pub returns-then-not-slots_go : goal.returns-then-not-slots_go
 unfolding channel_tests
 returns-then-not-slots_go c =
-    rw (le-leb _ capacity c.if-held-gt-CAPACITY.false, failed c.slots_go.ensures c.if-not-slots_go.true)
+    let held = get_or c.args.slots.now c.args.i 0 in
+    let few : held ≤ capacity = omega arith in
+    rw (le-leb held capacity few, failed c.slots_go.ensures c.if-not-slots_go.true)
 
 pub returns : goal.returns
 unfolding channel_tests
 returns c =
-    rw (le-leb _ capacity c.if-held-gt-CAPACITY.false, passed c.slots_go.ensures c.if-not-slots_go.false)
+    let held = get_or c.args.slots.now c.args.i 0 in
+    let few : held ≤ capacity = omega arith in
+    rw (le-leb held capacity few, passed c.slots_go.ensures c.if-not-slots_go.false)
     (c.zeros-2.ensures ∙ sym (and-true _))

@@ -1,5 +1,5 @@
 -- `server::serve` meets its contract: each return is one case of the ladder (`Outcomes`). Assumes nothing.
-use Rattle.basics.proofs.Prelude.{sym, ap, ◌∙◌, inl, inr, arith}
+use Rattle.basics.proofs.Prelude.{◌≡◌, false, sym, ap, ◌∙◌, inl, inr, arith}
 use Rattle.register.proofs.Vocabulary.{goes_up, goes}
 use Rattle.server.specs.Serving.{result_of}
 use Rattle.server.proofs.Outcomes.{unsound, no_process_low, no_process_high, malformed, served}
@@ -45,5 +45,5 @@ returns c =
     let h = sym c.is_sound.ensures ∙ c.if-not-is_sound.false in
     let good = sym c.unpack.ensures ∙ c.in-Good.is in
     let e = served a.memory.now a.d a.bytes.now h (omega arith) (omega arith) _ good
-    (rw (sym c.is_reply.ensures ∙ c.if-is_reply.false)) in
+    (let asks : c.is_reply.result ≡ false = cc in rw (sym c.is_reply.ensures ∙ asks)) in
     cc
