@@ -1,6 +1,6 @@
 -- `settings_of`: each test is one of the definition's, or follows from one (`SetupLaws`).
 -- Assumes nothing.
-use Rattle.basics.proofs.Prelude.{sym, ◌∙◌, lt-ltb, le-ltb}
+use Rattle.basics.proofs.Prelude.{◌≡◌, true, sym, ◌∙◌, lt-ltb, le-ltb}
 use Rattle.system.proofs.SetupLaws.{over_marks, over_f, over_n, over_clients, out_of_range}
 use Rattle.system.proofs.SetupLaws.{too_many, is_set}
 use Rattle.system.proofs.setup.settings_of.Goals as goal
@@ -34,13 +34,15 @@ returns-then-not-fine c =
 pub returns-then-many : goal.returns-then-many
 returns-then-many c =
     let a = c.args in
+    let fine : c.is_in_range-fine.result ≡ true = cc in
     sym (too_many a.f a.n a.clients a.faulty c.if-faulty-ge-OVER_MARKS.false
-    (sym c.is_in_range-fine.ensures ∙ c.if-not-fine.false)
+    (sym c.is_in_range-fine.ensures ∙ fine)
     (lt-ltb _ _ (rw c.count_faulty.ensures at c.if-many.true)))
 
 pub returns-else-many : goal.returns-else-many
 returns-else-many c =
     let a = c.args in
+    let fine : c.is_in_range-fine.result ≡ true = cc in
     sym (is_set a.f a.n a.clients a.faulty c.if-faulty-ge-OVER_MARKS.false
-    (sym c.is_in_range-fine.ensures ∙ c.if-not-fine.false)
+    (sym c.is_in_range-fine.ensures ∙ fine)
     (le-ltb _ _ (rw c.count_faulty.ensures at c.if-many.false)))
