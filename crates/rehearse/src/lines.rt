@@ -82,6 +82,7 @@ fn set_afresh(
 }
 
 // A step before an accepted setup is unreadable.
+#[tactic(auto, using(system::proofs::StepLaws::step_law), unfolding(crate::specs::Stage::output_of, crate::specs::Stage::after))]
 fn obey(
     settings: Settings,
     is_set: bool,

@@ -2,13 +2,8 @@
 -- Assumes nothing.
 use Rattle.state.proofs.SoundFacts.{facts}
 use Rattle.system.proofs.ReadyLaws.{ready}
-use Rattle.rehearse.proofs.Obeying.{obeys_step, obeys_early, obeys_unread}
+use Rattle.rehearse.proofs.Obeying.{obeys_unread}
 use Rattle.rehearse.proofs.lines.obey.Goals as goal
-
--- a step before an accepted setup
-pub returns-then-not-is_set : goal.returns-then-not-is_set
-returns-then-not-is_set c =
-    rw (c.obeyed_of.ensures, c.in-Do.is) (λ number. obeys_early _ _ _ _ _ number _ c.if-not-is_set.true)
 
 -- a sound state is ready for a step
 pub make_step-requires : goal.make_step-requires
@@ -17,12 +12,6 @@ make_step-requires c = ready _ _ _ _ (facts _ _ _ _ c.requires)
 -- a setup
 pub returns-in-Setup : goal.returns-in-Setup
 returns-in-Setup c = rw c.in-Setup.is c.set_afresh.ensures
-
--- a step
-pub returns-else-not-is_set : goal.returns-else-not-is_set
-returns-else-not-is_set c =
-    rw (c.obeyed_of-in-Do.ensures, c.in-Do.is)
-    (λ number. obeys_step _ _ _ _ _ number _ _ c.if-not-is_set.false c.requires c.make_step.ensures)
 
 -- neither
 pub returns-in-Unread : goal.returns-in-Unread
