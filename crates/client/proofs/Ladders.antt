@@ -144,9 +144,9 @@ module _ (b : Bool) (d n k : ℕ) (told : b ≡ is_client d) where
   pub no_client : b ≡ false → not (is_client d && is_server n k) ≡ true
   no_client taken = rw (sym told ∙ taken)
 
-  module _ (left : b ≡ true) (server : Bool) (told-too : server ≡ is_server n k) where
+  module _ (left : b ≡ true) (server : Bool) (told_too : server ≡ is_server n k) where
     pub server_rung : (u : Bool) → not server ≡ u → not (is_client d && is_server n k) ≡ u
-    server_rung u o = rw (sym told ∙ left) (ap not (sym told-too) ∙ o)
+    server_rung u o = rw (sym told ∙ left) (ap not (sym told_too) ∙ o)
 
 module _ (result : Unpacked) (bytes : List ℕ) (is : result ≡ unpack_of bytes) where
   pub malformed_rung : (why : Refusal) → result ≡ unpacked.Refused why

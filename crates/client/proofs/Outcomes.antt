@@ -82,7 +82,7 @@ module _ (client : Client) (pair : Pair) where
 
   -- a write has the counter after the chosen one, if there is one
   module _ (entry : Entry) (writes : client.phase ≡ ReadingForWrite entry) (count : WriteCounter)
-      (counter-is : count ≡ counter pair) (b : Bool) (last_is : b ≡ eqb count.0 last_counter) where
+      (counter_is : count ≡ counter pair) (b : Bool) (last_is : b ≡ eqb count.0 last_counter) where
     abbrev above : WriteCounter
     above = record { 0 = (counter pair).0 + 1 }
 
@@ -102,7 +102,7 @@ module _ (client : Client) (pair : Pair) where
     written_is : (u : Bool) → b ≡ u → written_by u ≡ concluded_of client pair
     unfolding concluded
     written_is u eu =
-        ap written_by (sym eu ∙ last_is ∙ ap (λ (v : WriteCounter). eqb v.0 last_counter) counter-is)
+        ap written_by (sym eu ∙ last_is ∙ ap (λ (v : WriteCounter). eqb v.0 last_counter) counter_is)
         ∙ ap concluded_in (sym writes)
 
     pub write_spent : b ≡ true → (step : Transition) → step ≡ ends_with client Done Spent
@@ -112,20 +112,20 @@ module _ (client : Client) (pair : Pair) where
     pub counter_room : b ≡ false → pair.0 < 2 ^ pair_bits → count.0 < last_counter
     counter_room more fits =
         let other = eqb-false count.0 last_counter (sym last_is ∙ more) in
-        let same = ap (λ (v : WriteCounter). v.0) counter-is in
+        let same = ap (λ (v : WriteCounter). v.0) counter_is in
         omega (arith, counter_fits pair fits)
 
-    module _ (more : b ≡ false) (next : WriteCounter) (next-is : next ≡ record { 0 = count.0 + 1 }) where
+    module _ (more : b ≡ false) (next : WriteCounter) (next_is : next ≡ record { 0 = count.0 + 1 }) where
       pub next_fits : pair.0 < 2 ^ pair_bits → next.0 < 2 ^ counter_bits
       next_fits fits =
-          let same = ap (λ (v : WriteCounter). v.0) next-is in omega (arith, counter_room more fits)
+          let same = ap (λ (v : WriteCounter). v.0) next_is in omega (arith, counter_room more fits)
 
       pub write_goes : (own : Pair) → own ≡ pair_of next client.number entry → (self : Client)
           → self ≡ in_phase client (Storing entry next)
           → after (record { client = self; sends = DoneAndWrite own; answer = Went }) empty
           ≡ concluded_of client pair
       write_goes own eq self ex =
-          let is : next ≡ above = next-is ∙ ap (λ (v : WriteCounter). record { 0 = v.0 + 1 }) counter-is in
+          let is : next ≡ above = next_is ∙ ap (λ (v : WriteCounter). record { 0 = v.0 + 1 }) counter_is in
           rw (ex, eq, is)
           (empties client (Storing entry above) (DoneAndWrite (pair_of above client.number entry)) Went
           ∙ written_is false more)
@@ -143,7 +143,7 @@ concluded_same n f d self other (ReadingForWrite entry) pair e h = rw e
 concluded_same n f d self other (Storing entry count) pair e h = absurd (true_or_false false h refl)
 
 module _ (client : Client) (replies : List ℕ) (found : Choice)
-    (choice-is : choice_of found ≡ chosen client.n client.f 0 (held_in replies))
+    (choice_is : choice_of found ≡ chosen client.n client.f 0 (held_in replies))
     (step : Transition) where
   abbrev chosen_by : Option Pair → After
   chosen_by pick = stored client
@@ -152,7 +152,7 @@ module _ (client : Client) (replies : List ℕ) (found : Choice)
   -- it depends on the replies alone
   same_choice : (pick : Choice) → found ≡ pick → chosen_by (choice_of pick) ≡ chosen_of client replies
   unfolding chosen counts not_old valid
-  same_choice pick e = ap chosen_by (ap choice_of (sym e) ∙ choice-is)
+  same_choice pick e = ap chosen_by (ap choice_of (sym e) ∙ choice_is)
 
   pub no_choice : is_sound client replies ≡ true → found ≡ choice.Nothing → step ≡ kept client
       → after step replies ≡ chosen_of client replies
@@ -171,15 +171,15 @@ module _ (client : Client) (replies : List ℕ) (found : Choice)
 
 -- what is sent in each case
 module _ (client : Client) (replies : List ℕ) (found : Choice)
-    (choice-is : choice_of found ≡ chosen client.n client.f 0 (held_in replies)) where
+    (choice_is : choice_of found ≡ chosen client.n client.f 0 (held_in replies)) where
   pub no_choice_sends : is_sound client replies ≡ true → found ≡ choice.Nothing
       → [] ≡ (chosen_of client replies).sends
   no_choice_sends h e =
-      ap (λ (a : After). a.sends) (no_choice client replies found choice-is (kept client) h e refl)
+      ap (λ (a : After). a.sends) (no_choice client replies found choice_is (kept client) h e refl)
 
   pub choice_sends : (step : Transition) (pair : Pair) → is_reading client.phase ≡ true
       → found ≡ choice.Found pair → after step empty ≡ concluded_of client pair
       → messages_of step.sends ≡ (chosen_of client replies).sends
   choice_sends step pair reading e et =
       ap (λ (a : After). a.sends)
-      (choice_leads client replies found choice-is step pair reading e empty refl et)
+      (choice_leads client replies found choice_is step pair reading e empty refl et)

@@ -206,8 +206,8 @@ module _ (client : Client) (replies : List ℕ) (k : ℕ) (h : is_sound client r
       ack_long = sound_long client left ack_sound
 
       -- and enough of them end the write
-      module _ (count : ℕ) (counted_is : count ≡ counted (ack_in left) client.n) (is-enough : Bool)
-          (enough-is : is-enough ≡ enough client.n client.f count) (step : Transition) where
+      module _ (count : ℕ) (counted_is : count ≡ counted (ack_in left) client.n) (is_enough : Bool)
+          (enough_is : is_enough ≡ enough client.n client.f count) (step : Transition) where
         abbrev acked : Bool → After
         acked ended =
             stored client (cond ended
@@ -218,21 +218,21 @@ module _ (client : Client) (replies : List ℕ) (k : ℕ) (h : is_sound client r
             })
             (sends_nothing (view client left)))
 
-        acked_is : (ended : Bool) → is-enough ≡ ended
+        acked_is : (ended : Bool) → is_enough ≡ ended
             → acked ended ≡ received_of client replies k (WriteAck counter)
         unfolding client_takes acknowledged
         acked_is ended e =
-            ap acked (sym e ∙ enough-is ∙ ap (enough client.n client.f) counted_is)
+            ap acked (sym e ∙ enough_is ∙ ap (enough client.n client.f) counted_is)
             ∙ ap (λ (self : model.Client). stored client (acknowledged client.n client.f
             client.number self counter))
             (ap (view client) noted ∙ ack_view client replies k h low high)
             ∙ rw storing
 
-        pub ack_waits : is-enough ≡ false → step ≡ kept client
+        pub ack_waits : is_enough ≡ false → step ≡ kept client
             → after step left ≡ received_of client replies k (WriteAck counter)
         ack_waits few e = unchanged_is client left step ack_sound e ∙ acked_is false few
 
-        pub ack_ends : is-enough ≡ true → (emptied : List ℕ) → emptied ≡ replicate replies_length 0
+        pub ack_ends : is_enough ≡ true → (emptied : List ℕ) → emptied ≡ replicate replies_length 0
             → (entry : ℕ) → entry ≡ (entry_of client.phase).0 → (pair : Pair)
             → pair ≡ pair_of counter client.number (record { 0 = entry })
             → step ≡ ends_with client Nothing (Wrote pair)

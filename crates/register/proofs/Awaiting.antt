@@ -70,15 +70,15 @@ module _ (settings : Settings) (judge : Formats) (world : World) (event : Event)
   awaits_next : (count : WriteCounter) (self : Client) → world.stopped d ≡ false → (event ≡ stops d → ⊥)
       → ((rest : List Message) → event ≡ takes d k (WriteAck count) rest → ⊥) → Awaits world d k count self
       → Awaits (apply settings world event) d k count self
-  awaits_next count self works no_stop no-take (inl a) = inl a
-  awaits_next count self works no_stop no-take (inr (inl (pair, member, is))) =
+  awaits_next count self works no_stop no_take (inl a) = inl a
+  awaits_next count self works no_stop no_take (inr (inl (pair, member, is))) =
       by_either (up_stays settings judge world event checked d k (WriteInfo pair) member)
       (λ a. inr (inl (pair, a, is))) (λ a. inr (inr
       (rw a.1 (down_new settings judge world k d (WriteInfo pair) a.0 d (WriteAck count) works
       (rw (← is) (ack_sent (world.servers k) d pair range.0 range.1))))))
-  awaits_next count self works no_stop no-take (inr (inr member)) =
+  awaits_next count self works no_stop no_take (inr (inr member)) =
       by_either (down_stays settings judge world event checked d k (WriteAck count) member) (λ a. inr (inr a))
-      (λ a. by_either a (λ b. absurd (no-take b.0 b.1)) (λ b. absurd (no_stop b)))
+      (λ a. by_either a (λ b. absurd (no_take b.0 b.1)) (λ b. absurd (no_stop b)))
 
   -- ---- at the client
 

@@ -86,7 +86,7 @@ module _ (settings : Settings) (judge : Formats) (world : World) (event : Event)
 
   module _ (checked : Enabled settings judge world event) (began began' : ℕ → ℕ → ℕ)
       (old : Fresh settings world began) (below : (d k : ℕ) → began d k ≤ stamp (world.servers k).pair)
-      (as-was : (d k : ℕ) → starts_at event d ≡ false → began' d k ≡ began d k) where
+      (as_was : (d k : ℕ) → starts_at event d ≡ false → began' d k ≡ began d k) where
     next : (d : ℕ) → ReadsNext (world.clients d) ((apply settings world event).clients d) (starts_at event d)
     next d = reads_next settings judge world event d _ (client_next settings judge world event checked d)
 
@@ -120,7 +120,7 @@ module _ (settings : Settings) (judge : Formats) (world : World) (event : Event)
         let more = (next d).more s in
         let z : tag.0 ≡ ((apply settings world event).clients d).reads.0 = ap (λ (n : ReadNumber). n.0) q in
         absurd (omega arith))
-        (λ s. rw (as-was d k s)
+        (λ s. rw (as_was d k s)
         (by_either (down_cases settings judge world event checked d k honest (Info tag pair) member)
         (λ a. old.info d k honest tag pair a (q ∙ (next d).stays s))
         (λ a. rw (asks_for d k tag pair a).pair (below d k))))
@@ -128,12 +128,12 @@ module _ (settings : Settings) (judge : Formats) (world : World) (event : Event)
     fresh_noted : (d k : ℕ) → is_honest settings k ≡ true → (time : ℕ) (after : Client)
         → ClientNext settings judge world event d after → after.noted k ≡ some time → began' d k ≤ time
     unfolding started
-    fresh_noted d k honest time after (same s _) h = rw (as-was d k s) (old.noted d k honest time h)
+    fresh_noted d k honest time after (same s _) h = rw (as_was d k s) (old.noted d k honest time h)
     fresh_noted d k honest time after (starts phase _ _) h = absurd (none_some h)
     fresh_noted d k honest time after (responds taken response _ out) h =
         let q = taken.event in
         let on = taken.enabled in
-        rw (as-was d k (rw q refl))
+        rw (as_was d k (rw q refl))
         (by_either ((came out).note k time h) (λ a. old.noted d k honest time a)
         (λ a. rw a.is (old.info d k honest (world.clients d).reads a.pair
         (rw (← a.server, on.channel) (inl (sym a.message))) refl)))

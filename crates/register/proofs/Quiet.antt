@@ -105,7 +105,7 @@ module _ (run : Run) (n d : ℕ) (client : is_client run.settings d ≡ true)
   not_reading_now : is_reading self.phase ≡ true → ⊥
   not_reading_now reading =
       let least = (bounded run).least in
-      let honest-ones = many_honest run.settings (bounded run) in
+      let honest_ones = many_honest run.settings (bounded run) in
       let one = counted_found (is_honest run.settings) (servers run.settings) (omega arith) in
       let k = one.server in
       let pair = present k in

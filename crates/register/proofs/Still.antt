@@ -35,12 +35,12 @@ still_cleared : (settings : Settings) → Bounds settings → (d : ℕ) (phase :
     → Still settings d (cleared phase tag)
 unfolding chosen is_noted
 still_cleared settings bounded d phase tag =
-    let none-noted = counted_none (λ k. is_noted none) (servers settings) (λ k. refl) in
-    let none-acks = counted_none (λ k. false) (servers settings) (λ k. refl) in
+    let none_noted = counted_none (λ k. is_noted none) (servers settings) (λ k. refl) in
+    let none_acks = counted_none (λ k. false) (servers settings) (λ k. refl) in
     record {
       undecided = λ reading. rw (none_enough settings bounded
-          (counted (λ k. false) (servers settings)) none-noted) refl;
-      few = λ entry count q. none_enough settings bounded (counted (λ k. false) (servers settings)) none-acks;
+          (counted (λ k. false) (servers settings)) none_noted) refl;
+      few = λ entry count q. none_enough settings bounded (counted (λ k. false) (servers settings)) none_acks;
     }
 
 module _ (settings : Settings) (bounded : Bounds settings) (d : ℕ) (self : Client) (k : ℕ)

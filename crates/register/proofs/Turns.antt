@@ -72,8 +72,8 @@ module _ (settings : Settings) (judge : Formats) (world : World) (event : Event)
     puts_is : (message : Message) → Member message response.sends
         → Puts settings judge world event d message
     puts_is message member =
-        let event-is = taken.event in
-        rw event-is (refl, subst (λ (other : Response). Member message other.sends) is member)
+        let event_is = taken.event in
+        rw event_is (refl, subst (λ (other : Response). Member message other.sends) is member)
 
     is_put : (message : Message) → Puts settings judge world event d message
         → Member message response.sends
@@ -107,8 +107,8 @@ module _ (settings : Settings) (judge : Formats) (world : World) (event : Event)
       sent pair entry (record { by = taken; grown = grown; grows = grows; chosen = chose }) was refl
       (answer_is taken response is) (puts_is taken response is _ (inr (inl refl)))
   outcome_turn taken response is (acks entry count _ _ _) = rests taken response is refl refl refl
-  outcome_turn taken response is (ends entry count is-ack was many) =
-      ended entry count taken is-ack was many refl (answer_is taken response is)
+  outcome_turn taken response is (ends entry count is_ack was many) =
+      ended entry count taken is_ack was many refl (answer_is taken response is)
 
   next_turn : (after : Client) → ClientNext settings judge world event d after → Turn after
   unfolding started

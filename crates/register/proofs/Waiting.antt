@@ -121,10 +121,10 @@ asks_served up down self server d k message left q asks =
               (inr (inl (member_right (Info self.reads server.pair) down _ (inl refl))));
         }))
     go (first ∷ others) e old =
-        let is-first : message ≡ first = cc in
+        let is_first : message ≡ first = cc in
         let rest : left ≡ others ++ GetInfo self.reads ∷ [] = cc in
         let z = sends_none server d message d self.reads
-        (λ g _. let less = old self.reads (inl (sym g ∙ is-first)) in omega arith) in
+        (λ g _. let less = old self.reads (inl (sym g ∙ is_first)) in omega arith) in
         let silent = asks.silent in
         inl (record {
           get = record { before = others; channel = rest; old = λ tag member. old tag (inr member) };

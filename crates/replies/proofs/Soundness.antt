@@ -117,7 +117,7 @@ padded n reading storing replies known i h =
 -- ---- a memory that has the numbers of another in one part, or in all but one
 
 module _ (replies next : List ℕ) (long : length replies ≡ replies_length)
-    (next-long : length next ≡ replies_length) where
+    (next_long : length next ≡ replies_length) where
   -- .. of the set at place i; its timestamp and its acknowledgement keep to their limits
   set_part : (reading storing : Bool) (i : ℕ) → i < most_servers
       → note_at next i ≤ cond reading most_noted 0 → ack_at next i ≤ cond storing 1 0
@@ -128,7 +128,7 @@ module _ (replies next : List ℕ) (long : length replies ≡ replies_length)
         size = rw same.0 known.size;
         ack = ack;
         rising =
-            rw (set_at_lem next i ih, set_same next replies i next-long long ih same, ← set_at_lem replies i ih)
+            rw (set_at_lem next i ih, set_same next replies i next_long long ih same, ← set_at_lem replies i ih)
             known.rising;
         zeros = λ j h past. same.1 j h ∙ known.zeros j h (rw same.0 at past);
       }
@@ -141,12 +141,12 @@ module _ (replies next : List ℕ) (long : length replies ≡ replies_length)
       → Sound n reading storing next
   changed n reading storing i known part others =
       record {
-        long = next-long;
+        long = next_long;
         part = λ k h. by_test (eqb i k) (λ e. let same : i ≡ k = eqb-true i k e in rw (← same) part)
-            (λ e. let same-part = others k h (eqb-false i k e) in
+            (λ e. let same_part = others k h (eqb-false i k e) in
             set_part (ltb k n && reading) (ltb k n && storing) k h
-            (rw same-part.0 (known.part k h).noted) (rw same-part.1 (known.part k h).ack)
-            same-part.2 (known.part k h));
+            (rw same_part.0 (known.part k h).noted) (rw same_part.1 (known.part k h).ack)
+            same_part.2 (known.part k h));
       }
 
 -- ---- changes
@@ -156,11 +156,11 @@ module _ (n : ℕ) (replies : List ℕ) (i : ℕ) (inside : i < n) (ih : i < mos
       → Sound n true storing (put_note replies i stamp)
   note_sound storing stamp small known =
       let long = known.long in
-      let next-long = note_length replies i stamp long ih in
+      let next_long = note_length replies i stamp long ih in
       let ack : (k : ℕ) → Same (put_note replies i stamp) replies (acks_at + k) =
       λ k. note_other replies i stamp long ih (acks_at + k) (λ q. omega arith) in
-      changed replies (put_note replies i stamp) long next-long n true storing i known
-      (set_part replies (put_note replies i stamp) long next-long (ltb i n && true) (ltb i n && storing) i ih
+      changed replies (put_note replies i stamp) long next_long n true storing i known
+      (set_part replies (put_note replies i stamp) long next_long (ltb i n && true) (ltb i n && storing) i ih
       (rw (lt-ltb i n inside, get_or-set_same replies i (stamp + 1) 0 (omega arith)) (omega arith))
       (rw (ack i) (known.part i ih).ack) (note_set replies i stamp long ih i) (known.part i ih))
       (λ k h apart. (
@@ -172,11 +172,11 @@ module _ (n : ℕ) (replies : List ℕ) (i : ℕ) (inside : i < n) (ih : i < mos
   pub ack_sound : (reading : Bool) → Sound n reading true replies → Sound n reading true (put_ack replies i)
   ack_sound reading known =
       let long = known.long in
-      let next-long = ack_length replies i long ih in
+      let next_long = ack_length replies i long ih in
       let noted : (k : ℕ) → k < most_servers → Same (put_ack replies i) replies k =
       λ k h. ack_other replies i long ih k (λ q. omega arith) in
-      changed replies (put_ack replies i) long next-long n reading true i known
-      (set_part replies (put_ack replies i) long next-long (ltb i n && reading) (ltb i n && true) i ih
+      changed replies (put_ack replies i) long next_long n reading true i known
+      (set_part replies (put_ack replies i) long next_long (ltb i n && reading) (ltb i n && true) i ih
       (rw (noted i ih) (known.part i ih).noted)
       (rw (lt-ltb i n inside, get_or-set_same replies (acks_at + i) 1 0 (omega arith)) (omega arith))
       (ack_set replies i long ih i ih) (known.part i ih)) (λ k h apart. (
@@ -192,8 +192,8 @@ module _ (n : ℕ) (replies : List ℕ) (i : ℕ) (inside : i < n) (ih : i < mos
       let long = known.long in
       let size = put_size replies i pairs long ih in
       let front = set_front replies i pairs long ih small in
-      let next-long = put_length replies i pairs long ih in
-      changed replies (put_set replies i pairs) long next-long n true storing i known
+      let next_long = put_length replies i pairs long ih in
+      changed replies (put_set replies i pairs) long next_long n true storing i known
       record {
         noted = rw (front i (omega arith) (λ q. omega arith)) (known.part i ih).noted;
         size = rw (lt-ltb i n inside, size) small;

@@ -69,12 +69,12 @@ SameSet replies other i =
 pub set_same : (replies other : List ℕ) (i : ℕ) → length replies ≡ replies_length
     → length other ≡ replies_length → i < most_servers → SameSet replies other i
     → set_at replies i ≡ set_at other i
-set_same replies other i long other-long ih same =
+set_same replies other i long other_long ih same =
     let four : four_at replies i ≡ four_at other i =
     ext_get_or 0 (four_at replies i) (four_at other i)
-    (four_length replies i long ih ∙ sym (four_length other i other-long ih))
+    (four_length replies i long ih ∙ sym (four_length other i other_long ih))
     (λ j less. let h : j < set_limit = omega (arith, four_length replies i long ih) in
-    four_at_lem replies i long ih j h ∙ same.1 j h ∙ sym (four_at_lem other i other-long ih j h)) in
+    four_at_lem replies i long ih j h ∙ same.1 j h ∙ sym (four_at_lem other i other_long ih j h)) in
     rw (same.0, four)
 
 -- ---- a noted timestamp
@@ -156,12 +156,12 @@ module _ (replies : List ℕ) (i : ℕ) (pairs : List Pair) (long : length repli
 
   pub set_here : set_in stored (suc i) ≡ pairs
   set_here =
-      let stored-long = put_length replies i pairs long ih in
+      let stored_long = put_length replies i pairs long ih in
       let size = put_size replies i pairs long ih in
       let same : length (set_in stored (suc i)) ≡ length pairs =
-      size_below stored i stored-long ih (omega (arith, size)) ∙ size in
+      size_below stored i stored_long ih (omega (arith, size)) ∙ size in
       ext_get_or initial (set_in stored (suc i)) pairs same
-      (λ j h. pair_at_lem stored i stored-long ih j initial h ∙ (λ q. record {
+      (λ j h. pair_at_lem stored i stored_long ih j initial h ∙ (λ q. record {
         0 = (put_word replies i pairs long ih j (omega (arith, same)) ∙ pair_word_lem pairs j) q;
       }))
 

@@ -34,7 +34,7 @@ store_slots_lem world = refl
 
 pub slots_same : (up up' down down' : Table) → ((d k : ℕ) → up d k ≡ up' d k)
     → ((d k : ℕ) → down d k ≡ down' d k) → slots_of up down ≡ slots_of up' down'
-slots_same up up' down down' same_up same-down = λ i. slots_of (λ d k. same_up d k i) (λ d k. same-down d k i)
+slots_same up up' down down' same_up same_down = λ i. slots_of (λ d k. same_up d k i) (λ d k. same_down d k i)
 
 -- one entry changed
 unfoldable pub changed : Table → ℕ → ℕ → List Message → Table

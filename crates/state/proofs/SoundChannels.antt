@@ -40,9 +40,9 @@ module _ (slots : List ℕ) (h : sound slots ≡ true) (i : ℕ) (inside : i < c
   well_by Kind from =
       record {
         few = messages_fit slots h i inside;
-        kinds = λ message member. let both-pass = both (well_formed message) (goes (is_down i) (Good message))
+        kinds = λ message member. let both_pass = both (well_formed message) (goes (is_down i) (Good message))
             (all_member (suits i) (messages slots i) (messages_suit slots h i inside) message member) in
-            from message both-pass.0 both-pass.1;
+            from message both_pass.0 both_pass.1;
       }
 
   pub well_up : i < upward → WellChannel FromClient (messages slots i)

@@ -202,18 +202,18 @@ module _ (settings : Settings) (i : ℕ) (memory : List ℕ) (h : is_client_soun
   pub unused_client : ltb i settings.clients ≡ false → view memory ≡ new_client
   unfolding is_reading
   unused_client e =
-      let idle-now = idle e in
+      let idle_now = idle e in
       let quiet : (k : ℕ) → is_server S k && is_reading phase
-      ≡ false = λ k. rw (idle-now, and-false (is_server S k)) in
+      ≡ false = λ k. rw (idle_now, and-false (is_server S k)) in
       let apart : (entry : Entry) (counter : WriteCounter) → phase ≡ Storing entry counter → ⊥ =
-      λ entry counter same. let q : Idle ≡ Storing entry counter = sym idle-now ∙ same in clash (cc) in
+      λ entry counter same. let q : Idle ≡ Storing entry counter = sym idle_now ∙ same in clash (cc) in
       let notes : noted_in replies ≡ (λ (k : ℕ). none) = fun_ext (λ k. noted_unused_lem k (quiet k)) in
       let pairs : set_in replies ≡ (λ (k : ℕ). []) = fun_ext (λ k. sets_unused_lem k (quiet k)) in
       let acks : ack_in replies ≡ (λ (k : ℕ). false) = fun_ext (acks_idle_lem apart) in
-      let zero-reads : get_or memory reads_at 0 % 2 ^ 32 ≡ 0 = small_reads ∙ (at_rest e).0 in
+      let zero_reads : get_or memory reads_at 0 % 2 ^ 32 ≡ 0 = small_reads ∙ (at_rest e).0 in
       λ q. record {
-        phase = idle-now q;
-        reads = record { 0 = zero-reads q };
+        phase = idle_now q;
+        reads = record { 0 = zero_reads q };
         noted = notes q;
         sets = pairs q;
         acks = acks q;

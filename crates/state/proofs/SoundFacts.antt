@@ -103,7 +103,7 @@ module _ (settings : Settings) (servers clients slots : List ℕ) where
         ),
       ) in
       let stopped = lt-ltb (stopped_in clients) (2 ^ settings.clients) f.stopped in
-      let servers-sound = below_of server_test_lem most_servers (λ j less. sym (at_part j) ∙ f.server j less) in
+      let servers_sound = below_of server_test_lem most_servers (λ j less. sym (at_part j) ∙ f.server j less) in
       let small = below_of small_test clients_length
       (λ i less. lt-ltb (get_or clients i 0) (2 ^ 64) (f.small i less)) in
       let clients_sound = both_of (are_small clients) _ small (below_of _ most_clients f.client) in
@@ -111,4 +111,4 @@ module _ (settings : Settings) (servers clients slots : List ℕ) where
       let links = below_of rows most_clients (λ i a. below_of _ most_servers (λ j e. f.link i j a e)) in
       let channels = both_of (all_below rows most_clients) (sound slots) links f.channels in
       all_of (sound_tests settings servers clients slots)
-      (allowed_of settings f.allowed, (long, (stopped, (servers-sound, (clients_sound, (channels, tt))))))
+      (allowed_of settings f.allowed, (long, (stopped, (servers_sound, (clients_sound, (channels, tt))))))

@@ -99,10 +99,10 @@ module _ (settings : Settings) (client : Client)
   Small y = y < 2 ^ 64
 
   pair_small : (l : List Pair) (k : ℕ) → WellSet l → Small (pair_word l k)
-  pair_small l k well-set =
+  pair_small l k well_set =
       by_test (ltb k (length l))
       (λ e. rw (pair_word_lem l k)
-      (place_every (λ p. Small p.0) initial l k (every_of (λ p. Small p.0) l well-set.pairs)
+      (place_every (λ p. Small p.0) initial l k (every_of (λ p. Small p.0) l well_set.pairs)
       (ltb-true k (length l) e)))
       (λ e. rw (past_last l k (ltb-false k (length l) e)) (omega arith))
 

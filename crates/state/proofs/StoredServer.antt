@@ -19,11 +19,11 @@ use Rattle.state.specs.State.{store_stopped}
 pub set_is : (p : ℕ → Bool) → ((d : ℕ) → is_up_to most_clients d ≡ false → p d ≡ false)
     → contains (set_of p most_clients) ≡ p
 unfolding contains
-set_is p none-else =
-    by_places most_clients (contains (set_of p most_clients)) p (sym (none-else 0 refl)) (set_of_lem p most_clients)
+set_is p none_else =
+    by_places most_clients (contains (set_of p most_clients)) p (sym (none_else 0 refl)) (set_of_lem p most_clients)
     (λ i h. let over : most_clients ≤ i = ltb-false i most_clients h in
     set_above (set_of p most_clients) most_clients i (set_lt p most_clients) over
-    ∙ sym (none-else (suc i) (over_range most_clients (suc i) (omega arith))))
+    ∙ sym (none_else (suc i) (over_range most_clients (suc i) (omega arith))))
 
 -- what a step loads of a stored server
 pub loaded_is : (server : Server) → loaded (store server) ≡ value.store server

@@ -45,18 +45,18 @@ by_unpacked (Good message) f g = g message refl
 -- ---- one channel, by cases on the tests: `to-client`, it is the client's; `of-server`, it is the
 -- server's; `stopped`, the client has stopped
 
-dropped : (to-client of-server stopped : Bool) (l : List Message) (message : Message)
-    → (to-client ≡ true → stopped ≡ true)
-    → l ≡ l ++ cond stopped [] (cond (of-server && to-client) (message ∷ []) [])
-dropped to-client false stopped l message h = sym (nothing_put stopped l)
+dropped : (to_client of_server stopped : Bool) (l : List Message) (message : Message)
+    → (to_client ≡ true → stopped ≡ true)
+    → l ≡ l ++ cond stopped [] (cond (of_server && to_client) (message ∷ []) [])
+dropped to_client false stopped l message h = sym (nothing_put stopped l)
 dropped false true stopped l message h = sym (nothing_put stopped l)
 dropped true true stopped l message h = rw (h refl) (sym (nothing_put true l))
 
-put_last : (to-client of-server stopped : Bool) (l own : List Message) (message : Message)
-    → (to-client ≡ true → stopped ≡ false) → (of-server ≡ true → to-client ≡ true → own ≡ l)
-    → cond (of-server && to-client) (own ++ message ∷ []) l
-    ≡ l ++ cond stopped [] (cond (of-server && to-client) (message ∷ []) [])
-put_last to-client false stopped l own message h g = sym (nothing_put stopped l)
+put_last : (to_client of_server stopped : Bool) (l own : List Message) (message : Message)
+    → (to_client ≡ true → stopped ≡ false) → (of_server ≡ true → to_client ≡ true → own ≡ l)
+    → cond (of_server && to_client) (own ++ message ∷ []) l
+    ≡ l ++ cond stopped [] (cond (of_server && to_client) (message ∷ []) [])
+put_last to_client false stopped l own message h g = sym (nothing_put stopped l)
 put_last false true stopped l own message h g = sym (nothing_put stopped l)
 put_last true true stopped l own message h g = rw (h refl, g refl refl)
 

@@ -142,9 +142,9 @@ module _ (settings : Settings) (clients slots : List ℕ) (d k : ℕ) where
         → slots₂ ≡ send_up settings slots₁ (d - 1) (messages_of made.sends)
         → result made.answer clients' slots₂ ≡ take_oldest settings clients slots d k
     take_gives enough made memory clients' slots₁ slots₂ from place gives put off sent =
-        let off-down : slots₁ ≡ removed slots (down_index (d - 1) (k - 1)) = off ∙ ap (removed slots) place in
+        let off_down : slots₁ ≡ removed slots (down_index (d - 1) (k - 1)) = off ∙ ap (removed slots) place in
         rw (first, sym room ∙ enough)
         ((λ i. result made.answer (put i)
-        ((sent ∙ ap (λ (q : List ℕ). send_up settings q (d - 1) (messages_of made.sends)) off-down) i))
+        ((sent ∙ ap (λ (q : List ℕ). send_up settings q (d - 1) (messages_of made.sends)) off_down) i))
         ∙ ap (λ (a : outcome.After). result a.answer (put_client clients (d - 1) a.memory)
         (send_up settings (removed slots (down_index (d - 1) (k - 1))) (d - 1) a.sends)) gives)

@@ -91,7 +91,7 @@ module _ (settings : Settings) (world : World) (good : WellStored settings world
           let named = inside settings world good d k client server in
           let up_fits = up_short settings world good in
           let down_fits = down_short settings world good in
-          let kind-is = kind message rest en.channel in
+          let kind_is = kind message rest en.channel in
           let next = apply (settings_of settings) world (serves k d message rest) in
           let up = changed world.up d k rest in
           let rest_fits : length rest ≤ capacity = let h = up_fits d k in let g = ap length
@@ -105,8 +105,8 @@ module _ (settings : Settings) (world : World) (good : WellStored settings world
           (short_changed world.up d k rest up_fits rest_fits) sends world.down down_fits
           (λ x h. client_small (settings_of settings) good.accepted x.to
           (well_sends (settings_of settings) (world.servers k) d client
-          (good.well.server k) message kind-is x h).client)
-          (down_room settings world good k server d message client kind-is en.room)
+          (good.well.server k) message kind_is x h).client)
+          (down_room settings world good k server d message client kind_is en.room)
           ∙ slots_same up next.up (sent_down (contains stopped) k sends world.down) next.down
           (λ e j. sym (nothing_put (contains settings.faulty j) (up e j)))
           (λ e j. ap (λ (f : ℕ → Bool). world.down e j ++ cond (f e) [] (cond (eqb k j) (sent_to e sends) []))

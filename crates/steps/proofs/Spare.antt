@@ -68,7 +68,7 @@ module _ (settings : Settings) (slots : List ℕ) (i more : ℕ) (few : settings
   one_fits j less =
       by_test (contains settings.faulty (suc j))
       (λ marked. rw marked (empty_fits j (omega arith) (faulty_not (settings_of settings) (suc j) marked)))
-      (λ not-marked. rw not-marked refl)
+      (λ not_marked. rw not_marked refl)
 
   pub room_on_all : all_below fits most_servers ≡ room_up settings slots i more
   unfolding room_up settings_of

@@ -10,8 +10,8 @@ use Rattle.state.specs.State.{up_index, down_index, message_at}
 use Rattle.steps.specs.InMemory.{request_at, reply_at}
 use Rattle.steps.specs.Ready.{OldestGoes}
 
-module _ (slots : List ℕ) (ways : OldestGoes slots) (d k : ℕ) (d-low : 1 ≤ d) (d-high : d ≤ most_clients)
-    (k-low : 1 ≤ k) (k-high : k ≤ most_servers) where
+module _ (slots : List ℕ) (ways : OldestGoes slots) (d k : ℕ) (d_low : 1 ≤ d) (d_high : d ≤ most_clients)
+    (k_low : 1 ≤ k) (k_high : k ≤ most_servers) where
   pub request_goes : 1 ≤ count_at slots (up_index (d - 1) (k - 1)) → goes false (request_at slots k d) ≡ true
   request_goes some =
       let i = up_index (d - 1) (k - 1) in

@@ -58,12 +58,12 @@ module _ (settings : code.Settings) (servers clients slots : List ℕ)
   unfolding answer_of
   refusal_stored why =
       let known = facts settings servers clients slots sound in
-      let servers-same = servers_back settings servers clients slots known in
-      let clients-same = clients_back settings servers clients slots known in
+      let servers_same = servers_back settings servers clients slots known in
+      let clients_same = clients_back settings servers clients slots known in
       let slots_same = slots_back settings servers clients slots known in
       ap (λ (v : World). after (Refused why) (store_servers v) (store_clients v) (store_slots v))
       (nothing (settings_of settings) world why)
-      ∙ (λ q. after (Refused why) (servers-same q) (clients-same q) (slots_same q))
+      ∙ (λ q. after (Refused why) (servers_same q) (clients_same q) (slots_same q))
 
   by_ladder : (refusal : Option Refusal) (event : Event)
       → unless refusal (λ a. after a servers clients slots) (stored_by settings world event)

@@ -63,7 +63,7 @@ module _ (settings : Settings) (list : List ℕ) (n : ℕ) (out : List ℕ) wher
       run_more given new written is =
           let world = next_world in
           let answer = next_answer in
-          let old-is = run.answers in
+          let old_is = run.answers in
           rw (add-one i)
           (record { stored = record { servers = cc; clients = cc; slots = cc }; answers = cc })
 

@@ -50,12 +50,12 @@ returns-then-entry-ge-OVER_ENTRY c =
 pub returns : goal.returns
 returns c =
     let a = c.args in
-    let tag-small = ltb-true a.tag (2 ^ tag_bits) (sym c.fits_read.ensures ∙ c.if-not-fits_read.false) in
+    let tag_small = ltb-true a.tag (2 ^ tag_bits) (sym c.fits_read.ensures ∙ c.if-not-fits_read.false) in
     let small = ltb-true a.counter (2 ^ counter_bits) (sym c.fits_counter.ensures ∙ c.if-not-fits_counter.false) in
     -- the counter that is made is the one given
     let counted : ◌≡◌ {A = WriteCounter} c.counter_from.result (record { 0 = a.counter }) =
     c.counter_from.ensures ∙ ap (λ (k : ℕ). record { 0 = k }) (mod-eq_of_lt (omega (arith, small))) in
     c.of_words.ensures
-    ∙ words_message a.kind a.tag a.counter a.client a.entry c.if-kind-ge-OVER_KIND.false tag-small small
+    ∙ words_message a.kind a.tag a.counter a.client a.entry c.if-kind-ge-OVER_KIND.false tag_small small
     c.if-client-ge-OVER_CLIENT.false c.if-entry-ge-OVER_ENTRY.false c.pair_of-pair.result
     (cc (c.pair_of-pair.ensures, counted))
