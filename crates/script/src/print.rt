@@ -176,6 +176,7 @@ pub struct Numeral {
     pub last_two: u8,
 }
 
+#[tactic(auto, using(crate::proofs::Hundreds::kept_none), unfolding(crate::specs::Numerals::numeral_of))]
 pub fn numeral_of(value: u64) -> Numeral
     ensures { result ≡ numeral_of value }
 {

@@ -43,11 +43,12 @@ returns-then-not-is_sound_at c =
     c.loop-i-test.true (sym c.is_sound_at.ensures ∙ c.if-not-is_sound_at.true)
 
 pub loop-i-preserved : goal.loop-i-preserved
-loop-i-preserved c = (
-  omega arith,
-  one_more c.args.replies.now c.args.n c.args.reading c.args.storing c.loop-i.i c.loop-i.invariant.1
-      (sym c.is_sound_at.ensures ∙ c.if-not-is_sound_at.false),
-)
+loop-i-preserved c =
+    let passes : c.is_sound_at.result ≡ true = cc in (
+      omega arith,
+      one_more c.args.replies.now c.args.n c.args.reading c.args.storing c.loop-i.i c.loop-i.invariant.1
+          (sym c.is_sound_at.ensures ∙ passes),
+    )
 
 pub returns : goal.returns
 returns c =

@@ -22,10 +22,3 @@ returns-then-hundreds-lt-SEVEN_DIGITS c =
     let text = writing.holds ∙ ap (λ (l : List ℕ). written (replicate 8 0) 0 l) all in
     let kept = writing.ends ∙ zero-add (length (decimal (value / 100))) ∙ ap length all in
     λ i. record { number = value; text = text i; kept = kept i; last_two = value % 100 }
-
-pub returns-else-hundreds-gt0 : goal.returns-else-hundreds-gt0
-unfolding numeral_of
-returns-else-hundreds-gt0 c =
-    let value = c.args.value in
-    let none = kept_none (value / 100) (λ some. omega arith) in
-    rw none refl
