@@ -8,7 +8,7 @@ use Rattle.register.proofs.Vocabulary.{is_storing}
 use Rattle.register.specs.declared.Phase.{Phase}
 use Rattle.register.specs.declared.Phase.TheVariants.{Idle, Reading, ReadingForWrite, Storing}
 use Rattle.basics.proofs.Prelude.{◌≡◌, refl, sym, ap, ◌∙◌, Bool, true, false, not, List, [], ◌∷◌, ℕ, ◌^◌, ◌≤◌}
-use Rattle.basics.proofs.Prelude.{◌<◌, arith, leb, ltb, eqb-true, leb-true, le-leb, ltb-true}
+use Rattle.basics.proofs.Prelude.{◌<◌, arith, leb, ltb, eqb-true, leb-true, le-leb, ltb-true, not-true}
 use Rattle.basics.proofs.Prelude.{not-false}
 use Rattle.basics.proofs.Cases.{both, both_of, true_or_false}
 use Rattle.basics.proofs.Tests.{each, all_of}
@@ -105,6 +105,9 @@ of_both client replies h s =
 
 pub holds : (b t : Bool) → b ≡ t → not b ≡ false → t ≡ true
 holds b t e n = sym e ∙ not-false b n
+
+pub fails : (b t : Bool) → b ≡ t → not b ≡ true → t ≡ false
+fails b t e n = sym e ∙ not-true b n
 
 -- tests in a row: `pass` where one passes, `fail` where it does not, `last` for the value of the last
 pub data Passes : List Bool → Bool → Type 0 where

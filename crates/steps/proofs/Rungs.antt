@@ -5,7 +5,7 @@
 -- waits (10). The premises are what the code's calls and tests say, so that `search` finds them at any place.
 -- A test by `if !` is `rung` of `client`.
 -- Assumes nothing.
-use Rattle.basics.proofs.Prelude.{◌≡◌, sym, ap, ◌∙◌, true, false, not, ◌&&◌, List, Option, some, ℕ}
+use Rattle.basics.proofs.Prelude.{◌≡◌, sym, ap, ◌∙◌, Bool, true, false, not, ◌&&◌, List, Option, some, ℕ}
 use Rattle.basics.proofs.Prelude.{◌-◌, ◌≤◌, arith, eqb, eq-eqb, ne_eqb}
 use Rattle.register.proofs.Vocabulary.{contains, Refusal, Rung, lowest, Words, unpack_of, goes_down, is_client}
 use Rattle.register.proofs.Vocabulary.{is_server}
@@ -21,6 +21,11 @@ use Rattle.steps.specs.InMemory.{serve_rungs, serve_step, take_result, take_olde
 use Rattle.steps.specs.InMemory.{stop_result, stop_rungs, stop_step, lied, lie_with, lie_rungs, lie_step}
 
 -- ---- a rung
+
+-- one of a set
+pub member_rung : (set n : ℕ) (told applies : Bool) → told ≡ contains set n → told ≡ applies
+    → contains set n ≡ applies
+member_rung set n told applies is found = sym is ∙ found
 
 -- the messages of a channel
 module _ (slots : List ℕ) (n place channel : ℕ) (count : n ≡ count_at slots place) (at : place ≡ channel) where
