@@ -3,7 +3,7 @@
 -- In order: the four analyses; that true is not false; what tests joined say; what cannot be.
 -- Assumes nothing.
 use Rattle.basics.proofs.Prelude.{◌≡◌, refl, Bool, true, false, ◌&&◌, ◌||◌, ◌⊎◌, inl, inr, List, []}
-use Rattle.basics.proofs.Prelude.{◌∷◌, Option, none, some, ℕ, arith}
+use Rattle.basics.proofs.Prelude.{◌∷◌, Option, None, Some, ℕ, arith}
 
 pub by_test {ℓ} : {C : Type ℓ} (b : Bool) → (b ≡ true → C) → (b ≡ false → C) → C
 by_test true t f = t refl
@@ -18,9 +18,9 @@ module _ {A : Type 0} where
   by_list [] f g = f refl
   by_list (x ∷ xs) f g = g x xs refl
 
-  pub by_option {ℓ} : {C : Type ℓ} (o : Option A) → (o ≡ none → C) → ((x : A) → o ≡ some x → C) → C
-  by_option none f g = f refl
-  by_option (some x) f g = g x refl
+  pub by_option {ℓ} : {C : Type ℓ} (o : Option A) → (o ≡ None → C) → ((x : A) → o ≡ Some x → C) → C
+  by_option None f g = f refl
+  by_option (Some x) f g = g x refl
 
 -- a test is not both
 pub true_or_false : (b : Bool) → b ≡ true → b ≡ false → ⊥

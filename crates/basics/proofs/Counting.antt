@@ -1,13 +1,15 @@
 -- Counting: the laws of `count_below`, and the pigeonhole that quorums rest on.
 --
+-- A loop counts the answers of a closure, one more each turn (`counts_none`, `counts_more`).
 -- More passes for a weaker test (`count_mono`); all of them (`count_all`); a count
 -- splits by a second test (`count_split`); two counts that add to more than n have a common number
 -- (`common`), and a count above 0 has one that passes (`found`); more passes in a longer range
 -- (`count_longer`).
 -- Assumes nothing.
-use Rattle.basics.proofs.Prelude.{◌≡◌, refl, Bool, true, not, ◌&&◌, ℕ, zero, suc, ◌+◌, ◌≤◌, ◌<◌}
-use Rattle.basics.proofs.Prelude.{le_refl, not-suc-le-zero, arith}
-use Rattle.basics.specs.Counting.{count_below}
+use Rattle.basics.proofs.Prelude.{◌≡◌, refl, Bool, true, false, not, ◌&&◌, ℕ, zero, suc, ◌+◌, ◌≤◌, ◌<◌}
+use Rattle.basics.proofs.Prelude.{le_refl, not-suc-le-zero, add-one, arith}
+use mir.Val.{bool_byte}
+use Rattle.basics.specs.Counting.{count_below, Counts}
 use Rattle.basics.proofs.Cases.{by_test}
 use Rattle.basics.proofs.Ranges.{from_on}
 
@@ -19,6 +21,21 @@ count_mono test other (suc n) h =
     let ih = count_mono test other n (λ k a. h k (omega arith)) in
     by_test (test n) (λ e. rw (e, h n (omega arith) e) (omega arith))
     (λ e. rw e (by_test (other n) (λ e'. rw e' (omega arith)) (λ e'. rw e' (omega arith))))
+
+pub bool_le : (b : Bool) → bool_byte b ≤ 1
+bool_le true = omega arith
+bool_le false = omega arith
+
+-- a loop that adds the answers of a closure has counted those before number i
+pub counts_none : (Gives : ℕ → Bool → Type 0) → Counts Gives 0 0
+unfolding count_below
+counts_none Gives test calls = refl
+
+pub counts_more : (Gives : ℕ → Bool → Type 0) (i count : ℕ) (answer : Bool) → Gives i answer
+    → Counts Gives i count → Counts Gives (i + 1) (count + bool_byte answer)
+unfolding count_below
+counts_more Gives i count answer gives so test calls =
+    rw (add-one i, so test (λ j b less. calls j b (omega arith)), calls i answer (omega arith) gives)
 
 pub count_all : (n : ℕ) → count_below (λ k. true) n ≡ n
 unfolding count_below

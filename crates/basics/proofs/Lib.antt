@@ -13,3 +13,4 @@ pub mod Listed
 pub mod Tables
 pub mod BitSets
 pub mod UpTo
+pub mod Chains

@@ -5,7 +5,7 @@ pub use mathlib.Core.Path.{◌≡◌, refl, sym, ap, ◌∙◌, subst}
 pub use mathlib.Core.Bool.{Bool, true, false, cond, not, ◌&&◌, ◌||◌}
 pub use mathlib.Core.Logic.{◌⊎◌, inl, inr, ⊎_elim, ◌≢◌}
 pub use mathlib.Core.List.{List, [], ◌∷◌, ◌++◌, append_assoc, append-nil}
-pub use mathlib.Core.Option.{Option, none, some}
+pub use Rattle.std.specs.Prelude.{Option, None, Some}
 pub use lib.ListN.{length, get_or, set, take, drop, replicate, length-append, length-drop, length-set}
 pub use lib.Seq.{length-take-le}
 pub use Prim.Native.Nat.{ℕ, zero, suc, ◌+◌, ◌-◌, ◌*◌, ◌/◌, ◌%◌, ◌^◌, ◌≤◌, ◌<◌}

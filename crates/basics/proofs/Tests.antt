@@ -1,10 +1,11 @@
 -- What passing all tests says of each test.
 --
 -- A list of tests passes when each does (`each`, `all_of`); a test passes on all numbers below n when it
--- does on each (`below`, `below_of`), and fails on one of them otherwise (`below_fails`).
+-- does on each (`below`, `below_of`), and fails on one of them otherwise (`below_fails`). A loop that leaves
+-- at the first failure has passed all before (`one_more`, `fails_here`, `all_passed`).
 -- Assumes nothing.
-use Rattle.basics.proofs.Prelude.{◌≡◌, refl, ap, ◌∙◌, Bool, true, false, List, [], ◌∷◌, ℕ, zero, suc}
-use Rattle.basics.proofs.Prelude.{◌<◌, not-suc-le-zero, arith}
+use Rattle.basics.proofs.Prelude.{◌≡◌, refl, sym, ap, ◌∙◌, Bool, true, false, List, [], ◌∷◌, ℕ, zero, suc}
+use Rattle.basics.proofs.Prelude.{◌+◌, ◌<◌, not-suc-le-zero, add-one, arith}
 use Rattle.basics.specs.Tests.{all_pass, all_below}
 use Rattle.basics.proofs.Cases.{by_test, both, both_of, true_or_false}
 use Rattle.basics.proofs.Ranges.{at_last}
@@ -37,3 +38,30 @@ below_of test (suc n) h =
 pub below_fails : (test : ℕ → Bool) (n i : ℕ) → i < n → test i ≡ false → all_below test n ≡ false
 below_fails test n i h e =
     by_test (all_below test n) (λ yes. absurd (true_or_false (test i) (below test n yes i h) e)) (λ no. no)
+
+-- ---- what the code finds of a test: a result
+
+pub passed : {result test : Bool} → result ≡ test → result ≡ true → test ≡ true
+passed e h = sym e ∙ h
+
+pub failed : {result test : Bool} → result ≡ test → result ≡ false → test ≡ false
+failed e h = sym e ∙ h
+
+-- ---- a loop that leaves at the first failure, of tests with results
+
+module _ (test : ℕ → Bool) where
+  pub none_passed : all_below test 0 ≡ true
+  unfolding all_below
+  none_passed = refl
+
+  pub one_more : (i : ℕ) {result : Bool} → all_below test i ≡ true → result ≡ test i → result ≡ true
+      → all_below test (i + 1) ≡ true
+  unfolding all_below
+  one_more i h e left = rw (add-one, h) (passed e left)
+
+  pub fails_here : (n i : ℕ) {result : Bool} → i < n → result ≡ test i → result ≡ false
+      → false ≡ all_below test n
+  fails_here n i less e removed = sym (below_fails test n i less (failed e removed))
+
+  pub all_passed : {i n : ℕ} → i ≡ n → all_below test i ≡ true → true ≡ all_below test n
+  all_passed e h = sym (rw (← e) h)

@@ -1,8 +1,9 @@
 // What is not about licences or registers: a byte as a wider number, the bytes of a number, the lower of two,
-// the digits of a number.
+// the digits of a number, how many numbers pass a test.
 #![tactic(auto)]
 
-ghost use Rattle.std.specs.Prelude.{◌≡◌, ◌<◌, ◌+◌, ◌*◌, ◌/◌, ◌%◌, ◌^◌, min};
+ghost use Rattle.std.specs.Prelude.{◌≡◌, ℕ, ◌<◌, ◌+◌, ◌*◌, ◌/◌, ◌%◌, ◌^◌, min};
+ghost use Rattle.basics.specs.Counting.{Counts};
 ghost use Rattle.basics.specs.Digits.{hex_digit};
 
 // The first number that a word of 32 bits does not hold.
@@ -48,4 +49,17 @@ pub fn hex_digit(value: u64) -> u8
     } else {
         55 + value as u8
     }
+}
+
+// How many of the numbers below n pass a test. The answers are added, so that nothing branches.
+pub fn count_where<F: Fn(usize) -> bool>(n: usize, test: F) -> u32
+    requires few { n < 2 ^ 32 }
+    requires callable { (i : ℕ) → i < n → F.pre test i }
+    ensures { Counts (F.post test) n result }
+{
+    let mut count: u32 = 0;
+    for i in 0..n {
+        count += test(i) as u32;
+    }
+    count
 }

@@ -9,7 +9,8 @@ use Rattle.basics.proofs.Prelude.{eqb-true, eqb-false, ltb-true, ltb-false}
 use native.Mathlib.Nat.{add-sub_cancel}
 use Rattle.basics.proofs.Cases.{by_test}
 use Rattle.calendar.specs.Calendar.{last_year, leap, month_length, days_before, day_of}
-use Rattle.calendar.specs.Order.{Date, date, last_date, is_real, number, month_days, next_date}
+use Rattle.calendar.specs.declared.Date.{Date}
+use Rattle.calendar.specs.Order.{date, last_date, is_real, number, month_days, next_date}
 use Rattle.calendar.proofs.Dates.{real, bounds_date}
 use Rattle.calendar.proofs.Counts.{month_up, year_up, twelve_months, month_least}
 

@@ -10,7 +10,8 @@ use Rattle.basics.proofs.Prelude.{◌≡◌, refl, sym, ap, true, ◌⊎◌, inl
 use Rattle.basics.proofs.Prelude.{ltb, eqb-true, eq-eqb, ltb-true, ltb-false, lt-ltb, le-ltb}
 use Rattle.basics.proofs.Cases.{by_test, by_either, both, one_holds}
 use Rattle.calendar.specs.Calendar.{first_year, year_count, leap, year_length, first_day, days_before, day_of}
-use Rattle.calendar.specs.Order.{Date, last_number, is_real, number, earlier}
+use Rattle.calendar.specs.declared.Date.{Date}
+use Rattle.calendar.specs.Order.{last_number, is_real, number, earlier}
 use Rattle.calendar.proofs.Dates.{Real, real}
 use Rattle.calendar.proofs.Counts.{month_up, year_up, twelve_months, before_grows, first_grows}
 use Rattle.calendar.proofs.Next.{same_date}

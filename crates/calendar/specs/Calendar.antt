@@ -4,13 +4,10 @@
 -- each counted from the one before; real dates; the day number of a date, and the answer for any three
 -- numbers. The stored tables are not here: they are proved to follow these rules.
 -- Assumes nothing.
-use Rattle.std.specs.Prelude.{ℕ, zero, suc, ◌+◌, ◌-◌, ◌%◌, Bool, cond, not, ◌&&◌, ◌||◌, List, [], ◌∷◌, eqb, leb}
-use Rattle.std.proofs.Math.Option.{Option, none, some}
+use Rattle.std.specs.Prelude.{ℕ, zero, suc, ◌+◌, ◌-◌, ◌%◌, Bool, cond, not, ◌&&◌, ◌||◌, List, [], ◌∷◌, eqb, leb, Result}
 use Rattle.basics.specs.Tests.{all_pass}
 use Rattle.refusal.specs.declared.Refusal.{Refusal}
-use Rattle.refusal.specs.Ladder.{◌whenever◌, lowest}
-use Rattle.calendar.specs.declared.DayNumber.{DayNumber}
-use Rattle.calendar.specs.declared.DayNumber.TheVariants.{Day, Refused}
+use Rattle.refusal.specs.Ladder.{◌whenever◌, lowest, or_refused}
 
 -- the years of the calendar, and how many there are: 300
 abbrev pub first_year : ℕ
@@ -59,12 +56,7 @@ is_date year month day = all_pass (date_tests year month day)
 unfoldable pub day_of : ℕ → ℕ → ℕ → ℕ
 day_of year month day = first_day (year - first_year) + days_before (leap year) (month - 1) + (day - 1)
 
--- 01's answer: the 'day number', or refused 8, 'no such entry'
-abbrev pub day_answer : Option Refusal → ℕ → DayNumber
-day_answer none number = Day number
-day_answer (some why) number = Refused why
-
--- the day number, refused for what is no real date
-unfoldable pub day_number : ℕ → ℕ → ℕ → DayNumber
+-- the 'day number', or refused 8, 'no such entry', for what is no real date
+unfoldable pub day_number : ℕ → ℕ → ℕ → Result ℕ Refusal
 day_number year month day =
-    day_answer (lowest (8 whenever not (is_date year month day) ∷ [])) (day_of year month day)
+    or_refused (lowest (8 whenever not (is_date year month day) ∷ [])) (day_of year month day)

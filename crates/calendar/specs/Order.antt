@@ -3,12 +3,8 @@
 -- The laws over these say that day numbers count dates one by one, and so keep their order.
 -- Assumes nothing.
 use Rattle.std.specs.Prelude.{ℕ, ◌+◌, Bool, cond, ◌&&◌, ◌||◌, eqb, ltb}
+use Rattle.calendar.specs.declared.Date.{Date}
 use Rattle.calendar.specs.Calendar.{last_year, leap, month_length, is_date, day_of}
-
-pub record Date : Type 0 where
-  pub year : ℕ
-  pub month : ℕ
-  pub day : ℕ
 
 abbrev pub date : ℕ → ℕ → ℕ → Date
 date year month day = record { year = year; month = month; day = day }

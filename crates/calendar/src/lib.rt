@@ -15,11 +15,12 @@ pub const FIRST_YEAR: u16 = 1900;
 
 pub const LAST_YEAR: u16 = 2199;
 
-// The number of a day, 1 for 1 January 1900, or the refusal of what is no date.
-#[derive(Clone, Copy)]
-pub enum DayNumber {
-    Day(u32),
-    Refused(Refusal),
+// Three numbers, which may be a date or not. Months and days are counted from 1.
+#[derive(Clone, Copy, PartialEq, Eq)]
+pub struct Date {
+    pub year: u16,
+    pub month: u8,
+    pub day: u8,
 }
 
 pub fn is_leap(year: u16) -> bool
@@ -61,9 +62,10 @@ fn days_before(leap: bool, place: usize) -> u16
     DAYS_BEFORE[leap as usize][place]
 }
 
-pub fn is_date(year: u16, month: u8, day: u8) -> bool
-    ensures { result ≡ is_date year month day }
+pub fn is_date(given: Date) -> bool
+    ensures { result ≡ is_date given.year given.month given.day }
 {
+    let Date { year, month, day } = given;
     if year < FIRST_YEAR || LAST_YEAR < year {
         return false;
     }
@@ -76,13 +78,15 @@ pub fn is_date(year: u16, month: u8, day: u8) -> bool
     day <= month_length(is_leap(year), month)
 }
 
-pub fn day_number(year: u16, month: u8, day: u8) -> DayNumber
-    ensures { result ≡ day_number year month day }
+// The number of a day, 1 for 1 January 1900, or the refusal of what is no date.
+pub fn day_number(given: Date) -> Result<u32, Refusal>
+    ensures { result ≡ day_number given.year given.month given.day }
 {
-    if !is_date(year, month, day) {
-        return DayNumber::Refused(Refusal::NoEntry);
+    if !is_date(given) {
+        return Err(Refusal::NoEntry);
     }
+    let Date { year, month, day } = given;
     let first = first_day((year - FIRST_YEAR) as usize);
     let before = days_before(is_leap(year), (month - 1) as usize) as u32;
-    DayNumber::Day(first + before + (day - 1) as u32)
+    Ok(first + before + (day - 1) as u32)
 }

@@ -5,16 +5,20 @@
 -- stored (`stored_between`); what is read.
 -- Assumes nothing.
 use Rattle.basics.proofs.Prelude.{◌≡◌, refl, sym, ◌∙◌, List, [], ◌∷◌, ◌++◌, append_assoc, append-nil, length}
-use Rattle.basics.proofs.Prelude.{get_or, take, drop, length-append, length-take-le, ℕ, zero, suc, ◌+◌, ◌≤◌}
+use Rattle.basics.proofs.Prelude.{get_or, take, drop, replicate, ap, length-append, length-drop}
+use Rattle.basics.proofs.Prelude.{length-take-le, ℕ, zero, suc, ◌+◌, ◌≤◌}
 use Rattle.basics.proofs.Prelude.{◌<◌, add-zero, arith}
 use native.Mathlib.Nat.{add-suc}
-use lib.ListN.{take-append-drop, get_or-append}
-use lib.Seq.{get_or-set_other, get_or-append-add, drop-cons, set_at, append_snoc}
+use lib.ListN.{take-append-drop, get_or-append, length-replicate}
+use lib.Seq.{get_or-set_other, get_or-append-add, drop-cons, set_at, append_snoc, take_all, paste}
+use lib.Seq.{get_or-drop}
+use borrow.Rule.Slice.PartMut.{put_mid}
+use Rattle.std.proofs.lemmas.Slice.{put_mid-paste}
 use Rattle.basics.specs.Tables.{listed, put_part}
-use Rattle.basics.proofs.Listed.{listed_length}
+use Rattle.basics.proofs.Listed.{listed_length, listed_first, listed_same, listed_replicate}
 use Rattle.basics.proofs.Tables.{put_between}
 use Rattle.message.specs.declared.Words.{Words}
-use Rattle.channel.specs.Memory.{filled, stored}
+use Rattle.channel.specs.Memory.{per_message, per_channel, moved, filled, stored, zeroed, shifted}
 
 module _ (list : List ℕ) (at : ℕ) (value : ℕ → ℕ) where
   pub filled_after : (n k : ℕ) → at + n ≤ k → get_or (filled list at value n) k 0 ≡ get_or list k 0
@@ -47,6 +51,33 @@ module _ (list : List ℕ) (at : ℕ) (value : ℕ → ℕ) where
       )
       (set_at front (get_or list (at + n) 0) back (value n) (at + n) long
       ∙ sym (append_snoc front (value n) back))
+
+-- ---- what the library's methods on a part of a list leave
+
+-- a part filled with zeros
+pub zeroed_part : (list : List ℕ) (at n width : ℕ) → at + n ≤ length list → width ≡ n → {part : List ℕ}
+    → part ≡ replicate (length (take width (drop at list))) 0 → put_mid at width list part ≡ zeroed list at n
+zeroed_part list at n width inside e {part} filled_with =
+    let long : n ≤ length (drop at list) = omega (arith, length-drop at list) in
+    let zeros : part ≡ replicate n 0 =
+    filled_with ∙ rw e (ap (λ (k : ℕ). replicate k 0) (length-take-le n (drop at list) long)) in
+    let as_long = length-replicate {A = ℕ} n 0 in
+    put_mid-paste at width list part (replicate n 0) n zeros (sym e) (sym as_long)
+    ∙ rw (take_all {A = ℕ} n (replicate n 0) (omega arith), ← listed_replicate {A = ℕ} n 0)
+    (sym (filled_put list at (λ j. 0) n inside))
+
+-- a part moved down by a slot
+pub shifted_part : (list : List ℕ) (at width : ℕ) → at + per_channel ≤ length list → width ≡ moved
+    → paste list at (drop (at + per_message) list) width ≡ shifted list at
+unfolding shifted
+shifted_part list at width inside e =
+    let behind = drop (at + per_message) list in
+    let long : moved ≤ length behind = omega (arith, length-drop (at + per_message) list) in
+    rw (e, ← listed_first behind moved 0 long)
+    (ap (put_part at moved list)
+    (listed_same (λ j. get_or behind j 0) (λ j. get_or list (at + per_message + j) 0) moved
+    (λ j less. get_or-drop (at + per_message) list j 0))
+    ∙ sym (filled_put list at (λ j. get_or list (at + per_message + j) 0) moved (omega arith)))
 
 -- ---- in the middle of a list, behind a front
 

@@ -1,45 +1,22 @@
--- Tests passed one after the other, and zeros joined by OR.
+-- Zeros joined by OR; and what a test's result says, for the crates above.
 --
--- A loop that leaves at the first failure has passed all before (`one_more`, `fails_here`, `all_passed`);
--- numbers joined by OR are zero where each is (`or_zero`); a channel without messages is sound where its
--- slots are zero (`empty_sound`).
+-- Numbers joined by OR are zero where each is (`or_zero`), so a part that is joined is zero where the one
+-- behind it is and all before (`joined_zero`); a channel without messages is sound where its slots are zero
+-- (`empty_sound`).
 -- Assumes nothing.
-use Rattle.basics.proofs.Prelude.{◌≡◌, refl, sym, ◌∙◌, Bool, true, false, ◌&&◌, List, ℕ, ◌+◌, ◌≤◌, ◌<◌}
-use Rattle.basics.proofs.Prelude.{add-zero, add-one, arith, eqb, eqb-true, eqb-false, eq-eqb, ne_eqb}
+use Rattle.basics.proofs.Prelude.{◌≡◌, refl, ap, Bool, ◌&&◌, List, [], ◌∷◌, length, get_or, take, drop}
+use Rattle.basics.proofs.Prelude.{length-drop, ℕ, zero, suc, ◌+◌, ◌≤◌}
+use Rattle.basics.proofs.Prelude.{add-zero, arith, eqb, eqb-true, eqb-false, eq-eqb, ne_eqb}
 use mathlib.Core.Bool.{and-true}
+use lib.Seq.{take-suc, get_or-drop}
+use Rattle.std.specs.List.{fold}
+use Rattle.std.proofs.lemmas.List.Sums.{fold-append}
 use lib.Bits.{bit_and, bit_or, or_add_and, and_le_l, and_le_r}
 use Rattle.basics.specs.Tests.{all_pass, all_below}
 use Rattle.basics.proofs.Cases.{by_test}
-use Rattle.basics.proofs.Tests.{below_fails}
 use Rattle.channel.specs.Memory.{per_channel, slots_start, slot, count_at}
 use Rattle.channel.specs.Sound.{zero_from, is_down, slot_goes, channel_tests}
-
--- ---- what the code finds of a test: a result
-
-pub passed : {result test : Bool} → result ≡ test → result ≡ true → test ≡ true
-passed e h = sym e ∙ h
-
-pub failed : {result test : Bool} → result ≡ test → result ≡ false → test ≡ false
-failed e h = sym e ∙ h
-
--- ---- a loop that leaves at the first failure, of tests with results
-
-module _ (test : ℕ → Bool) where
-  pub none_passed : all_below test 0 ≡ true
-  unfolding all_below
-  none_passed = refl
-
-  pub one_more : (i : ℕ) {result : Bool} → all_below test i ≡ true → result ≡ test i → result ≡ true
-      → all_below test (i + 1) ≡ true
-  unfolding all_below
-  one_more i h e left = rw (add-one, h) (passed e left)
-
-  pub fails_here : (n i : ℕ) {result : Bool} → i < n → result ≡ test i → result ≡ false
-      → false ≡ all_below test n
-  fails_here n i less e removed = sym (below_fails test n i less (failed e removed))
-
-  pub all_passed : {i n : ℕ} → i ≡ n → all_below test i ≡ true → true ≡ all_below test n
-  all_passed e h = sym (rw (← e) h)
+pub use Rattle.basics.proofs.Tests.{passed, failed, none_passed, one_more, fails_here, all_passed}
 
 -- ---- zeros
 
@@ -54,6 +31,28 @@ or_zero x y =
     (λ f. let q : y ≡ 0 = eqb-true y 0 f in rw (e, f) (eq-eqb (bit_or x y) 0 (omega arith)))
     (λ f. let q = eqb-false y 0 f in rw (e, f) (ne_eqb (bit_or x y) 0 (λ z. q (omega arith)))))
     (λ e. let p = eqb-false x 0 e in rw e (ne_eqb (bit_or x y) 0 (λ z. p (omega arith))))
+
+-- n numbers from `at` on, joined
+pub joined_zero : (list : List ℕ) (at n width : ℕ) → at + n ≤ length list → width ≡ n
+    → eqb (fold bit_or 0 (take width (drop at list))) 0 ≡ zero_from list at n
+unfolding all_below
+joined_zero list at n width inside e =
+    rw (e, first n (omega (arith, length-drop at list)))
+    (ap (λ (test : ℕ → Bool). all_below test n) (λ q j. eqb (get_or-drop at list j 0 q) 0))
+  where
+    part : List ℕ
+    part = drop at list
+
+    first : (n : ℕ) → n ≤ length part
+        → eqb (fold bit_or 0 (take n part)) 0 ≡ all_below (λ j. eqb (get_or part j 0) 0) n
+    first zero h = refl
+    first (suc n) h =
+        rw (
+          take-suc part n 0 (omega arith),
+          fold-append bit_or 0 (take n part) (get_or part n 0 ∷ []),
+          or_zero (fold bit_or 0 (take n part)) (get_or part n 0),
+          first n (omega arith),
+        )
 
 pub empty_sound : (slots : List ℕ) (i : ℕ) → count_at slots i ≡ 0
     → all_pass (channel_tests slots i) ≡ zero_from slots (slots_start i) per_channel

@@ -7,12 +7,12 @@
 -- Assumes nothing.
 use Rattle.basics.proofs.Prelude.{◌≡◌, refl, sym, ap, ◌∙◌, Bool, true, false, ◌&&◌, List, get_or, ℕ, ◌+◌, ◌*◌}
 use Rattle.basics.proofs.Prelude.{◌/◌, ◌%◌, ◌^◌, ◌≤◌, ◌<◌, arith, ltb, ne_eqb, ltb-true, lt-ltb}
+use Rattle.std.specs.Prelude.{Ok, Err}
 use native.Mathlib.Nat.{mod-lt}
 use lib.Pow.{pow_pos}
 use Rattle.basics.proofs.Cases.{by_test, both, both_of, true_or_false}
-use Rattle.register.proofs.Vocabulary.{Message, Unpacked, Good, Words, tag_bits, goes, message_of, well_formed}
+use Rattle.register.proofs.Vocabulary.{Message, Unpacked, Words, tag_bits, goes, message_of, well_formed}
 use Rattle.register.proofs.Vocabulary.{words, words_of, pair_bits}
-use Rattle.message.specs.declared.Unpacked.TheVariants.{Refused}
 use Rattle.message.specs.Layout.{number_of, malformed}
 use Rattle.message.proofs.Fields.{by_words, by_words_lem}
 use Rattle.message.proofs.Numbers.{only, words_back}
@@ -21,13 +21,13 @@ use Rattle.channel.specs.Sound.{is_down, words_go, message_at, slot_goes, messag
 
 -- a message that may be on channel i: no field over its width, and it goes the channel's way
 abbrev pub suits : ℕ → Message → Bool
-suits i message = well_formed message && goes (is_down i) (Good message)
+suits i message = well_formed message && goes (is_down i) (Ok message)
 
 -- the message in the slot at `at`
 abbrev pub held_at : List ℕ → ℕ → Message
 held_at slots at = message_in (message_at slots at)
 
-held_is : (slots : List ℕ) (at : ℕ) (message : Message) → message_at slots at ≡ Good message
+held_is : (slots : List ℕ) (at : ℕ) (message : Message) → message_at slots at ≡ Ok message
     → held_at slots at ≡ message
 unfolding message_in
 held_is slots at message e = ap message_in e
@@ -56,9 +56,9 @@ module _ (i : ℕ) (slots : List ℕ) (at : ℕ) (e : slot_goes (is_down i) slot
 
   holds_as : (unpacked : Unpacked) → message_at slots at ≡ unpacked → Holds i slots at
   unfolding goes
-  holds_as (Refused why) q =
+  holds_as (Err why) q =
       absurd (true_or_false (goes (is_down i) (message_at slots at)) parts.1 (ap (goes (is_down i)) q))
-  holds_as (Good message) q =
+  holds_as (Ok message) q =
       let first = get_or slots at 0 in
       let second = get_or slots (at + 1) 0 in
       let f = only (first * 2 ^ pair_bits + second) message q in
@@ -83,10 +83,10 @@ low_word message = mod-lt (number_of message) (pow_pos pair_bits)
 
 module _ (i : ℕ) (message : Message) (good : suits i message ≡ true) (slots : List ℕ) (at : ℕ)
     (high : get_or slots at 0 ≡ (words_of message).0) (low : get_or slots (at + 1) 0 ≡ (words_of message).1) where
-  found_at : message_at slots at ≡ Good message
+  found_at : message_at slots at ≡ Ok message
   found_at =
       rw (high, low)
-      (of_words_of message (both (well_formed message) (goes (is_down i) (Good message)) good).0)
+      (of_words_of message (both (well_formed message) (goes (is_down i) (Ok message)) good).0)
 
   pub held_at_lem : held_at slots at ≡ message
   held_at_lem = held_is slots at message found_at
@@ -95,7 +95,7 @@ module _ (i : ℕ) (message : Message) (good : suits i message ≡ true) (slots 
   passes_at =
       both_of (ltb (get_or slots (at + 1) 0) (2 ^ pair_bits)) (goes (is_down i) (message_at slots at))
       (rw low (lt-ltb (words_of message).1 (2 ^ pair_bits) (low_word message)))
-      (ap (goes (is_down i)) found_at ∙ (both (well_formed message) (goes (is_down i) (Good message)) good).1)
+      (ap (goes (is_down i)) found_at ∙ (both (well_formed message) (goes (is_down i) (Ok message)) good).1)
 
 -- ---- a first number over 32 bits
 

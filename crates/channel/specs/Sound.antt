@@ -8,12 +8,12 @@
 -- hold.
 -- Assumes nothing.
 use Rattle.std.specs.Prelude.{ℕ, ◌+◌, ◌-◌, ◌*◌, ◌^◌, ◌≤◌, ◌<◌, Bool, ◌&&◌, List, [], ◌∷◌, eqb, leb, ltb, get_or}
+use Rattle.std.specs.Prelude.{Ok, Err}
 use Rattle.basics.specs.Tables.{listed}
 use Rattle.basics.specs.Tests.{all_pass, all_below}
 use Rattle.message.specs.declared.Message.{Message}
 use Rattle.message.specs.declared.Message.TheVariants.{Done}
-use Rattle.message.specs.declared.Unpacked.{Unpacked}
-use Rattle.message.specs.declared.Unpacked.TheVariants.{Good, Refused}
+use Rattle.message.specs.Layout.{Unpacked}
 use Rattle.message.specs.Layout.{goes, message_of}
 use Rattle.message.specs.Pair.{pair_bits}
 use Rattle.register.specs.Settings.{capacity}
@@ -58,8 +58,8 @@ CountsFit slots = (i : ℕ) → i < channels → count_at slots i ≤ capacity
 
 -- the message of numbers; where they are none it does not matter which
 unfoldable pub message_in : Unpacked → Message
-message_in (Good message) = message
-message_in (Refused why) = Done
+message_in (Ok message) = message
+message_in (Err why) = Done
 
 -- what channel i holds, oldest first
 unfoldable pub messages : List ℕ → ℕ → List Message

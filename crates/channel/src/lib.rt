@@ -13,7 +13,7 @@ ghost use Rattle.channel.specs.Memory.{channels, per_message, per_channel, slots
 ghost use Rattle.channel.specs.Memory.{cleared, oldest_on, put_on, shifted, removed, zeroed};
 
 use basics::OVER_32;
-use message::{Unpacked, Words};
+use message::Words;
 
 // Servers and clients that there are places for.
 pub const SERVERS: usize = register::MOST_SERVERS as usize;
@@ -63,11 +63,7 @@ fn zero(slots: &mut Slots, at: usize, n: usize)
     requires { at + n ≤ slots_length }
     ensures { slots.new ≡ zeroed slots.old at n }
 {
-    let mut j = 0;
-    while j < n {
-        slots[at + j] = 0;
-        j += 1;
-    }
+    slots[at..at + n].fill(0);
 }
 
 // Puts a message on channel i, behind those that it holds. A full channel stays as it is.
@@ -95,18 +91,12 @@ pub fn oldest(slots: &Slots, i: usize) -> Words
     Words((slots[at] % OVER_32) as u32, slots[at + 1])
 }
 
-// Each of the seven slots from `at` on gets what the next one held. One loop with no branch, so that it
-// becomes vector code.
+// Each of the seven slots from `at` on gets what the next one held.
 fn shift(slots: &mut Slots, at: usize)
     requires { at + per_channel ≤ slots_length }
     ensures { slots.new ≡ shifted slots.old at }
 {
-    let mut j = 0;
-    while j < MOVED {
-        let next = slots[at + PER_MESSAGE + j];
-        slots[at + j] = next;
-        j += 1;
-    }
+    slots.copy_within(at + PER_MESSAGE..at + PER_CHANNEL, at);
 }
 
 // Takes the oldest message off channel i: the rest moves down, and the slot that falls free is zeroed.
@@ -134,19 +124,14 @@ pub fn clear(slots: &mut Slots, i: usize)
 
 // ---- soundness
 
-// Whether the n numbers from `at` on are zero. They are joined by OR with no early leave, so that the loop
+// Whether the n numbers from `at` on are zero. They are joined by OR with no early leave, so that this
 // becomes vector code.
 fn zeros(slots: &Slots, at: usize, n: usize) -> bool
     requires { at + n ≤ slots_length }
     ensures { result ≡ zero_from slots.now at n }
 {
-    let mut j = 0;
-    let mut joined: u64 = 0;
-    while j < n {
-        joined = joined | slots[at + j];
-        j += 1;
-    }
-    joined == 0
+    let all = slots[at..at + n].iter();
+    all.fold(0, |joined, number| joined | *number) == 0
 }
 
 // Whether two numbers are the words of a message that goes that way. A first number over 32 bits is no
@@ -157,7 +142,7 @@ fn words_go(first: u64, second: u64, down: bool) -> bool
     if OVER_32 <= first {
         return false;
     }
-    let Unpacked::Good(message) = message::of_words(Words(first as u32, second)) else {
+    let Ok(message) = message::of_words(Words(first as u32, second)) else {
         return false;
     };
     message::is_reply(message) == down
@@ -168,15 +153,10 @@ fn slots_go(slots: &Slots, at: usize, n: usize, down: bool) -> bool
     requires { at + n * per_message ≤ slots_length }
     ensures { result ≡ all_below (λ j. slot_goes down slots.now (at + j * per_message)) n }
 {
-    let mut j = 0;
-    while j < n {
+    (0..n).all(|j| {
         let place = at + j * PER_MESSAGE;
-        if !words_go(slots[place], slots[place + 1], down) {
-            return false;
-        }
-        j += 1;
-    }
-    true
+        words_go(slots[place], slots[place + 1], down)
+    })
 }
 
 // Whether channel i is sound. Most are empty, and one pass over their slots says so.
@@ -205,12 +185,5 @@ fn channel_sound(slots: &Slots, i: usize) -> bool
 pub fn is_sound(slots: &Slots) -> bool
     ensures { result ≡ sound slots.now }
 {
-    let mut i = 0;
-    while i < CHANNELS {
-        if !channel_sound(slots, i) {
-            return false;
-        }
-        i += 1;
-    }
-    true
+    (0..CHANNELS).all(|i| channel_sound(slots, i))
 }

@@ -1,6 +1,6 @@
 -- A chosen pair has 64 bits where the pairs of all sets do.
 -- Assumes nothing.
-use Rattle.basics.proofs.Prelude.{◌≡◌, Bool, List, [], ◌∷◌, ◌++◌, Option, none, some, length, get_or, take}
+use Rattle.basics.proofs.Prelude.{◌≡◌, Bool, List, [], ◌∷◌, ◌++◌, Option, None, Some, length, get_or, take}
 use Rattle.basics.proofs.Prelude.{drop, ℕ, zero, suc, ◌+◌, ◌*◌, ◌^◌, ◌<◌, arith, leb, ltb}
 use lib.Seq.{get_or-take, get_or-drop}
 use Rattle.register.proofs.Vocabulary.{update, Pair, pair_bits, below, same, insert, add, most_servers, counted}
@@ -26,8 +26,8 @@ abbrev pub SetsFit : model.Client → Type 0
 SetsFit self = (k : ℕ) → AllFit (self.sets k)
 
 abbrev Fits : Option Pair → Type 0
-Fits none = Unit {0}
-Fits (some pair) = pair.0 < 2 ^ pair_bits
+Fits None = Unit {0}
+Fits (Some pair) = pair.0 < 2 ^ pair_bits
 
 -- ---- what a memory of words shows
 
@@ -105,8 +105,8 @@ all_fit sets (suc n) a = append_fits (sets (suc n)) (all_pairs sets n) (a (suc n
 higher_fits : (pair : Pair) (best : Option Pair) → pair.0 < 2 ^ pair_bits → Fits best
     → Fits (higher pair best)
 unfolding higher
-higher_fits pair none h g = h
-higher_fits pair (some other) h g = by_test (below pair other) (λ e. rw e g) (λ e. rw e h)
+higher_fits pair None h g = h
+higher_fits pair (Some other) h g = by_test (below pair other) (λ e. rw e g) (λ e. rw e h)
 
 highest_fits : (test : Pair → Bool) (pairs : List Pair) → AllFit pairs → Fits (highest_of test pairs)
 unfolding highest_of
@@ -116,7 +116,7 @@ highest_fits test (pair ∷ rest) a =
     by_test (test pair) (λ e. rw e (higher_fits pair (highest_of test rest) a.0 others)) (λ e. rw e others)
 
 pub chosen_fits : (n f d : ℕ) (self : model.Client) (pair : Pair) → SetsFit self
-    → chosen n f d self ≡ some pair → pair.0 < 2 ^ pair_bits
+    → chosen n f d self ≡ Some pair → pair.0 < 2 ^ pair_bits
 unfolding chosen
 chosen_fits n f d self pair a e =
     let fits : Fits (chosen n f d self) =

@@ -1,22 +1,19 @@
 -- The ladders of the entry points: each stands in the table's order, so the refusal given is the lowest that
 -- applies; and what is so whether it refuses or not. What a ladder that refuses nothing says is in `refusal`.
 -- Assumes nothing.
-use Rattle.basics.proofs.Prelude.{◌≡◌, refl, sym, ap, ◌∙◌, Bool, true, false, not, ◌&&◌, List, Option, none}
-use Rattle.basics.proofs.Prelude.{some, length, ℕ, ◌≤◌, ◌<◌, leb, leb-true, leb-false, not-false}
+use Rattle.basics.proofs.Prelude.{◌≡◌, refl, sym, ap, ◌∙◌, Bool, true, false, not, ◌&&◌, List, Option, None}
+use Rattle.basics.proofs.Prelude.{Some, length, ℕ, ◌≤◌, ◌<◌, leb, leb-true, leb-false, not-false}
+use Rattle.std.specs.Prelude.{Ok, Err}
 use Rattle.basics.proofs.Cases.{both}
 use Rattle.register.proofs.Vocabulary.{Refusal, Rung, lowest, Entry, Message, Unpacked, unpack_of, last_read}
 use Rattle.register.proofs.Vocabulary.{goes, goes_down, most_clients, is_idle}
-use Rattle.register.specs.declared.Answer.TheVariants.{Refused}
 use Rattle.register.specs.declared.Phase.{Phase}
 use Rattle.register.specs.declared.Phase.TheVariants.{ReadingForWrite}
 use Rattle.refusal.specs.Ladder.{rising}
 use Rattle.refusal.proofs.Ladders.{none_applies, Climbs, climbs}
 use Rattle.licence.specs.Entry.{is_licence}
-use Rattle.message.specs.declared.Unpacked.TheVariants as unpacked
 use Rattle.message.specs.Layout.{is_reply}
 use Rattle.client.specs.declared.Client.{Client}
-use Rattle.client.specs.declared.Outcome.{Outcome}
-use Rattle.client.specs.declared.Sends.TheVariants.{Nothing}
 use Rattle.client.specs.Memory.{client_length, phase_in, reads_in, loaded}
 use Rattle.client.specs.Sound.{is_sound_memory}
 use Rattle.client.specs.Outcome.{After, after, started_of, taken_of}
@@ -41,14 +38,14 @@ take_ladder_rises d n f memory k bytes = refl
 
 -- a fact of a refusal and of what is otherwise done is a fact of the outcome
 pub either : (P : After → Type 0) (memory : List ℕ) (refusal : Option Refusal) (otherwise : After)
-    → ((why : Refusal) → P (refused_by memory why)) → (refusal ≡ none → P otherwise)
+    → ((why : Refusal) → P (refused_by memory why)) → (refusal ≡ None → P otherwise)
     → P (decided memory refusal otherwise)
-either P memory none otherwise refused done = done refl
-either P memory (some why) otherwise refused done = refused why
+either P memory None otherwise refused done = done refl
+either P memory (Some why) otherwise refused done = refused why
 
 pub by_take : (P : After → Type 0) (d n f : ℕ) (memory : List ℕ) (k : ℕ) (bytes : List ℕ)
     → ((why : Refusal) → P (refused_by memory why))
-    → (lowest (take_refusals d n f memory k bytes) ≡ none → P (received_as d n f memory k (unpack_of bytes)))
+    → (lowest (take_refusals d n f memory k bytes) ≡ None → P (received_as d n f memory k (unpack_of bytes)))
     → P (take_of d n f memory k bytes)
 unfolding take_of
 by_take P d n f memory k bytes =
@@ -88,30 +85,24 @@ module _ (n f : ℕ) (memory : List ℕ) (b : Bool) (told : b ≡ is_sound_memor
   own_sound client d e = ap (λ (x : Client). is_sound_memory x.n x.f memory) e
       ∙ sym told ∙ left
 
-abbrev refusal : Refusal → Outcome
-refusal why = record { sends = Nothing; answer = Refused why }
-
 -- the refusal of the rung where the code stopped, or what is done at the top
 module _ (memory : List ℕ) (rungs : List Rung) (otherwise : After) where
-  refused : (why : Refusal) (result : Outcome) → result ≡ refusal why → Climbs rungs (some why)
-      → after result memory ≡ decided memory (lowest rungs) otherwise
-  refused why result e climb =
-      ap (λ (y : Outcome). after y memory) e
-      ∙ ap (λ (y : Option Refusal). decided memory y otherwise) (climbs rungs climb)
+  refused : (why : Refusal) → Climbs rungs (Some why)
+      → after (Err why) memory ≡ decided memory (lowest rungs) otherwise
+  refused why climb = ap (λ (y : Option Refusal). decided memory y otherwise) (climbs rungs climb)
 
-  done : (given : After) → given ≡ otherwise → Climbs rungs none
+  done : (given : After) → given ≡ otherwise → Climbs rungs None
       → given ≡ decided memory (lowest rungs) otherwise
   done given e climb = e ∙ ap (λ (y : Option Refusal). decided memory y otherwise) (climbs rungs climb)
 
 module _ (d n f : ℕ) (memory : List ℕ) (phase : Phase) (licensed : Bool) where
-  pub start_refused : (why : Refusal) (result : Outcome) → result ≡ refusal why
-      → Climbs (start_refusals d n f memory licensed) (some why)
-      → after result memory ≡ start_of d n f memory phase licensed
+  pub start_refused : (why : Refusal) → Climbs (start_refusals d n f memory licensed) (Some why)
+      → after (Err why) memory ≡ start_of d n f memory phase licensed
   unfolding start_of
   start_refused = refused memory (start_refusals d n f memory licensed) (started_of memory phase)
 
   pub start_done : (given : After) → given ≡ started_of memory phase
-      → Climbs (start_refusals d n f memory licensed) none → given ≡ start_of d n f memory phase licensed
+      → Climbs (start_refusals d n f memory licensed) None → given ≡ start_of d n f memory phase licensed
   unfolding start_of
   start_done = done memory (start_refusals d n f memory licensed) (started_of memory phase)
 
@@ -122,7 +113,7 @@ pub record Passed (d : ℕ) (memory : List ℕ) (licensed : Bool) : Type 0 where
   pub room : (reads_in memory).0 < last_read
 
 pub start_facts : (d n f : ℕ) (memory : List ℕ) (licensed : Bool)
-    → lowest (start_refusals d n f memory licensed) ≡ none → Passed d memory licensed
+    → lowest (start_refusals d n f memory licensed) ≡ None → Passed d memory licensed
 start_facts d n f memory licensed e =
     let passed = none_applies (start_refusals d n f memory licensed) e in
     record {
@@ -149,12 +140,12 @@ module _ (b : Bool) (d n k : ℕ) (told : b ≡ is_client d) where
     server_rung u o = rw (sym told ∙ left) (ap not (sym told_too) ∙ o)
 
 module _ (result : Unpacked) (bytes : List ℕ) (is : result ≡ unpack_of bytes) where
-  pub malformed_rung : (why : Refusal) → result ≡ unpacked.Refused why
+  pub malformed_rung : (why : Refusal) → result ≡ Err why
       → not (goes_down (unpack_of bytes)) ≡ true
   unfolding goes
   malformed_rung why e = ap (λ (v : Unpacked). not (goes_down v)) (sym is ∙ e)
 
-  pub reply_rung : (message : Message) (b u : Bool) → result ≡ unpacked.Good message → b ≡ is_reply message
+  pub reply_rung : (message : Message) (b u : Bool) → result ≡ Ok message → b ≡ is_reply message
       → not b ≡ u → not (goes_down (unpack_of bytes)) ≡ u
   unfolding goes
   reply_rung message b u e told n =
@@ -178,7 +169,7 @@ module _ (n k : ℕ) (b : Bool) (told : b ≡ is_server n k) (left : b ≡ true)
 -- what the bytes bring is taken
 pub received_as_lem : (client : Client) (d n f : ℕ) (memory : List ℕ) (k : ℕ) (result : Unpacked) (bytes : List ℕ)
     (message : Message) (given : After)
-    → client ≡ loaded d n f memory → result ≡ unpack_of bytes → result ≡ unpacked.Good message
+    → client ≡ loaded d n f memory → result ≡ unpack_of bytes → result ≡ Ok message
     → given ≡ taken_of client.number client.n client.f memory k message
     → given ≡ received_as d n f memory k (unpack_of bytes)
 received_as_lem client d n f memory k result bytes message given e is good step =
@@ -186,15 +177,14 @@ received_as_lem client d n f memory k result bytes message given e is good step 
     ∙ ap (received_as d n f memory k) (sym good ∙ is)
 
 module _ (d n f : ℕ) (memory : List ℕ) (k : ℕ) (bytes : List ℕ) where
-  pub take_refused : (why : Refusal) (result : Outcome) → result ≡ refusal why
-      → Climbs (take_refusals d n f memory k bytes) (some why)
-      → after result memory ≡ take_of d n f memory k bytes
+  pub take_refused : (why : Refusal) → Climbs (take_refusals d n f memory k bytes) (Some why)
+      → after (Err why) memory ≡ take_of d n f memory k bytes
   unfolding take_of
   take_refused =
       refused memory (take_refusals d n f memory k bytes) (received_as d n f memory k (unpack_of bytes))
 
   pub take_done : (given : After) → given ≡ received_as d n f memory k (unpack_of bytes)
-      → Climbs (take_refusals d n f memory k bytes) none
+      → Climbs (take_refusals d n f memory k bytes) None
       → given ≡ take_of d n f memory k bytes
   unfolding take_of
   take_done = done memory (take_refusals d n f memory k bytes) (received_as d n f memory k (unpack_of bytes))

@@ -6,22 +6,21 @@
 -- one (`late_ack`), any message to an idle client (`idle_drops`). That every memory stays sound is in
 -- `Steadiness`.
 -- Assumes nothing.
-use Rattle.basics.proofs.Prelude.{◌≡◌, refl, ap, ◌∙◌, Bool, true, false, cond, List, [], none, get_or, ℕ, ◌+◌}
+use Rattle.basics.proofs.Prelude.{◌≡◌, refl, ap, ◌∙◌, Bool, true, false, cond, List, [], None, get_or, ℕ, ◌+◌}
 use Rattle.basics.proofs.Prelude.{◌%◌, ◌^◌, arith, eqb, not-false}
+use Rattle.std.specs.Prelude.{Ok, Err}
 use mir.Val.{bool_byte}
 use Rattle.basics.proofs.Cases.{by_test, by_option}
 use Rattle.licence.specs.Entry.{is_licence}
 use Rattle.register.proofs.Vocabulary.{Entry, Message, GetInfo, Info, Done, WriteInfo, Fwd, WriteAck, Pair}
-use Rattle.register.proofs.Vocabulary.{ReadNumber, Unpacked, Good, WriteCounter, counter, unpack_of}
+use Rattle.register.proofs.Vocabulary.{ReadNumber, Unpacked, WriteCounter, counter, unpack_of}
 use Rattle.register.proofs.Vocabulary.{last_counter, Refusal, lowest, counted, enough, Response, is_idle}
 use Rattle.register.proofs.Vocabulary.{is_reading, is_storing, sends_nothing, with_info, with_pair, with_ack}
 use Rattle.register.proofs.Vocabulary.{chosen, concluded, after_choice, acknowledged, uses_info, client_takes}
-use Rattle.register.proofs.Vocabulary.{started, next_read, entry_of}
-use Rattle.register.specs.declared.Answer.{Answer}
-use Rattle.register.specs.declared.Answer.TheVariants.{Went, Read, Wrote, Spent, Refused}
+use Rattle.register.proofs.Vocabulary.{started, next_read, entry_of, StepAnswer}
+use Rattle.register.specs.declared.Answer.TheVariants.{Went, Read, Wrote, Spent}
 use Rattle.register.specs.declared.Phase.{Phase}
 use Rattle.register.specs.declared.Phase.TheVariants.{Idle, Reading, ReadingForWrite, Storing}
-use Rattle.message.specs.declared.Unpacked.TheVariants.{Refused}
 use Rattle.register.specs.Client as model
 use Rattle.client.specs.Memory.{reads_at, counter_in, phase_in, reads_in, view}
 use Rattle.client.specs.Sound.{stores, is_sound_memory}
@@ -46,22 +45,22 @@ one_phase (ReadingForWrite entry) = refl
 one_phase (Storing entry count) = refl
 
 -- an operation has ended
-abbrev pub is_ending : Answer → Bool
-is_ending Went = false
-is_ending (Read pair) = true
-is_ending (Wrote pair) = true
-is_ending Spent = true
-is_ending (Refused why) = false
+abbrev pub is_ending : StepAnswer → Bool
+is_ending (Ok Went) = false
+is_ending (Ok (Read pair)) = true
+is_ending (Ok (Wrote pair)) = true
+is_ending (Ok Spent) = true
+is_ending (Err why) = false
 
 -- an outcome of a client that was not idle and was at a read number
-pub record Proceeds (old : ReadNumber) (phase : Phase) (reads : ReadNumber) (answer : Answer) : Type 0 where
+pub record Proceeds (old : ReadNumber) (phase : Phase) (reads : ReadNumber) (answer : StepAnswer) : Type 0 where
   pub ends : is_idle phase ≡ is_ending answer
   pub number : reads ≡ old
 
 -- a step of the model's client
 abbrev Follows : model.Client → Response → Type 0
 Follows self response =
-    Proceeds self.reads response.client.phase response.client.reads response.answer
+    Proceeds self.reads response.client.phase response.client.reads (Ok response.answer)
 
 stays : (self : model.Client) → is_idle self.phase ≡ false → Follows self (sends_nothing self)
 stays self h = record { ends = h; number = refl }
@@ -121,7 +120,7 @@ module _ (d n f : ℕ) (memory : List ℕ) (k : ℕ) (h : is_idle (phase_in memo
       Proceeds (reads_in memory) (phase_in outcome.memory) (reads_in outcome.memory) outcome.answer
 
   proceeds : (unpacked : Unpacked) → ProceedsTo (received_as d n f memory k unpacked)
-  proceeds (Good message) =
+  proceeds (Ok message) =
       let follows = taken_ends n f d (view memory) k message h in
       let phase = (client_takes n f d (view memory) k message).client.phase in
       record {
@@ -130,7 +129,7 @@ module _ (d n f : ℕ) (memory : List ℕ) (k : ℕ) (h : is_idle (phase_in memo
             ap (λ (reads : ReadNumber). record { 0 = reads.0 % 2 ^ 32 }) follows.number
             ∙ ap (λ (n : ℕ). record { 0 = n }) (twice (get_or memory reads_at 0));
       }
-  proceeds (Refused why) = record { ends = h; number = refl }
+  proceeds (Err why) = record { ends = h; number = refl }
 
   take_proceeds : (bytes : List ℕ) → ProceedsTo (take_of d n f memory k bytes)
   take_proceeds bytes =
@@ -145,20 +144,20 @@ take_ends d n f memory k bytes h = (take_proceeds d n f memory k h bytes).ends
 
 -- a start has a read number left to rise to
 start_rises : (d n f : ℕ) (memory : List ℕ) (phase : Phase) (licensed : Bool)
-    → lowest (start_refusals d n f memory licensed) ≡ none
+    → lowest (start_refusals d n f memory licensed) ≡ None
     → (reads_in (start_of d n f memory phase licensed).memory).0 ≡ (reads_in memory).0 + 1
 unfolding start_of started next_read
 start_rises d n f memory phase licensed e =
     let room = (start_facts d n f memory licensed e).room in
     rw e (mod_small ((reads_in memory).0 + 1) (omega arith))
 
-pub read_rises : (d n f : ℕ) (memory : List ℕ) → lowest (read_refusals d n f memory) ≡ none
+pub read_rises : (d n f : ℕ) (memory : List ℕ) → lowest (read_refusals d n f memory) ≡ None
     → (reads_in (read_of d n f memory).memory).0 ≡ (reads_in memory).0 + 1
 unfolding read_of start_of
 read_rises d n f memory e = start_rises d n f memory Reading true e
 
 pub write_rises : (d n f : ℕ) (memory : List ℕ) (entry : Entry)
-    → lowest (write_refusals d n f memory entry) ≡ none
+    → lowest (write_refusals d n f memory entry) ≡ None
     → (reads_in (write_of d n f memory entry).memory).0 ≡ (reads_in memory).0 + 1
 unfolding write_of
 write_rises d n f memory entry h = start_rises d n f memory (ReadingForWrite entry) (is_licence entry.0) h
@@ -172,31 +171,31 @@ pub record Unchanged (before : List ℕ) (outcome : After) : Type 0 where
 refused_unchanged : (memory : List ℕ) (why : Refusal) → Unchanged memory (refused_by memory why)
 refused_unchanged memory why = record { memory = refl; sends = refl }
 
-pub by_unpacked : {A : Type 0} (unpacked : Unpacked) → ((message : Message) → unpacked ≡ Good message → A)
-    → ((why : Refusal) → unpacked ≡ Refused why → A) → A
-by_unpacked (Good message) good refused = good message refl
-by_unpacked (Refused why) good refused = refused why refl
+pub by_unpacked : {A : Type 0} (unpacked : Unpacked) → ((message : Message) → unpacked ≡ Ok message → A)
+    → ((why : Refusal) → unpacked ≡ Err why → A) → A
+by_unpacked (Ok message) good refused = good message refl
+by_unpacked (Err why) good refused = refused why refl
 
 module _ (d n f : ℕ) (memory : List ℕ) (k : ℕ) (bytes : List ℕ) where
   -- an accepted message came to a sound memory
-  sound_then : lowest (take_refusals d n f memory k bytes) ≡ none → is_sound_memory n f memory ≡ true
+  sound_then : lowest (take_refusals d n f memory k bytes) ≡ None → is_sound_memory n f memory ≡ true
   sound_then e = not-false (is_sound_memory n f memory) (none_applies (take_refusals d n f memory k bytes) e).0
 
-  dropped_unchanged : (message : Message) → unpack_of bytes ≡ Good message
+  dropped_unchanged : (message : Message) → unpack_of bytes ≡ Ok message
       → is_taken (view memory) k message ≡ false
       → Unchanged memory (take_of d n f memory k bytes)
   dropped_unchanged message good e =
       by_take (Unchanged memory) d n f memory k bytes (refused_unchanged memory)
-      (λ none. rw (good, not_taken n f d (view memory) k message e)
-      record { memory = store_view n f memory (sound_then none); sends = refl })
+      (λ None. rw (good, not_taken n f d (view memory) k message e)
+      record { memory = store_view n f memory (sound_then None); sends = refl })
 
-  pub old_info : (tag : ReadNumber) (pair : Pair) → unpack_of bytes ≡ Good (Info tag pair)
+  pub old_info : (tag : ReadNumber) (pair : Pair) → unpack_of bytes ≡ Ok (Info tag pair)
       → (tag.0 ≡ (reads_in memory).0 → ⊥)
       → Unchanged memory (take_of d n f memory k bytes)
   old_info tag pair good other =
       dropped_unchanged (Info tag pair) good (other_read (view memory) k tag pair other)
 
-  pub late_ack : (count : WriteCounter) → unpack_of bytes ≡ Good (WriteAck count)
+  pub late_ack : (count : WriteCounter) → unpack_of bytes ≡ Ok (WriteAck count)
       → is_storing (phase_in memory) count ≡ false
       → Unchanged memory (take_of d n f memory k bytes)
   late_ack count good late = dropped_unchanged (WriteAck count) good (other_write (view memory) k count late)
@@ -206,7 +205,7 @@ module _ (d n f : ℕ) (memory : List ℕ) (k : ℕ) (bytes : List ℕ) where
       by_unpacked (unpack_of bytes)
       (λ message good. dropped_unchanged message good (idle_takes_none (view memory) k message h))
       (λ why bad. by_take (Unchanged memory) d n f memory k bytes (refused_unchanged memory)
-      (λ none. rw bad (refused_unchanged memory why)))
+      (λ None. rw bad (refused_unchanged memory why)))
 
 -- ---- every client at any time
 

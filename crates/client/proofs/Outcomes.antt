@@ -15,9 +15,8 @@ use Rattle.message.specs.Pair.{counter_bits}
 use Rattle.message.proofs.Pairs.{counter_fits}
 use Rattle.register.specs.Client as model
 use Rattle.register.specs.Client.{not_old, valid}
-use Rattle.replies.specs.declared.Choice.{Choice}
-use Rattle.replies.specs.declared.Choice.TheVariants as choice
-use Rattle.replies.specs.Replies.{store_replies, choice_of, replies_length}
+use Rattle.std.specs.Prelude.{None, Some}
+use Rattle.replies.specs.Replies.{store_replies, replies_length}
 use Rattle.replies.specs.Loops.{held_in}
 use Rattle.replies.proofs.Storing.{store_held, store_cleared}
 use Rattle.client.specs.declared.Client.{Client}
@@ -142,24 +141,24 @@ concluded_same n f d self other Reading pair e h = rw e
 concluded_same n f d self other (ReadingForWrite entry) pair e h = rw e
 concluded_same n f d self other (Storing entry count) pair e h = absurd (true_or_false false h refl)
 
-module _ (client : Client) (replies : List ℕ) (found : Choice)
-    (choice_is : choice_of found ≡ chosen client.n client.f 0 (held_in replies))
+module _ (client : Client) (replies : List ℕ) (found : Option Pair)
+    (choice_is : found ≡ chosen client.n client.f 0 (held_in replies))
     (step : Transition) where
   abbrev chosen_by : Option Pair → After
   chosen_by pick = stored client
       (after_choice client.n client.f client.number (view client replies) pick)
 
   -- it depends on the replies alone
-  same_choice : (pick : Choice) → found ≡ pick → chosen_by (choice_of pick) ≡ chosen_of client replies
+  same_choice : (pick : Option Pair) → found ≡ pick → chosen_by pick ≡ chosen_of client replies
   unfolding chosen counts not_old valid
-  same_choice pick e = ap chosen_by (ap choice_of (sym e) ∙ choice_is)
+  same_choice pick e = ap chosen_by (sym e ∙ choice_is)
 
-  pub no_choice : is_sound client replies ≡ true → found ≡ choice.Nothing → step ≡ kept client
+  pub no_choice : is_sound client replies ≡ true → found ≡ None → step ≡ kept client
       → after step replies ≡ chosen_of client replies
   unfolding after_choice
-  no_choice h e et = unchanged_is client replies step h et ∙ same_choice choice.Nothing e
+  no_choice h e et = unchanged_is client replies step h et ∙ same_choice None e
 
-  pub choice_leads : (pair : Pair) → is_reading client.phase ≡ true → found ≡ choice.Found pair
+  pub choice_leads : (pair : Pair) → is_reading client.phase ≡ true → found ≡ Some pair
       → (left : List ℕ) → left ≡ empty → after step empty ≡ concluded_of client pair
       → after step left ≡ chosen_of client replies
   unfolding after_choice
@@ -167,18 +166,18 @@ module _ (client : Client) (replies : List ℕ) (found : Choice)
       ap (after step) el ∙ et ∙ ap (λ (response : Response). stored client response)
       (concluded_same client.n client.f client.number (view client empty)
       (view client replies) client.phase pair refl reading)
-      ∙ same_choice (choice.Found pair) e
+      ∙ same_choice (Some pair) e
 
 -- what is sent in each case
-module _ (client : Client) (replies : List ℕ) (found : Choice)
-    (choice_is : choice_of found ≡ chosen client.n client.f 0 (held_in replies)) where
-  pub no_choice_sends : is_sound client replies ≡ true → found ≡ choice.Nothing
+module _ (client : Client) (replies : List ℕ) (found : Option Pair)
+    (choice_is : found ≡ chosen client.n client.f 0 (held_in replies)) where
+  pub no_choice_sends : is_sound client replies ≡ true → found ≡ None
       → [] ≡ (chosen_of client replies).sends
   no_choice_sends h e =
       ap (λ (a : After). a.sends) (no_choice client replies found choice_is (kept client) h e refl)
 
   pub choice_sends : (step : Transition) (pair : Pair) → is_reading client.phase ≡ true
-      → found ≡ choice.Found pair → after step empty ≡ concluded_of client pair
+      → found ≡ Some pair → after step empty ≡ concluded_of client pair
       → messages_of step.sends ≡ (chosen_of client replies).sends
   choice_sends step pair reading e et =
       ap (λ (a : After). a.sends)

@@ -1,6 +1,7 @@
 -- An idle client's replies are empty, so a start, which empties them, need only store the head.
 -- Assumes nothing.
 use Rattle.basics.proofs.Prelude.{◌≡◌, refl, sym, ap, ◌∙◌, true, false, List, ◌++◌, drop, replicate, ℕ, ◌+◌}
+use Rattle.std.specs.Prelude.{Ok}
 use Rattle.basics.proofs.Cases.{true_or_false}
 use Rattle.register.proofs.Vocabulary.{ReadNumber, is_idle, is_reading, next_read, started}
 use Rattle.register.specs.declared.Answer.TheVariants.{Went}
@@ -46,14 +47,14 @@ pub starts : (client : Client) (phase : Phase) (memory left : List ℕ) (reads :
     → client ≡ loaded client.number client.n client.f memory
     → is_sound_memory client.n client.f memory ≡ true → is_idle client.phase ≡ true
     → reads ≡ record { 0 = client.reads.0 + 1 } → left ≡ head_of phase reads ++ drop replies_at memory
-    → after (record { sends = GetInfo reads; answer = Went }) left ≡ started_of memory phase
+    → after (Ok (record { sends = GetInfo reads; answer = Went })) left ≡ started_of memory phase
 unfolding next_read
 starts client phase memory left reads e h idle er el =
     let next : reads ≡ next_read (view memory) =
     er ∙ ap (λ (x : Client). record { 0 = x.reads.0 + 1 }) e in
-    rw (el, next) (ap (λ (z : List ℕ). after (record {
+    rw (el, next) (ap (λ (z : List ℕ). after (Ok (record {
       sends = GetInfo (next_read (view memory));
       answer = Went;
-    }) z)
+    })) z)
     (started_is client.n client.f memory phase h
     (ap (λ (x : Client). is_idle x.phase) (sym e) ∙ idle)))

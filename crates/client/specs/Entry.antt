@@ -6,17 +6,15 @@
 -- In order: refusal or not; who there is; a read and a write; bytes from a server. There is no entry point
 -- for the setup: it is a memory of zeros (proofs/Memory, `store_new`).
 -- Assumes nothing.
-use Rattle.std.specs.Prelude.{ℕ, Bool, false, not, ◌&&◌, List, [], ◌∷◌, leb}
-use Rattle.std.proofs.Math.Option.{Option, none, some}
+use Rattle.std.specs.Prelude.{ℕ, Bool, false, not, ◌&&◌, List, [], ◌∷◌, leb, Ok, Err}
+use Rattle.std.specs.Prelude.{Option, None, Some}
 use Rattle.basics.specs.Tests.{is_up_to}
 use Rattle.refusal.specs.declared.Refusal.{Refusal}
 use Rattle.refusal.specs.Ladder.{Rung, ◌whenever◌, lowest}
 use Rattle.licence.specs.Entry.{is_licence}
 use Rattle.message.specs.declared.Entry.{Entry}
-use Rattle.message.specs.declared.Unpacked.{Unpacked}
-use Rattle.message.specs.declared.Unpacked.TheVariants.{Good, Refused}
+use Rattle.message.specs.Layout.{Unpacked}
 use Rattle.message.specs.Layout.{unpack_of, last_read, goes_down}
-use Rattle.register.specs.declared.Answer.TheVariants.{Refused}
 use Rattle.register.specs.declared.Phase.{Phase}
 use Rattle.register.specs.declared.Phase.TheVariants.{Reading, ReadingForWrite}
 use Rattle.register.specs.Ladders.{read_ladder, write_ladder}
@@ -30,12 +28,12 @@ use Rattle.client.specs.Outcome.{After, started_of, taken_of}
 
 -- a refusal sends nothing and leaves the memory as it was
 abbrev pub refused_by : List ℕ → Refusal → After
-refused_by memory why = record { memory = memory; sends = []; answer = Refused why }
+refused_by memory why = record { memory = memory; sends = []; answer = Err why }
 
 -- 01's answer: WENT, READ, WROTE or SPENT as the step has it, or REFUSED 3, 4, 7, 8, 9 or 11
 abbrev pub decided : List ℕ → Option Refusal → After → After
-decided memory none result = result
-decided memory (some why) result = refused_by memory why
+decided memory None result = result
+decided memory (Some why) result = refused_by memory why
 
 -- ---- who there is: clients 1 to 6, and servers 1 to n
 
@@ -89,8 +87,8 @@ take_refusals d n f memory k bytes =
 
 -- by what they unpack to
 abbrev pub received_as : ℕ → ℕ → ℕ → List ℕ → ℕ → Unpacked → After
-received_as d n f memory k (Good message) = taken_of d n f memory k message
-received_as d n f memory k (Refused why) = refused_by memory why
+received_as d n f memory k (Ok message) = taken_of d n f memory k message
+received_as d n f memory k (Err why) = refused_by memory why
 
 unfoldable pub take_of : ℕ → ℕ → ℕ → List ℕ → ℕ → List ℕ → After
 take_of d n f memory k bytes = decided memory (lowest (take_refusals d n f memory k bytes))

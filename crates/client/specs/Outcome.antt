@@ -4,13 +4,14 @@
 -- In order: the messages that a step puts; an outcome, of the code and of the model; a start; one message
 -- taken.
 -- Assumes nothing.
-use Rattle.std.specs.Prelude.{ℕ, List, [], ◌∷◌}
+use Rattle.std.specs.Prelude.{ℕ, List, [], ◌∷◌, Result, Ok, Err}
+use Rattle.refusal.specs.declared.Refusal.{Refusal}
 use Rattle.message.specs.declared.Message.{Message}
 use Rattle.message.specs.declared.Message.TheVariants as message
-use Rattle.register.specs.declared.Answer.{Answer}
 use Rattle.register.specs.declared.Answer.TheVariants.{Went}
 use Rattle.register.specs.declared.Phase.{Phase}
 use Rattle.register.specs.Client.{Response, next_read, started, client_takes}
+use Rattle.register.specs.World.{StepAnswer}
 use Rattle.client.specs.declared.Outcome.{Outcome}
 use Rattle.client.specs.declared.Sends.{Sends}
 use Rattle.client.specs.declared.Sends.TheVariants.{Nothing, GetInfo, Done, DoneAndWrite}
@@ -27,16 +28,17 @@ messages_of (DoneAndWrite pair) = message.Done ∷ message.WriteInfo pair ∷ []
 pub record After : Type 0 where
   pub memory : List ℕ
   pub sends : List Message
-  pub answer : Answer
+  pub answer : StepAnswer
 
--- what the code answers and leaves in memory
-abbrev pub after : Outcome → List ℕ → After
-after result memory = record { memory = memory; sends = messages_of result.sends; answer = result.answer }
+-- what the code answers and leaves in memory; a refusal sends nothing
+abbrev pub after : Result Outcome Refusal → List ℕ → After
+after (Ok given) memory = record { memory = memory; sends = messages_of given.sends; answer = Ok given.answer }
+after (Err why) memory = record { memory = memory; sends = []; answer = Err why }
 
 -- the outcome of the model's step
 abbrev pub leaves : Response → After
 leaves response =
-    record { memory = store response.client; sends = response.sends; answer = response.answer }
+    record { memory = store response.client; sends = response.sends; answer = Ok response.answer }
 
 -- a start in a phase: GET_INFO with the next read number goes on every channel
 abbrev pub started_of : List ℕ → Phase → After

@@ -4,14 +4,14 @@
 // and refuse. The memory has neither the client's number nor n and f: a caller gives the same at each call.
 #![tactic(auto)]
 
-ghost use Rattle.std.specs.Prelude.{◌≡◌, true, false, ◌+◌, ◌<◌, ◌≤◌, length, replicate};
+ghost use Rattle.std.specs.Prelude.{◌≡◌, true, false, ◌+◌, ◌<◌, ◌≤◌, length, drop, replicate};
 ghost use Rattle.message.specs.Layout.{last_read};
 ghost use Rattle.register.specs.Settings.{most_clients, most_servers};
 ghost use Rattle.register.specs.Client.{is_idle, is_reading, is_storing, entry_of, uses_info};
 ghost use Rattle.replies.specs.Replies.{replies_length};
 ghost use Rattle.client.specs.State as by_value;
 ghost use Rattle.client.specs.State.{in_phase};
-ghost use Rattle.client.specs.Memory.{client_length, phase_of, code_of, counter_in, loaded, stored, view};
+ghost use Rattle.client.specs.Memory.{client_length, replies_at, phase_of, code_of, counter_in, loaded, stored, view};
 ghost use Rattle.client.specs.Sound.{stores, is_sound_client, is_sound};
 ghost use Rattle.client.specs.Sound.{is_sound_entry, is_sound_counter, is_sound_head, are_sound_replies};
 ghost use Rattle.client.specs.Sound.{is_sound_memory};
@@ -22,10 +22,10 @@ ghost use Rattle.client.specs.Outcome as outcome;
 ghost use Rattle.client.specs.Entry.{is_client, is_server, read_of, start_of, write_of, take_of};
 ghost use Rattle.client.specs.Collecting.{Collected, received_pair_of};
 
-use message::{Entry, Message, Pair, ReadNumber, Unpacked, WriteCounter};
+use message::{Entry, Message, Pair, ReadNumber, WriteCounter};
 use refusal::Refusal;
 use register::{Answer, MOST_CLIENTS, Phase};
-use replies::Choice;
+use replies::Replies;
 
 // Where a memory has the read number, the phase, the entry, the counter and the replies.
 pub const READS: usize = 0;
@@ -128,7 +128,7 @@ fn is_storing_with(phase: Phase, counter: WriteCounter) -> bool
     let Phase::Storing(_, own) = phase else {
         return false;
     };
-    message::same_counter(own, counter)
+    own == counter
 }
 
 #[tactic(auto, unfolding(register::specs::Client::entry_of))]
@@ -206,11 +206,11 @@ fn conclude(client: Client, pair: Pair) -> Transition
 }
 
 // After a taken INFO or FWD: what follows from the choice, if there is one.
-fn follow_choice(client: Client, replies: &mut [u64]) -> Transition
+fn follow_choice(client: Client, replies: &mut Replies) -> Transition
     requires { (is_sound client replies.old ≡ true) × (is_reading client.phase ≡ true) }
     ensures { after result replies.new ≡ chosen_of client replies.old }
 {
-    let Choice::Found(pair) = replies::choose(replies, client.n, client.f) else {
+    let Some(pair) = replies::choose(replies, client.n, client.f) else {
         return unchanged(client);
     };
     replies::clear(replies);
@@ -220,22 +220,22 @@ fn follow_choice(client: Client, replies: &mut [u64]) -> Transition
 // ---- one message of server k
 
 // Whether an INFO with a tag is taken: while the client reads, of this read, and the first of its server.
-fn takes_info(client: Client, k: u8, tag: ReadNumber, replies: &[u64]) -> bool
-    requires { (length replies.now ≡ replies_length) × (1 ≤ k) × (k ≤ most_servers) }
+fn takes_info(client: Client, k: u8, tag: ReadNumber, replies: &Replies) -> bool
+    requires { (1 ≤ k) × (k ≤ most_servers) }
     ensures { result ≡ uses_info (by_value.view client replies.now) k tag }
 {
     let phase = client.phase;
     if !is_reading(phase) {
         return false;
     }
-    if !message::same_read(tag, client.reads) {
+    if tag != client.reads {
         return false;
     }
     !replies::is_noted(replies, (k - 1) as usize)
 }
 
 // Collects an INFO: whether it is taken.
-fn info(client: Client, k: u8, tag: ReadNumber, pair: Pair, replies: &mut [u64]) -> bool
+fn info(client: Client, k: u8, tag: ReadNumber, pair: Pair, replies: &mut Replies) -> bool
     requires { (is_sound client replies.old ≡ true) × (1 ≤ k) × (k ≤ client.n) }
     ensures { Collected client replies.old k (Message.Info tag pair) result
         replies.new }
@@ -250,7 +250,7 @@ fn info(client: Client, k: u8, tag: ReadNumber, pair: Pair, replies: &mut [u64])
 }
 
 // Collects a FWD: whether it is taken.
-fn forwarded(client: Client, k: u8, pair: Pair, replies: &mut [u64]) -> bool
+fn forwarded(client: Client, k: u8, pair: Pair, replies: &mut Replies) -> bool
     requires { (is_sound client replies.old ≡ true) × (1 ≤ k) × (k ≤ client.n) }
     ensures { Collected client replies.old k (Message.Fwd pair) result replies.new }
 {
@@ -263,7 +263,7 @@ fn forwarded(client: Client, k: u8, pair: Pair, replies: &mut [u64]) -> bool
 }
 
 // Collects an INFO or a FWD: whether it is taken. Another kind is not.
-fn collect(client: Client, k: u8, message: Message, replies: &mut [u64]) -> bool
+fn collect(client: Client, k: u8, message: Message, replies: &mut Replies) -> bool
     requires { (is_sound client replies.old ≡ true) × (1 ≤ k) × (k ≤ client.n) }
     ensures { Collected client replies.old k message result replies.new }
 {
@@ -277,7 +277,7 @@ fn collect(client: Client, k: u8, message: Message, replies: &mut [u64]) -> bool
 }
 
 // What a client does with an INFO or a FWD; another kind is dropped.
-fn receive_pair(client: Client, k: u8, message: Message, replies: &mut [u64]) -> Transition
+fn receive_pair(client: Client, k: u8, message: Message, replies: &mut Replies) -> Transition
     requires { (is_sound client replies.old ≡ true) × (1 ≤ k) × (k ≤ client.n) }
     ensures { after result replies.new
         ≡ received_pair_of client replies.old k message }
@@ -289,7 +289,7 @@ fn receive_pair(client: Client, k: u8, message: Message, replies: &mut [u64]) ->
 }
 
 // What a client does with a WRITE_ACK: enough of them end its write.
-fn acknowledged(client: Client, k: u8, counter: WriteCounter, replies: &mut [u64]) -> Transition
+fn acknowledged(client: Client, k: u8, counter: WriteCounter, replies: &mut Replies) -> Transition
     requires { (is_sound client replies.old ≡ true) × (1 ≤ k) × (k ≤ client.n) }
     ensures { after result replies.new
         ≡ received_of client replies.old k (Message.WriteAck counter) }
@@ -308,7 +308,7 @@ fn acknowledged(client: Client, k: u8, counter: WriteCounter, replies: &mut [u64
 }
 
 // What a client does with one message of server k.
-fn receive(client: Client, k: u8, message: Message, replies: &mut [u64]) -> Transition
+fn receive(client: Client, k: u8, message: Message, replies: &mut Replies) -> Transition
     requires { (is_sound client replies.old ≡ true) × (1 ≤ k) × (k ≤ client.n) }
     ensures { after result replies.new
         ≡ received_of client replies.old k message }
@@ -321,14 +321,14 @@ fn receive(client: Client, k: u8, message: Message, replies: &mut [u64]) -> Tran
 
 // What a message would have the client send, were the replies its own. It does not ask `receive_pair`: that
 // is called for every message, and the compiler inlines it only while it has one caller.
-fn foreseen(client: Client, k: u8, message: Message, replies: &mut [u64]) -> Sends
+fn foreseen(client: Client, k: u8, message: Message, replies: &mut Replies) -> Sends
     requires { (is_sound client replies.old ≡ true) × (1 ≤ k) × (k ≤ client.n) }
     ensures { messages_of result ≡ (received_pair_of client replies.old k message).sends }
 {
     if !collect(client, k, message, replies) {
         return Sends::Nothing;
     }
-    let Choice::Found(pair) = replies::choose(replies, client.n, client.f) else {
+    let Some(pair) = replies::choose(replies, client.n, client.f) else {
         return Sends::Nothing;
     };
     let step = conclude(client, pair);
@@ -389,7 +389,7 @@ fn counter_in(phase: Phase) -> u64
     let Phase::Storing(_, counter) = phase else {
         return 0;
     };
-    message::counter_word(counter)
+    u64::from(counter)
 }
 
 // The head of a memory, from the client of a step. The replies stay.
@@ -398,10 +398,18 @@ pub fn store(memory: &mut [u64], client: Client)
     ensures { memory.new ≡ stored memory.old client }
 {
     let phase = client.phase;
-    memory[READS] = message::read_word(client.reads);
+    memory[READS] = u64::from(client.reads);
     memory[PHASE] = code_of(phase);
     memory[ENTRY] = entry_of(phase);
     memory[COUNTER] = counter_in(phase);
+}
+
+// The replies in a memory: the last of its numbers.
+fn replies_in(memory: &[u64]) -> &Replies
+    requires { length memory.now ≡ client_length }
+    ensures { result.now ≡ drop replies_at memory.now }
+{
+    memory.last_chunk().unwrap()
 }
 
 // Whether a client takes a message of server k. One that it does not take changes nothing.
@@ -420,7 +428,7 @@ pub fn is_taken(client: Client, k: u8, message: Message, memory: &[u64]) -> bool
     let Message::Info(tag, _) = message else {
         return false;
     };
-    takes_info(client, k, tag, &memory[REPLIES..])
+    takes_info(client, k, tag, replies_in(memory))
 }
 
 // What a client does with one message of server k: the step on the client and its replies, in its memory.
@@ -428,10 +436,13 @@ pub fn take_message(client: Client, k: u8, message: Message, memory: &mut [u64])
     requires { (client ≡ loaded client.number client.n client.f memory.old)
         × (is_sound_memory client.n client.f memory.old ≡ true)
         × (1 ≤ client.number) × (client.number ≤ most_clients) × (1 ≤ k) × (k ≤ client.n) }
-    ensures { outcome.after result memory.new
+    ensures { outcome.after (Ok result) memory.new
         ≡ outcome.taken_of client.number client.n client.f memory.old k message }
 {
-    let step = receive(client, k, message, &mut memory[REPLIES..]);
+    let Some(replies) = memory.last_chunk_mut() else {
+        unreachable!()
+    };
+    let step = receive(client, k, message, replies);
     let next = step.client;
     let sends = step.sends;
     let answer = step.answer;
@@ -447,7 +458,7 @@ pub fn would_send(client: Client, k: u8, message: Message, memory: &[u64]) -> Se
     ensures { messages_of result
         ≡ (outcome.taken_of client.number client.n client.f memory.now k message).sends }
 {
-    let mut trial = replies::copied(&memory[REPLIES..]);
+    let mut trial = replies::copied(replies_in(memory));
     foreseen(client, k, message, &mut trial)
 }
 
@@ -458,7 +469,7 @@ fn begin(client: Client, phase: Phase, memory: &mut [u64]) -> Outcome
     requires { (client ≡ loaded client.number client.n client.f memory.old)
         × (is_sound_memory client.n client.f memory.old ≡ true)
         × (is_idle client.phase ≡ true) × (client.reads.0 < last_read) }
-    ensures { outcome.after result memory.new
+    ensures { outcome.after (Ok result) memory.new
         ≡ outcome.started_of memory.old phase }
 {
     let reads = message::next_read(client.reads);
@@ -517,7 +528,7 @@ fn are_replies_sound(n: u8, memory: &[u64]) -> bool
     let phase = client.phase;
     let reading = is_reading(phase);
     let storing = is_storing(phase);
-    replies::are_sound(&memory[REPLIES..], n as usize, reading, storing)
+    replies::are_sound(replies_in(memory), n as usize, reading, storing)
 }
 
 // Whether a memory is sound, of n servers of which f may be faulty.
@@ -541,15 +552,6 @@ pub fn is_sound(n: u8, f: u8, memory: &[u64]) -> bool
 
 // ---- entry points
 
-fn refuse(refusal: Refusal) -> Outcome
-    ensures { result ≡ record { sends = Sends.Nothing; answer = Answer.Refused refusal } }
-{
-    Outcome {
-        sends: Sends::Nothing,
-        answer: Answer::Refused(refusal),
-    }
-}
-
 fn is_client(number: u8) -> bool
     ensures { result ≡ is_client number }
 {
@@ -569,32 +571,39 @@ fn is_server(k: u8, n: u8) -> bool
 }
 
 // Client `number` starts in a phase, whose entry, if it has one, is a licence entry or not.
-fn start(number: u8, n: u8, f: u8, phase: Phase, licensed: bool, memory: &mut [u64]) -> Outcome
+fn start(
+    number: u8,
+    n: u8,
+    f: u8,
+    phase: Phase,
+    licensed: bool,
+    memory: &mut [u64],
+) -> Result<Outcome, Refusal>
     ensures { outcome.after result memory.new
         ≡ start_of number n f memory.old phase licensed }
 {
     if !is_sound(n, f, memory) {
-        return refuse(Refusal::Unsound);
+        return Err(Refusal::Unsound);
     }
     if !is_client(number) {
-        return refuse(Refusal::NoSuchProcess);
+        return Err(Refusal::NoSuchProcess);
     }
     let client = load(memory, number, n, f);
     let old = client.phase;
     if !is_idle(old) {
-        return refuse(Refusal::Busy);
+        return Err(Refusal::Busy);
     }
     if !licensed {
-        return refuse(Refusal::NoEntry);
+        return Err(Refusal::NoEntry);
     }
     if message::is_last_read(client.reads) {
-        return refuse(Refusal::Exhausted);
+        return Err(Refusal::Exhausted);
     }
-    begin(client, phase, memory)
+    Ok(begin(client, phase, memory))
 }
 
 // Client `number` starts a read.
-pub fn read(number: u8, n: u8, f: u8, memory: &mut [u64]) -> Outcome
+pub fn read(number: u8, n: u8, f: u8, memory: &mut [u64]) -> Result<Outcome, Refusal>
     ensures { outcome.after result memory.new
         ≡ read_of number n f memory.old }
 {
@@ -602,7 +611,7 @@ pub fn read(number: u8, n: u8, f: u8, memory: &mut [u64]) -> Outcome
 }
 
 // Client `number` starts a write of an entry.
-pub fn write(number: u8, n: u8, f: u8, entry: Entry, memory: &mut [u64]) -> Outcome
+pub fn write(number: u8, n: u8, f: u8, entry: Entry, memory: &mut [u64]) -> Result<Outcome, Refusal>
     ensures { outcome.after result memory.new
         ≡ write_of number n f memory.old entry }
 {
@@ -618,25 +627,32 @@ pub fn write(number: u8, n: u8, f: u8, entry: Entry, memory: &mut [u64]) -> Outc
 }
 
 // Client `number` takes bytes from server k.
-pub fn take(number: u8, n: u8, f: u8, k: u8, bytes: &[u8], memory: &mut [u64]) -> Outcome
+pub fn take(
+    number: u8,
+    n: u8,
+    f: u8,
+    k: u8,
+    bytes: &[u8],
+    memory: &mut [u64],
+) -> Result<Outcome, Refusal>
     ensures { outcome.after result memory.new
         ≡ take_of number n f memory.old k bytes.now }
 {
     if !is_sound(n, f, memory) {
-        return refuse(Refusal::Unsound);
+        return Err(Refusal::Unsound);
     }
     if !is_client(number) {
-        return refuse(Refusal::NoSuchProcess);
+        return Err(Refusal::NoSuchProcess);
     }
     if !is_server(k, n) {
-        return refuse(Refusal::NoSuchProcess);
+        return Err(Refusal::NoSuchProcess);
     }
-    let Unpacked::Good(message) = message::unpack(bytes) else {
-        return refuse(Refusal::Malformed);
+    let Ok(message) = message::unpack(bytes) else {
+        return Err(Refusal::Malformed);
     };
     if !message::is_reply(message) {
-        return refuse(Refusal::Malformed);
+        return Err(Refusal::Malformed);
     }
     let client = load(memory, number, n, f);
-    take_message(client, k, message, memory)
+    Ok(take_message(client, k, message, memory))
 }

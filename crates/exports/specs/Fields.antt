@@ -4,19 +4,17 @@
 -- In order: the message of five numbers; the five numbers of a message; packing; unpacking. An answer is 0,
 -- or the refusal's number, and what is refused leaves lent memory as it was.
 -- Assumes nothing.
-use Rattle.std.specs.Prelude.{ℕ, ◌^◌, Bool, cond, List, [], ◌∷◌, ltb, get_or}
+use Rattle.std.specs.Prelude.{ℕ, ◌^◌, Bool, cond, List, [], ◌∷◌, ltb, get_or, Ok, Err}
 use Rattle.basics.specs.Tests.{all_pass}
 use Rattle.refusal.specs.Numbers.{number_of}
 use Rattle.message.specs.declared.Message.{Message}
 use Rattle.message.specs.declared.Message.TheVariants as kinds
-use Rattle.message.specs.declared.Packed.{Packed}
-use Rattle.message.specs.declared.Packed.TheVariants as packed
-use Rattle.message.specs.declared.Unpacked.{Unpacked}
-use Rattle.message.specs.declared.Unpacked.TheVariants.{Good, Refused}
+use Rattle.message.specs.Layout.{Unpacked}
 use Rattle.message.specs.Layout.{kind_bits, tag_bits, counter_bits, client_bits, entry_bits, joined, malformed}
 use Rattle.message.specs.Layout.{message_of}
 use Rattle.message.specs.Packing.{pack_answer, pack_leaves}
 use Rattle.message.specs.Pair.{counter, client, entry}
+use Rattle.exports.specs.Status.{status_of}
 
 -- ---- the message of five numbers: that of the number that they join to, if none is over its width
 
@@ -50,24 +48,16 @@ fields_of (kinds.WriteAck count) = 6 ∷ 0 ∷ count.0 ∷ 0 ∷ 0 ∷ []
 
 -- ---- packing
 
-abbrev pub pack_number : Packed → ℕ
-pack_number packed.Done = 0
-pack_number (packed.Refused why) = number_of why
-
 abbrev pub packed_number : Unpacked → List ℕ → ℕ
-packed_number (Good message) out = pack_number (pack_answer message out)
-packed_number (Refused why) out = number_of why
+packed_number (Ok message) out = status_of (pack_answer message out)
+packed_number (Err why) out = number_of why
 
 abbrev pub packed_bytes : Unpacked → List ℕ → List ℕ
-packed_bytes (Good message) out = pack_leaves message out
-packed_bytes (Refused why) out = out
+packed_bytes (Ok message) out = pack_leaves message out
+packed_bytes (Err why) out = out
 
 -- ---- unpacking
 
-abbrev pub unpacked_number : Unpacked → ℕ
-unpacked_number (Good message) = 0
-unpacked_number (Refused why) = number_of why
-
 abbrev pub unpacked_fields : Unpacked → List ℕ → List ℕ
-unpacked_fields (Good message) fields = fields_of message
-unpacked_fields (Refused why) fields = fields
+unpacked_fields (Ok message) fields = fields_of message
+unpacked_fields (Err why) fields = fields

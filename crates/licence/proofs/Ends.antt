@@ -2,11 +2,11 @@
 -- no number, there is no real date (`not_numbered`).
 -- Assumes nothing.
 use Rattle.basics.proofs.Prelude.{◌≡◌, true, false, ℕ, arith}
+use Rattle.std.specs.Prelude.{Err}
 use Rattle.basics.proofs.Cases.{by_test}
 use Rattle.refusal.specs.declared.Refusal.{Refusal}
 use Rattle.calendar.specs.Calendar.{is_date, day_number}
 use Rattle.calendar.specs.Order.{is_real}
-use Rattle.calendar.specs.declared.DayNumber.TheVariants.{Refused}
 use Rattle.calendar.proofs.Dates.{real_date}
 use Rattle.calendar.proofs.Answers.{day_given}
 use Rattle.licence.specs.Entry.{fields_of, is_licence}
@@ -18,7 +18,7 @@ pub end_real : (entry : ℕ) → is_licence entry ≡ true → is_real (end_of (
 end_real entry licensed_entry =
     real_date (licensed (fields_of entry) (entry_fields entry licensed_entry)).date
 
-pub not_numbered : (year month day : ℕ) (why : Refusal) → day_number year month day ≡ Refused why
+pub not_numbered : (year month day : ℕ) (why : Refusal) → day_number year month day ≡ Err why
     → is_date year month day ≡ false
 not_numbered year month day why e =
     by_test (is_date year month day)

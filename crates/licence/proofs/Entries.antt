@@ -6,10 +6,10 @@
 -- joining gives a licence entry whose fields are those joined (`split_of_join`).
 -- Assumes nothing.
 use Rattle.basics.proofs.Prelude.{◌≡◌, sym, ap, ◌∙◌, true, ℕ, ◌^◌, ◌<◌, ltb, ltb-true, lt-ltb}
+use Rattle.std.specs.Prelude.{Ok, Err}
 use Rattle.basics.proofs.Cases.{by_test, both, both_of, clash}
 use Rattle.refusal.specs.Numbers.{numbered}
 use Rattle.licence.specs.declared.Fields.{Fields}
-use Rattle.licence.specs.declared.Joined.{Joined}
 use Rattle.licence.specs.Entry.{copies_place, entry_bits, fields_of, joined, is_licensed}
 use Rattle.licence.specs.Entry.{is_licence, joined_of}
 use Rattle.licence.proofs.Licensed.{narrow}
@@ -35,21 +35,21 @@ joined_licence fields p h =
     let n = narrow fields p h in
     is_licence_of (joined fields) (joined_small fields n) (ap is_licensed (split_join fields n) ∙ p)
 
-pub join_of_split : (entry : ℕ) → is_licence entry ≡ true → joined_of (fields_of entry) ≡ Joined.Entry entry
+pub join_of_split : (entry : ℕ) → is_licence entry ≡ true → joined_of (fields_of entry) ≡ Ok entry
 unfolding joined_of
 join_of_split entry p =
-    rw (entry_fields entry p) (ap Joined.Entry (join_split entry (is_licence_small entry p)))
+    rw (entry_fields entry p) (ap Ok (join_split entry (is_licence_small entry p)))
 
 -- an answer of joining: the entry, and what it was joined from
 pub split_of_join : (fields : Fields) (entry : ℕ) → fields.copies < 2 ^ copies_place.width
-    → joined_of fields ≡ Joined.Entry entry → (is_licence entry ≡ true) × (fields_of entry ≡ fields)
+    → joined_of fields ≡ Ok entry → (is_licence entry ≡ true) × (fields_of entry ≡ fields)
 unfolding joined_of
 split_of_join fields entry h p =
     by_test (is_licensed fields)
-    (λ yes. let q : Joined.Entry (joined fields) ≡ Joined.Entry entry = rw yes at p in
+    (λ yes. let q : Ok (joined fields) ≡ Ok entry = rw yes at p in
     let same : joined fields ≡ entry = cc in (
       sym (ap is_licence same) ∙ joined_licence fields yes h,
       sym (ap fields_of same) ∙ split_join fields (narrow fields yes h),
     ))
-    (λ no. let q : Joined.Refused (numbered 8) ≡ Joined.Entry entry = rw no at p in
+    (λ no. let q : Err (numbered 8) ≡ Ok entry = rw no at p in
     clash (cc))

@@ -6,16 +6,16 @@
 -- order of the dates (`on_last_day`, `before_end`, `after_end`).
 -- Assumes nothing.
 use Rattle.basics.proofs.Prelude.{◌≡◌, sym, ap, ◌∙◌, true, false, ◌&&◌, ℕ, ltb-true, lt-ltb}
+use Rattle.std.specs.Prelude.{Ok, Err}
 use mathlib.Core.Logic.{◌↔◌}
 use lib.IntN.{ℤ, pos, ◌-ℤ◌}
 use lib.Signed.{lt_z}
 use Rattle.basics.proofs.Cases.{by_test, both, clash}
 use Rattle.refusal.specs.Numbers.{numbered}
 use Rattle.calendar.specs.Calendar.{is_date}
-use Rattle.calendar.specs.Order.{Date, date, is_real, number, earlier}
+use Rattle.calendar.specs.declared.Date.{Date}
+use Rattle.calendar.specs.Order.{date, is_real, number, earlier}
 use Rattle.calendar.proofs.Order.{order_kept, order_back, one_to_one}
-use Rattle.licence.specs.declared.DaysLeft.{DaysLeft}
-use Rattle.licence.specs.declared.DaysLeft.TheVariants.{Days}
 use Rattle.licence.specs.Entry.{fields_of, is_licence}
 use Rattle.licence.specs.Verdict.{end_of, days_left}
 use Rattle.licence.proofs.Ends.{end_real}
@@ -29,12 +29,12 @@ module _ (entry year month day : ℕ) where
   today = date year month day
 
   pub left_given : is_licence entry ≡ true → is_date year month day ≡ true
-      → days_left entry year month day ≡ Days (pos (number end) -ℤ pos (number today))
+      → days_left entry year month day ≡ Ok (pos (number end) -ℤ pos (number today))
   unfolding days_left
   left_given p q = rw (p, q)
 
   pub left_refused : is_licence entry && is_date year month day ≡ false
-      → days_left entry year month day ≡ DaysLeft.Refused (numbered 8)
+      → days_left entry year month day ≡ Err (numbered 8)
   unfolding days_left
   left_refused f = rw f
 
@@ -44,7 +44,7 @@ module _ (entry year month day : ℕ) where
     pub date : is_date year month day ≡ true
     pub is : left ≡ pos (number end) -ℤ pos (number today)
 
-  pub left_of : (left : ℤ) → days_left entry year month day ≡ Days left → Left left
+  pub left_of : (left : ℤ) → days_left entry year month day ≡ Ok left → Left left
   left_of left given =
       by_test (is_licence entry && is_date year month day)
       (λ t. let p = both (is_licence entry) (is_date year month day) t in
@@ -52,7 +52,7 @@ module _ (entry year month day : ℕ) where
       record { licence = p.0; date = p.1; is = cc })
       (λ f. let b = left_refused f in clash (cc))
 
-  module _ (left : ℤ) (given : days_left entry year month day ≡ Days left) where
+  module _ (left : ℤ) (given : days_left entry year month day ≡ Ok left) where
     end_is_real : is_real end ≡ true
     end_is_real = end_real entry (left_of left given).licence
 

@@ -7,11 +7,11 @@
 -- Assumes nothing.
 use Rattle.basics.proofs.Prelude.{◌≡◌, ap, subst, true, false, ◌&&◌, ℕ, ◌+◌, ◌^◌, ◌≤◌, ◌<◌, arith, leb}
 use Rattle.basics.proofs.Prelude.{leb-true, le-leb}
+use Rattle.std.specs.Prelude.{Ok, Err}
 use Rattle.basics.proofs.Cases.{by_test, both, clash}
 use Rattle.refusal.specs.Numbers.{numbered}
 use Rattle.calendar.specs.Calendar.{last_year}
 use Rattle.licence.specs.declared.Fields.{Fields}
-use Rattle.licence.specs.declared.Renewal.{Renewal}
 use Rattle.licence.specs.Entry.{copies_place, fields_of, joined, is_licensed, is_licence, Narrow}
 use Rattle.licence.specs.Renewal.{span, kept_day, later, most_years, is_renewable, renewed_of}
 use Rattle.licence.proofs.Licensed.{licensed, licensed_of, narrow}
@@ -65,19 +65,19 @@ module _ (entry years : ℕ) where
       let q = both (is_licence entry) (leb years most_years) p.0 in
       record { licence = q.0; years_most = leb-true _ _ q.1; year_most = leb-true _ _ p.1 }
 
-  pub renewed_when : is_renewable entry years ≡ true → renewed_of entry years ≡ Renewal.Entry (joined moved)
+  pub renewed_when : is_renewable entry years ≡ true → renewed_of entry years ≡ Ok (joined moved)
   unfolding renewed_of
   renewed_when t = rw t
 
-  pub refused_when : is_renewable entry years ≡ false → renewed_of entry years ≡ Renewal.Refused (numbered 8)
+  pub refused_when : is_renewable entry years ≡ false → renewed_of entry years ≡ Err (numbered 8)
   unfolding renewed_of
   refused_when f = rw f
 
-  pub refused_unless : (Renewable entry years → ⊥) → renewed_of entry years ≡ Renewal.Refused (numbered 8)
+  pub refused_unless : (Renewable entry years → ⊥) → renewed_of entry years ≡ Err (numbered 8)
   refused_unless h = by_test (is_renewable entry years) (λ t. absurd (h (renewable t))) refused_when
 
   module _ (allowed : Renewable entry years) where
-    pub allowed_renewed : renewed_of entry years ≡ Renewal.Entry (joined moved)
+    pub allowed_renewed : renewed_of entry years ≡ Ok (joined moved)
     unfolding is_renewable
     allowed_renewed =
         renewed_when
@@ -108,7 +108,7 @@ module _ (entry years : ℕ) where
           state = ap (λ (fields : Fields). fields.state) same_fields;
         }
 
-  pub renewed : (result : ℕ) → renewed_of entry years ≡ Renewal.Entry result → Renewed entry years result
+  pub renewed : (result : ℕ) → renewed_of entry years ≡ Ok result → Renewed entry years result
   renewed result given =
       by_test (is_renewable entry years)
       (λ t. let b = renewed_when t in

@@ -7,14 +7,15 @@
 -- the calendar both answers are the same entry (`once_given`, `both_given`); where it passes it, the one
 -- renewal is refused, and so is the first or the second of the two (`once_passed`, `twice_passed`).
 -- Assumes nothing.
+use Rattle.refusal.specs.declared.Refusal.{Refusal}
 use Rattle.basics.proofs.Prelude.{◌≡◌, refl, sym, ap, ◌∙◌, true, false, ℕ, ◌+◌, ◌≤◌, ◌<◌, arith, leb}
 use Rattle.basics.proofs.Prelude.{eqb-false, eq-eqb, leb-true, leb-false}
+use Rattle.std.specs.Prelude.{Result, Ok, Err}
 use Rattle.basics.proofs.Cases.{by_test}
 use Rattle.refusal.specs.Numbers.{numbered}
 use Rattle.calendar.specs.Calendar.{last_year, leap, month_length, is_date}
 use Rattle.calendar.proofs.Dates.{Real}
 use Rattle.licence.specs.declared.Fields.{Fields}
-use Rattle.licence.specs.declared.Renewal.{Renewal}
 use Rattle.licence.specs.Entry.{fields_of, joined, is_licensed, is_licence}
 use Rattle.licence.specs.Renewal.{span, february, last_of_february, ends_on_last_of_february, kept_day, later}
 use Rattle.licence.specs.Renewal.{is_renewable, renewed_of}
@@ -84,14 +85,14 @@ module _ (entry first second : ℕ) (is : is_licence entry ≡ true) (lengths : 
   -- the one renewal: it is allowed up to the last year
   once_given : fields.year + (first + second) ≤ last_year
       → renewed_of entry (first + second)
-      ≡ Renewal.Entry (joined (later fields (fields.year + (first + second))))
+      ≡ Ok (joined (later fields (fields.year + (first + second))))
   once_given reached =
       allowed_renewed entry (first + second)
       (record { licence = is; years_most = lengths.sum_most; year_most = omega (arith, reached, span_sum) })
-      ∙ ap (λ (years : ℕ). Renewal.Entry (joined (later fields (fields.year + years)))) span_sum
+      ∙ ap (λ (years : ℕ). Ok (joined (later fields (fields.year + years)))) span_sum
 
   once_passed : last_year < fields.year + (first + second)
-      → renewed_of entry (first + second) ≡ Renewal.Refused (numbered 8)
+      → renewed_of entry (first + second) ≡ Err (numbered 8)
   once_passed h = refused_unless entry (first + second) (λ r. omega (arith, r.year_most, span_sum))
 
   -- the first renewal stays in the calendar
@@ -110,14 +111,14 @@ module _ (entry first second : ℕ) (is : is_licence entry ≡ true) (lengths : 
 
     then_second : renewed_twice entry first second ≡ renewed_of between second
     then_second =
-        ap (λ (answer : Renewal). renewed_again answer second) (allowed_renewed entry first first_allowed)
+        ap (λ (answer : Result ℕ Refusal). renewed_again answer second) (allowed_renewed entry first first_allowed)
 
     between_year : (fields_of between).year ≡ fields.year + first
     between_year =
         (is_renewed entry first first_allowed).year ∙ ap (λ (years : ℕ). fields.year + years) span_first
 
     second_passed : last_year < fields.year + (first + second)
-        → renewed_of between second ≡ Renewal.Refused (numbered 8)
+        → renewed_of between second ≡ Err (numbered 8)
     second_passed h =
         refused_unless between second (λ r. omega (arith, r.year_most, between_year, span_second))
 
@@ -143,15 +144,15 @@ module _ (entry first second : ℕ) (is : is_licence entry ≡ true) (lengths : 
       both_given : renewed_twice entry first second ≡ renewed_of entry (first + second)
       both_given =
           then_second ∙ allowed_renewed between second second_allowed
-          ∙ ap (λ (f : Fields). Renewal.Entry (joined f)) same_end
+          ∙ ap (λ (f : Fields). Ok (joined f)) same_end
           ∙ sym (once_given reached)
 
   twice_passed : last_year < fields.year + (first + second)
-      → renewed_twice entry first second ≡ Renewal.Refused (numbered 8)
+      → renewed_twice entry first second ≡ Err (numbered 8)
   twice_passed h =
       by_test (leb (fields.year + first) last_year)
       (λ t. let within = leb-true _ _ t in then_second within ∙ second_passed within h)
-      (λ f. ap (λ (answer : Renewal). renewed_again answer second)
+      (λ f. ap (λ (answer : Result ℕ Refusal). renewed_again answer second)
       (refused_unless entry first
       (λ r. let beyond : last_year < fields.year + first = leb-false _ _ f in
       omega (arith, r.year_most, span_first))))

@@ -6,8 +6,10 @@
 -- pulp is given exactly after the end or to the withdrawn (`pulp_by_date`). Without an answer of days left
 -- the verdict is refused alike (`verdict_refused`).
 -- Assumes nothing.
-use Rattle.basics.proofs.Prelude.{◌≡◌, sym, ◌∙◌, subst, true, false, ◌&&◌, ◌⊎◌, inl, inr, ⊎_elim, ℕ, ◌≤◌}
+use Rattle.refusal.specs.declared.Refusal.{Refusal}
+use Rattle.basics.proofs.Prelude.{◌≡◌, ap, ◌∙◌, subst, true, false, ◌&&◌, ◌⊎◌, inl, inr, ⊎_elim, ℕ, ◌≤◌}
 use Rattle.basics.proofs.Prelude.{arith, eqb, eqb-true, eqb-false, eq-eqb, ne_eqb}
+use Rattle.std.specs.Prelude.{Ok, Result, Err}
 use mathlib.Core.Logic.{◌↔◌}
 use lib.IntN.{ℤ, pos}
 use lib.Signed.{lt_z}
@@ -15,7 +17,6 @@ use Rattle.basics.proofs.Cases.{by_test, by_either, true_or_false}
 use Rattle.refusal.specs.Numbers.{numbered}
 use Rattle.calendar.specs.Calendar.{is_date}
 use Rattle.calendar.specs.Order.{date, earlier}
-use Rattle.licence.specs.declared.DaysLeft.TheVariants.{Days}
 use Rattle.licence.specs.declared.Verdict.{Verdict}
 use Rattle.licence.specs.declared.Verdict.TheVariants.{Pulp, Hold, Print}
 use Rattle.licence.specs.Entry.{fields_of, is_licence, opened, suspended, withdrawn}
@@ -29,7 +30,6 @@ abbrev When : ℤ → ℕ → Verdict → Type 0
 When left state Pulp = (lt_z left (pos 0) ≡ true) ⊎ (state ≡ withdrawn)
 When left state Hold = (lt_z left (pos 0) ≡ false) × (state ≡ suspended)
 When left state Print = (lt_z left (pos 0) ≡ false) × (state ≡ opened)
-When left state (Verdict.Refused why) = ⊥
 
 given_when : (left : ℤ) (state : ℕ) → opened ≤ state → state ≤ withdrawn
     → When left state (verdict_by left state)
@@ -65,36 +65,38 @@ module _ (entry year month day : ℕ) where
   abbrev state : ℕ
   state = (fields_of entry).state
 
-  abbrev verdict : Verdict
+  abbrev verdict : Result Verdict Refusal
   verdict = verdict_of entry year month day
 
   pub verdict_refused : is_licence entry && is_date year month day ≡ false
-      → verdict ≡ Verdict.Refused (numbered 8)
+      → verdict ≡ Err (numbered 8)
   unfolding verdict_of
   verdict_refused f = rw (left_refused entry year month day f)
 
-  module _ (left : ℤ) (given : days_left entry year month day ≡ Days left) where
-    is_by : verdict ≡ verdict_by left state
+  module _ (left : ℤ) (given : days_left entry year month day ≡ Ok left) where
+    is_by : verdict ≡ Ok (verdict_by left state)
     unfolding verdict_of
     is_by = rw given
 
-    only : (answer : Verdict) → verdict ≡ answer → When left state answer
+    only : (answer : Verdict) → verdict ≡ Ok answer → When left state answer
     only answer q =
         let licence = (left_of entry year month day left given).licence in
         let bounds = licensed (fields_of entry) (entry_fields entry licence) in
-        subst (λ (x : Verdict). When left state x) (sym is_by ∙ q)
+        let is = is_by in
+        let same : verdict_by left state ≡ answer = cc in
+        subst (λ (x : Verdict). When left state x) same
         (given_when left state bounds.state_least bounds.state_most)
 
-    pub pulp_when : verdict ≡ Pulp ↔ ((lt_z left (pos 0) ≡ true) ⊎ (state ≡ withdrawn))
-    pulp_when = (only Pulp, λ h. is_by ∙ pulp_given left state h)
+    pub pulp_when : verdict ≡ Ok Pulp ↔ ((lt_z left (pos 0) ≡ true) ⊎ (state ≡ withdrawn))
+    pulp_when = (only Pulp, λ h. is_by ∙ ap Ok (pulp_given left state h))
 
-    pub hold_when : verdict ≡ Hold ↔ ((lt_z left (pos 0) ≡ false) × (state ≡ suspended))
-    hold_when = (only Hold, λ h. is_by ∙ hold_given left state h.0 h.1)
+    pub hold_when : verdict ≡ Ok Hold ↔ ((lt_z left (pos 0) ≡ false) × (state ≡ suspended))
+    hold_when = (only Hold, λ h. is_by ∙ ap Ok (hold_given left state h.0 h.1))
 
-    pub print_when : verdict ≡ Print ↔ ((lt_z left (pos 0) ≡ false) × (state ≡ opened))
-    print_when = (only Print, λ h. is_by ∙ print_given left state h.0 h.1)
+    pub print_when : verdict ≡ Ok Print ↔ ((lt_z left (pos 0) ≡ false) × (state ≡ opened))
+    print_when = (only Print, λ h. is_by ∙ ap Ok (print_given left state h.0 h.1))
 
-    pub pulp_by_date : verdict ≡ Pulp
+    pub pulp_by_date : verdict ≡ Ok Pulp
         ↔ ((earlier (end_of (fields_of entry)) (date year month day) ≡ true) ⊎ (state ≡ withdrawn))
     pulp_by_date =
         let after = after_end entry year month day left given in (

@@ -6,16 +6,14 @@
 -- In order: the places of the fields; splitting and joining; the states; what is a licence entry, the empty
 -- entry, and no entry; the answer of joining any fields; a licence for examples.
 -- Assumes nothing.
-use Rattle.std.specs.Prelude.{ℕ, ◌+◌, ◌^◌, ◌<◌, Bool, cond, not, ◌&&◌, [], ◌∷◌, eqb, leb, ltb}
-use Rattle.std.proofs.Math.Option.{Option, none, some}
+use Rattle.std.specs.Prelude.{ℕ, ◌+◌, ◌^◌, ◌<◌, Bool, cond, not, ◌&&◌, [], ◌∷◌, eqb, leb, ltb, Result}
 use Rattle.basics.specs.Fields.{Place, field, placed}
 use Rattle.refusal.specs.declared.Refusal.{Refusal}
-use Rattle.refusal.specs.Ladder.{◌whenever◌, lowest}
+use Rattle.refusal.specs.Ladder.{◌whenever◌, lowest, or_refused}
 use Rattle.calendar.specs.Calendar.{is_date}
 use Rattle.licence.specs.declared.Fields.{Fields}
 use Rattle.licence.specs.declared.Kind.{Kind}
 use Rattle.licence.specs.declared.Kind.TheVariants.{Licence, Empty, Nothing}
-use Rattle.licence.specs.declared.Joined.{Joined}
 
 -- where each field stands
 abbrev pub year_place : Place
@@ -88,14 +86,9 @@ empty = 0
 unfoldable pub kind_of : ℕ → Kind
 kind_of entry = cond (is_licence entry) Licence (cond (eqb entry empty) Empty Nothing)
 
--- 01's answer: the 'entry' of 40 bits, or refused 8, 'no such entry'
-abbrev pub joined_answer : Option Refusal → ℕ → Joined
-joined_answer none entry = Joined.Entry entry
-joined_answer (some why) entry = Joined.Refused why
-
--- the entry of any fields, refused where they are not a licence's
-unfoldable pub joined_of : Fields → Joined
-joined_of fields = joined_answer (lowest (8 whenever not (is_licensed fields) ∷ [])) (joined fields)
+-- the 'entry' of any fields, or refused 8, 'no such entry', where they are not a licence's
+unfoldable pub joined_of : Fields → Result ℕ Refusal
+joined_of fields = or_refused (lowest (8 whenever not (is_licensed fields) ∷ [])) (joined fields)
 
 -- for examples: an open licence of 40 copies that ends on a date
 abbrev pub ending : ℕ → ℕ → ℕ → Fields

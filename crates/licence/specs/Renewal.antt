@@ -4,13 +4,11 @@
 -- year; the fields with their end in another year; what may be renewed; the answer. Callers go by its laws
 -- (proofs/Renewed.antt), since C-16 changes `span`.
 -- Assumes nothing.
-use Rattle.std.specs.Prelude.{ℕ, ◌+◌, Bool, cond, not, ◌&&◌, [], ◌∷◌, eqb, leb}
-use Rattle.std.proofs.Math.Option.{Option, none, some}
+use Rattle.std.specs.Prelude.{ℕ, ◌+◌, Bool, cond, not, ◌&&◌, [], ◌∷◌, eqb, leb, Result}
 use Rattle.refusal.specs.declared.Refusal.{Refusal}
-use Rattle.refusal.specs.Ladder.{◌whenever◌, lowest}
+use Rattle.refusal.specs.Ladder.{◌whenever◌, lowest, or_refused}
 use Rattle.calendar.specs.Calendar.{last_year, leap, month_length}
 use Rattle.licence.specs.declared.Fields.{Fields}
-use Rattle.licence.specs.declared.Renewal.{Renewal}
 use Rattle.licence.specs.Entry.{fields_of, joined, is_licence}
 
 -- the years that a renewal adds: 0 means 1
@@ -53,13 +51,8 @@ unfoldable pub is_renewable : ℕ → ℕ → Bool
 is_renewable entry years =
     is_licence entry && leb years most_years && leb ((fields_of entry).year + span years) last_year
 
--- 01's answer: the 'entry' renewed, or refused 8, 'no such entry'
-abbrev pub renewal_answer : Option Refusal → ℕ → Renewal
-renewal_answer none entry = Renewal.Entry entry
-renewal_answer (some why) entry = Renewal.Refused why
-
--- the entry renewed, refused where it may not be
-unfoldable pub renewed_of : ℕ → ℕ → Renewal
+-- the 'entry' renewed, or refused 8, 'no such entry', where it may not be
+unfoldable pub renewed_of : ℕ → ℕ → Result ℕ Refusal
 renewed_of entry years =
-    renewal_answer (lowest (8 whenever not (is_renewable entry years) ∷ []))
+    or_refused (lowest (8 whenever not (is_renewable entry years) ∷ []))
     (joined (later (fields_of entry) ((fields_of entry).year + span years)))

@@ -6,9 +6,9 @@ ghost use Rattle.std.specs.Prelude.{◌≡◌, ◌^◌, ◌<◌, pos, ◌-ℤ◌
 ghost use Rattle.licence.specs.Entry.{fields_of, joined, Narrow, is_licensed, is_licence, kind_of};
 ghost use Rattle.licence.specs.Entry.{joined_of};
 ghost use Rattle.licence.specs.Renewal.{span, last_of_february, kept_day, later, renewed_of};
-ghost use Rattle.licence.specs.Verdict.{days_left, verdict_by, verdict_of};
+ghost use Rattle.licence.specs.Verdict.{days_left, end_of, verdict_by, verdict_of};
 
-use calendar::DayNumber;
+use calendar::Date;
 use refusal::Refusal;
 
 // Where each field stands, and the mask of its width.
@@ -79,11 +79,22 @@ fn packed(fields: Fields) -> u64
         | (fields.state as u64)
 }
 
+// The licence's last day.
+fn end_of(fields: Fields) -> Date
+    ensures { result ≡ end_of fields }
+{
+    Date {
+        year: fields.year,
+        month: fields.month,
+        day: fields.day,
+    }
+}
+
 // Whether fields are those of a licence.
 fn is_licensed(fields: Fields) -> bool
     ensures { result ≡ is_licensed fields }
 {
-    if !calendar::is_date(fields.year, fields.month, fields.day) {
+    if !calendar::is_date(end_of(fields)) {
         return false;
     }
     if fields.state < OPEN {
@@ -122,19 +133,13 @@ pub fn kind_of(entry: u64) -> Kind
 }
 
 // The entry of some fields.
-#[derive(Clone, Copy)]
-pub enum Joined {
-    Entry(u64),
-    Refused(Refusal),
-}
-
-pub fn join(fields: Fields) -> Joined
+pub fn join(fields: Fields) -> Result<u64, Refusal>
     ensures { result ≡ joined_of fields }
 {
     if !is_licensed(fields) {
-        return Joined::Refused(Refusal::NoEntry);
+        return Err(Refusal::NoEntry);
     }
-    Joined::Entry(packed(fields))
+    Ok(packed(fields))
 }
 
 // The years that a renewal adds.
@@ -167,42 +172,27 @@ fn moved(fields: Fields, year: u16) -> Fields
 {
     Fields {
         year,
-        month: fields.month,
         day: kept_day(fields, year),
-        copies: fields.copies,
-        state: fields.state,
+        ..fields
     }
 }
 
-// A renewed entry.
-#[derive(Clone, Copy)]
-pub enum Renewal {
-    Entry(u64),
-    Refused(Refusal),
-}
-
-pub fn renew(entry: u64, years: u8) -> Renewal
+// The entry renewed by some years.
+pub fn renew(entry: u64, years: u8) -> Result<u64, Refusal>
     ensures { result ≡ renewed_of entry years }
 {
     if !is_licence(entry) {
-        return Renewal::Refused(Refusal::NoEntry);
+        return Err(Refusal::NoEntry);
     }
     if MOST_YEARS < years {
-        return Renewal::Refused(Refusal::NoEntry);
+        return Err(Refusal::NoEntry);
     }
     let fields = split(entry);
     let year = fields.year + years_added(years) as u16;
     if calendar::LAST_YEAR < year {
-        return Renewal::Refused(Refusal::NoEntry);
+        return Err(Refusal::NoEntry);
     }
-    Renewal::Entry(packed(moved(fields, year)))
-}
-
-// The days from a day to the licence's last: 0 on the last, negative afterwards.
-#[derive(Clone, Copy)]
-pub enum DaysLeft {
-    Days(i32),
-    Refused(Refusal),
+    Ok(packed(moved(fields, year)))
 }
 
 // The days from one day number to another, which the calendar keeps far below 2 ^ 31.
@@ -213,29 +203,24 @@ fn difference(last: u32, today: u32) -> i32
     (last as i32) - (today as i32)
 }
 
-pub fn days_left(entry: u64, year: u16, month: u8, day: u8) -> DaysLeft
-    ensures { result ≡ days_left entry year month day }
+// The days from a day to the licence's last: 0 on the last, negative afterwards.
+pub fn days_left(entry: u64, on: Date) -> Result<i32, Refusal>
+    ensures { result ≡ days_left entry on.year on.month on.day }
 {
     if !is_licence(entry) {
-        return DaysLeft::Refused(Refusal::NoEntry);
+        return Err(Refusal::NoEntry);
     }
-    let fields = split(entry);
-    let DayNumber::Day(last) = calendar::day_number(fields.year, fields.month, fields.day) else {
-        return DaysLeft::Refused(Refusal::NoEntry);
-    };
-    let DayNumber::Day(today) = calendar::day_number(year, month, day) else {
-        return DaysLeft::Refused(Refusal::NoEntry);
-    };
-    DaysLeft::Days(difference(last, today))
+    let last = calendar::day_number(end_of(split(entry)))?;
+    let today = calendar::day_number(on)?;
+    Ok(difference(last, today))
 }
 
 // What to do with the copies on a day.
-#[derive(Clone, Copy)]
+#[derive(Clone, Copy, Debug, PartialEq, Eq)]
 pub enum Verdict {
     Pulp,
     Hold,
     Print,
-    Refused(Refusal),
 }
 
 #[tactic(auto, unfolding(crate::specs::Verdict::verdict_by))]
@@ -254,11 +239,9 @@ fn judge(left: i32, state: u8) -> Verdict
     Verdict::Print
 }
 
-pub fn verdict_on(entry: u64, year: u16, month: u8, day: u8) -> Verdict
-    ensures { result ≡ verdict_of entry year month day }
+pub fn verdict_on(entry: u64, on: Date) -> Result<Verdict, Refusal>
+    ensures { result ≡ verdict_of entry on.year on.month on.day }
 {
-    match days_left(entry, year, month, day) {
-        DaysLeft::Days(left) => judge(left, split(entry).state),
-        DaysLeft::Refused(refusal) => Verdict::Refused(refusal),
-    }
+    let left = days_left(entry, on)?;
+    Ok(judge(left, split(entry).state))
 }

@@ -6,12 +6,12 @@
 -- Assumes nothing.
 use Rattle.basics.proofs.Prelude.{◌≡◌, refl, sym, ap, ◌∙◌, Bool, true, cond, ◌&&◌, [], ◌∷◌, ℕ, ◌+◌, ◌*◌}
 use Rattle.basics.proofs.Prelude.{◌/◌, ◌%◌, ◌^◌, ◌<◌, arith, eqb, eqb-true, eq-eqb}
+use Rattle.std.specs.Prelude.{Ok}
 use lib.Bits.{bit_and, and_mask}
 use Rattle.basics.proofs.Cases.{by_test, both, both_of, true_or_false}
 use Rattle.message.specs.declared.Message.{Message}
 use Rattle.message.specs.declared.Message.TheVariants.{GetInfo, Info, Done, WriteInfo, Fwd, WriteAck}
-use Rattle.message.specs.declared.Unpacked.{Unpacked}
-use Rattle.message.specs.declared.Unpacked.TheVariants.{Good}
+use Rattle.message.specs.Layout.{Unpacked}
 use Rattle.message.specs.declared.Words.{Words}
 use Rattle.message.specs.Pair.{client_bits, entry_bits, pair_bits, client_at, counter_at, pair_of}
 use Rattle.message.specs.Layout.{tag_bits, last_read, kind_of, tag_of, counter_of, client_of, entry_of}
@@ -63,7 +63,7 @@ zero_low low =
 
 -- as `kind` of Layout, with one test
 abbrev pub case : ℕ → ℕ → Bool → Message → Unpacked → Unpacked
-case kind expected fine message other = cond (eqb kind expected) (cond fine (Good message) malformed) other
+case kind expected fine message other = cond (eqb kind expected) (cond fine (Ok message) malformed) other
 
 -- by kind, tag and low bits
 unfoldable pub by_words : ℕ → ℕ → ℕ → Unpacked

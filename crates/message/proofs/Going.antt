@@ -5,27 +5,27 @@
 -- go the other way.
 -- Assumes nothing.
 use Rattle.basics.proofs.Prelude.{◌≡◌, refl, Bool, true, false, cond, ◌&&◌, ℕ, ◌/◌, ◌%◌, ◌^◌, eqb, ne_eqb}
+use Rattle.std.specs.Prelude.{Ok}
 use Rattle.basics.proofs.Cases.{true_or_false}
 use Rattle.message.specs.declared.Message.{Message}
 use Rattle.message.specs.declared.Message.TheVariants.{GetInfo, Info, Done, WriteInfo, Fwd, WriteAck}
-use Rattle.message.specs.declared.Unpacked.{Unpacked}
-use Rattle.message.specs.declared.Unpacked.TheVariants.{Good}
+use Rattle.message.specs.Layout.{Unpacked}
 use Rattle.message.specs.Layout.{is_reply, goes, malformed}
 use Rattle.message.specs.Pair.{counter_at}
 use Rattle.message.proofs.Fields.{by_words}
 
 abbrev pub if_fine : Bool → Message → Unpacked
-if_fine test message = cond test (Good message) malformed
+if_fine test message = cond test (Ok message) malformed
 
 fine : (down test : Bool) (message : Message) → goes down (if_fine test message) ≡ true
-    → Good message ≡ if_fine test message
+    → Ok message ≡ if_fine test message
 unfolding goes
 fine down true message g = refl
 fine down false message g = absurd (true_or_false false g refl)
 
 -- of three messages, each by its test, all go the other way: so none goes this way
 none_goes : (down is_one is_two is_three fine_one fine_two fine_three : Bool) (one two three : Message)
-    → goes down (Good one) ≡ false → goes down (Good two) ≡ false → goes down (Good three) ≡ false
+    → goes down (Ok one) ≡ false → goes down (Ok two) ≡ false → goes down (Ok three) ≡ false
     → goes down (cond is_one (if_fine fine_one one)
     (cond is_two (if_fine fine_two two) (cond is_three (if_fine fine_three three) malformed)))
     ≡ false
@@ -40,7 +40,7 @@ none_goes down false false false fine_one fine_two fine_three one two three p q 
 
 -- by kind, tag and low bits, as the code asks
 pub kind_known : (down test : Bool) (message : Message) {found : Unpacked} → found ≡ if_fine test message
-    → goes down found ≡ true → Good message ≡ found
+    → goes down found ≡ true → Ok message ≡ found
 kind_known down test message e g = rw e (fine down test message (rw e at g))
 
 module _ (kind tag low : ℕ) where

@@ -7,14 +7,14 @@
 -- Assumes nothing.
 use Rattle.basics.proofs.Prelude.{◌≡◌, refl, sym, ap, ◌∙◌, subst, Bool, true, cond, ◌&&◌, ℕ, ◌+◌, ◌*◌, ◌/◌}
 use Rattle.basics.proofs.Prelude.{◌%◌, ◌^◌, ◌<◌, arith, eqb, ltb, eqb-true, eq-eqb, ltb-true, lt-ltb}
+use Rattle.std.specs.Prelude.{Ok}
 use native.Mathlib.Nat.{mod-lt, mod-mod, mod-eq_of_lt}
 use lib.Pow.{split, pow_pos, shl-shr, shr_lt}
 use lib.Pow as pow
 use Rattle.basics.proofs.Cases.{by_test, both, both_of}
 use Rattle.message.specs.declared.Message.{Message}
 use Rattle.message.specs.declared.Message.TheVariants.{GetInfo, Info, Done, WriteInfo, Fwd, WriteAck}
-use Rattle.message.specs.declared.Unpacked.{Unpacked}
-use Rattle.message.specs.declared.Unpacked.TheVariants.{Good}
+use Rattle.message.specs.Layout.{Unpacked}
 use Rattle.message.specs.declared.Words.{Words}
 use Rattle.message.specs.Pair.{counter_bits, client_bits, entry_bits, pair_bits, client_at, counter_at}
 use Rattle.message.specs.Pair.{counter, client, entry}
@@ -88,47 +88,47 @@ whole : (x n : ℕ) → ltb x n ≡ true → x % n ≡ x
 whole x n w = mod-eq_of_lt (ltb-true x n w)
 
 by_head : (message : Message) → well_formed message ≡ true
-    → by_words (head_of message / 2 ^ tag_bits) (head_of message % 2 ^ tag_bits) (low_of message) ≡ Good message
+    → by_words (head_of message / 2 ^ tag_bits) (head_of message % 2 ^ tag_bits) (low_of message) ≡ Ok message
 unfolding well_formed by_words
 by_head (GetInfo tag) w =
     of_head 1 (tag.0 % 2 ^ tag_bits) 0 (mod-lt tag.0 (pow_pos tag_bits))
-    ∙ ap (λ (tag : ℕ). Good (GetInfo (record { 0 = tag }))) (whole tag.0 (2 ^ tag_bits) w)
+    ∙ ap (λ (tag : ℕ). Ok (GetInfo (record { 0 = tag }))) (whole tag.0 (2 ^ tag_bits) w)
 by_head (Info tag pair) w =
     let b = both (ltb tag.0 (2 ^ tag_bits)) (ltb pair.0 (2 ^ pair_bits)) w in
     let low = pair.0 % 2 ^ pair_bits in
     of_head 2 (tag.0 % 2 ^ tag_bits) (pair.0 % 2 ^ pair_bits) (mod-lt tag.0 (pow_pos tag_bits))
-    ∙ ap (λ (tag : ℕ). Good (Info (record { 0 = tag }) (record { 0 = low })))
+    ∙ ap (λ (tag : ℕ). Ok (Info (record { 0 = tag }) (record { 0 = low })))
     (whole tag.0 (2 ^ tag_bits) b.0)
-    ∙ ap (λ (low : ℕ). Good (Info tag (record { 0 = low }))) (whole pair.0 (2 ^ pair_bits) b.1)
+    ∙ ap (λ (low : ℕ). Ok (Info tag (record { 0 = low }))) (whole pair.0 (2 ^ pair_bits) b.1)
 by_head Done w = refl
 by_head (WriteInfo pair) w =
-    ap (λ (low : ℕ). Good (WriteInfo (record { 0 = low }))) (whole pair.0 (2 ^ pair_bits) w)
-by_head (Fwd pair) w = ap (λ (low : ℕ). Good (Fwd (record { 0 = low }))) (whole pair.0 (2 ^ pair_bits) w)
+    ap (λ (low : ℕ). Ok (WriteInfo (record { 0 = low }))) (whole pair.0 (2 ^ pair_bits) w)
+by_head (Fwd pair) w = ap (λ (low : ℕ). Ok (Fwd (record { 0 = low }))) (whole pair.0 (2 ^ pair_bits) w)
 by_head (WriteAck count) w =
     rw (
       whole count.0 (2 ^ counter_bits) w,
       eq-eqb (count.0 * 2 ^ counter_at % 2 ^ counter_at) 0 (omega arith),
-    ) (ap (λ (n : ℕ). Good (WriteAck (record { 0 = n }))) (shl-shr count.0 counter_at))
+    ) (ap (λ (n : ℕ). Ok (WriteAck (record { 0 = n }))) (shl-shr count.0 counter_at))
 
-pub found : (message : Message) → well_formed message ≡ true → message_of (number_of message) ≡ Good message
+pub found : (message : Message) → well_formed message ≡ true → message_of (number_of message) ≡ Ok message
 found message w =
     ap message_of (number_words message) ∙ by_words_lem (head_of message) (low_of message) (low_lt message)
     ∙ by_head message w
 
 -- ---- the message found has that number
 
-pub no_message : (message : Message) → malformed ≡ Good message → ⊥
+pub no_message : (message : Message) → malformed ≡ Ok message → ⊥
 no_message message e = let z : ◌≡◌ {A = ℕ} 0 1 = cc in omega arith
 
 -- what is true of the message of each kind is true of the message found
 by_case : (P : Message → Type 0) (kind expected : ℕ) (fine : Bool) (this : Message) (other : Unpacked)
     (message : Message)
-    → case kind expected fine this other ≡ Good message → (kind ≡ expected → fine ≡ true → P this)
-    → (other ≡ Good message → P message) → P message
+    → case kind expected fine this other ≡ Ok message → (kind ≡ expected → fine ≡ true → P this)
+    → (other ≡ Ok message → P message) → P message
 by_case P kind expected fine this other message e holds next =
     by_test (eqb kind expected)
-    (λ same. let e' : cond fine (Good this) malformed ≡ Good message = rw same at e in
-    by_test fine (λ f. let g : Good this ≡ Good message = rw f at e' in
+    (λ same. let e' : cond fine (Ok this) malformed ≡ Ok message = rw same at e in
+    by_test fine (λ f. let g : Ok this ≡ Ok message = rw f at e' in
     subst P (cc) (holds (eqb-true kind expected same) f)) (λ f. absurd (no_message message (rw f at e'))))
     (λ differ. next (rw differ at e))
 
@@ -193,7 +193,7 @@ module _ (kind tag low : ℕ) (narrow : tag < 2 ^ tag_bits) (small : low < 2 ^ p
         within = lt-ltb (low / 2 ^ counter_at) (2 ^ counter_bits) (shr_lt counter_bits counter_at small);
       }
 
-  by_kind : (message : Message) → by_words kind tag low ≡ Good message → Found (three kind tag low) message
+  by_kind : (message : Message) → by_words kind tag low ≡ Ok message → Found (three kind tag low) message
   unfolding by_words
   by_kind message e =
       let P : Message → Type 0 = Found (three kind tag low) in
@@ -202,7 +202,7 @@ module _ (kind tag low : ℕ) (narrow : tag < 2 ^ tag_bits) (small : low < 2 ^ p
       (λ e. by_case P kind 5 _ _ _ message e fwd
       (λ e. by_case P kind 6 _ _ _ message e write_ack (λ e. absurd (no_message message e)))))))
 
-pub only : (n : ℕ) (message : Message) → message_of n ≡ Good message → Found n message
+pub only : (n : ℕ) (message : Message) → message_of n ≡ Ok message → Found n message
 only n message e =
     let head = n / 2 ^ pair_bits in
     let low = n % 2 ^ pair_bits in

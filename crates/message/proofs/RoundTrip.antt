@@ -7,12 +7,12 @@
 -- Assumes nothing.
 use Rattle.basics.proofs.Prelude.{◌≡◌, sym, ap, ◌∙◌, true, ◌&&◌, List, length, ℕ, ◌^◌, ◌<◌, arith, eqb}
 use Rattle.basics.proofs.Prelude.{eqb-true, eq-eqb}
+use Rattle.std.specs.Prelude.{Ok}
 use lib.Pow.{are_bytes, split}
 use Rattle.basics.specs.Bytes.{big_endian, spelt}
 use Rattle.basics.proofs.Bytes.{bytes_length, bytes_are, spelt_is, bytes_back}
 use Rattle.basics.proofs.Cases.{by_test, both}
 use Rattle.message.specs.declared.Message.{Message}
-use Rattle.message.specs.declared.Unpacked.TheVariants.{Good}
 use Rattle.message.specs.Layout.{message_bytes, number_of, malformed, message_of, well_formed, bytes_of}
 use Rattle.message.specs.Layout.{unpack_of, words, words_number, words_of}
 use Rattle.message.specs.Pair.{pair_bits}
@@ -34,7 +34,7 @@ pub packed_length : (message : Message) → length (bytes_of message) ≡ messag
 packed_length message = bytes_length message_bytes (number_of message)
 
 -- .. that unpack to it
-pub unpack_pack : (message : Message) → well_formed message ≡ true → unpack_of (bytes_of message) ≡ Good message
+pub unpack_pack : (message : Message) → well_formed message ≡ true → unpack_of (bytes_of message) ≡ Ok message
 unpack_pack message within =
     unpack_bytes (bytes_of message) (packed_length message) (bytes_are message_bytes (number_of message))
     ∙ ap message_of (spelt_is message_bytes (number_of message) (number_lt message)) ∙ found message within
@@ -44,7 +44,7 @@ pub record Unpacks (bytes : List ℕ) (message : Message) : Type 0 where
   pub packing : bytes_of message ≡ bytes
   pub within : well_formed message ≡ true
 
-pub pack_unpack : (bytes : List ℕ) (message : Message) → unpack_of bytes ≡ Good message → Unpacks bytes message
+pub pack_unpack : (bytes : List ℕ) (message : Message) → unpack_of bytes ≡ Ok message → Unpacks bytes message
 unfolding unpack_of
 pack_unpack bytes message e =
     by_test (eqb (length bytes) message_bytes && are_bytes bytes)
@@ -60,8 +60,8 @@ pack_unpack bytes message e =
     (λ t. absurd (no_message message (rw t at e)))
 
 -- so a message unpacks from one list only, and one list to one message only
-pub one_packing : (bytes others : List ℕ) (message : Message) → unpack_of bytes ≡ Good message
-    → unpack_of others ≡ Good message → bytes ≡ others
+pub one_packing : (bytes others : List ℕ) (message : Message) → unpack_of bytes ≡ Ok message
+    → unpack_of others ≡ Ok message → bytes ≡ others
 one_packing bytes others message p q =
     sym (pack_unpack bytes message p).packing ∙ (pack_unpack others message q).packing
 
@@ -79,7 +79,7 @@ packing_spells message = spelt_is message_bytes (number_of message) (number_lt m
 
 -- its words are its own
 pub of_words_of : (message : Message) → well_formed message ≡ true
-    → message_of (words_number (words_of message)) ≡ Good message
+    → message_of (words_number (words_of message)) ≡ Ok message
 of_words_of message within = ap message_of (words_number_lem message) ∙ found message within
 
 -- the words of eleven bytes hold the message that the bytes unpack to

@@ -7,16 +7,16 @@
 -- packing answers is in `Packing`.
 -- Assumes nothing.
 use Rattle.std.specs.Prelude.{ℕ, ◌+◌, ◌-◌, ◌*◌, ◌/◌, ◌%◌, ◌^◌, Bool, true, false, cond, not, ◌&&◌, List, [], ◌∷◌, eqb, ltb, length}
+use Rattle.std.specs.Prelude.{Result, Ok, Err}
 use Rattle.std.proofs.Math.Pow.{are_bytes}
 use Rattle.basics.specs.Bytes.{big_endian, spelt}
 use Rattle.basics.specs.Fields.{Place, field, placed}
+use Rattle.refusal.specs.declared.Refusal.{Refusal}
 use Rattle.refusal.specs.Numbers.{numbered}
 use Rattle.message.specs.declared.Message.{Message}
 use Rattle.message.specs.declared.Message.TheVariants.{GetInfo, Info, Done, WriteInfo, Fwd, WriteAck}
 use Rattle.message.specs.declared.Pair.{Pair}
 use Rattle.message.specs.declared.ReadNumber.{ReadNumber}
-use Rattle.message.specs.declared.Unpacked.{Unpacked}
-use Rattle.message.specs.declared.Unpacked.TheVariants.{Good, Refused}
 use Rattle.message.specs.declared.Words.{Words}
 use Rattle.message.specs.declared.WriteCounter.{WriteCounter}
 use Rattle.message.specs.Pair.{pair_bits, client_at, counter_at, counter, client, entry, pair_of}
@@ -115,9 +115,13 @@ write_counter_of number = record { 0 = counter_of number }
 abbrev pub pair_in : ℕ → Pair
 pair_in number = pair_of (write_counter_of number) (client_of number) (record { 0 = entry_of number })
 
+-- what numbers and bytes stand for: a message, or a refusal
+abbrev pub Unpacked : Type 0
+Unpacked = Result Message Refusal
+
 -- what is no message is refused 9
 abbrev pub malformed : Unpacked
-malformed = Refused (numbered 9)
+malformed = Err (numbered 9)
 
 -- every number of the list is zero
 abbrev pub zeros : List ℕ → Bool
@@ -128,7 +132,7 @@ zeros (value ∷ values) = eqb value 0 && zeros values
 -- kind is `other`
 abbrev pub kind : ℕ → ℕ → List ℕ → Message → Unpacked → Unpacked
 kind number expected unused message other =
-    cond (eqb (kind_of number) expected) (cond (zeros unused) (Good message) malformed) other
+    cond (eqb (kind_of number) expected) (cond (zeros unused) (Ok message) malformed) other
 
 -- kind, unused fields, and the message of the used ones
 unfoldable pub message_of : ℕ → Unpacked
@@ -155,8 +159,8 @@ is_reply (WriteAck count) = true
 -- a message goes down, from a server to a client, or up to a server; what is no message goes neither way
 unfoldable pub goes : Bool → Unpacked → Bool
 unfolding is_reply
-goes down (Good message) = cond down (is_reply message) (not (is_reply message))
-goes down (Refused why) = false
+goes down (Ok message) = cond down (is_reply message) (not (is_reply message))
+goes down (Err why) = false
 
 abbrev pub goes_up : Unpacked → Bool
 goes_up = goes false

@@ -15,25 +15,24 @@ use basics::OVER_32;
 use refusal::Refusal;
 
 // The number of a client's read (01: the tag). Never a write counter, although document 001 calls both
-// my_ctr: only the functions below read it, and none has both.
-#[derive(Clone, Copy)]
+// my_ctr: only what stands below reads it, and nothing has both.
+#[derive(Clone, Copy, PartialEq, Eq)]
 pub struct ReadNumber(u32);
 
 // The counter of a write, half of its timestamp.
-#[derive(Clone, Copy)]
+#[derive(Clone, Copy, PartialEq, Eq)]
 pub struct WriteCounter(u32);
 
 // The forty bits of a licence's end, whatever they say.
 #[derive(Clone, Copy)]
 pub struct Entry(pub u64);
 
-// Counter and client in 24 bits, counter * 16 + client, so that the order of timestamps is the order of
-// numbers.
-#[derive(Clone, Copy)]
+// Counter and client in 24 bits, counter * 16 + client: the order of timestamps is that of the numbers.
+#[derive(Clone, Copy, PartialEq, Eq, PartialOrd, Ord)]
 pub struct Timestamp(pub u32);
 
-// Timestamp and entry in 64 bits: counter 20, client 4, entry 40.
-#[derive(Clone, Copy)]
+// Timestamp and entry in 64 bits: counter 20, client 4, entry 40. Pairs are in order by timestamp, then by entry.
+#[derive(Clone, Copy, PartialEq, Eq, PartialOrd, Ord)]
 pub struct Pair(pub u64);
 
 // A message by its kind.
@@ -47,23 +46,9 @@ pub enum Message {
     WriteAck(WriteCounter), // 6
 }
 
-// The message of bytes, or the refusal of those that are none: always 9.
-#[derive(Clone, Copy)]
-pub enum Unpacked {
-    Good(Message),
-    Refused(Refusal),
-}
-
 // The eleven bytes as two numbers: the first three, and the last eight.
 #[derive(Clone, Copy)]
 pub struct Words(pub u32, pub u64);
-
-// What packing answers.
-#[derive(Clone, Copy)]
-pub enum Packed {
-    Done,
-    Refused(Refusal),
-}
 
 // The bytes of a message's first word, of its second, and of all.
 pub const HEAD_BYTES: usize = 3;
@@ -113,12 +98,6 @@ const OVER_COUNTER: u32 = COUNTER_MASK + 1;
 
 // ---- read numbers
 
-pub fn same_read(tag: ReadNumber, other: ReadNumber) -> bool
-    ensures { result ≡ eqb tag.0 other.0 }
-{
-    tag.0 == other.0
-}
-
 // No higher one follows.
 pub fn is_last_read(tag: ReadNumber) -> bool
     ensures { result ≡ leb last_read tag.0 }
@@ -140,26 +119,22 @@ pub fn fits_read(word: u64) -> bool
     word < OVER_TAG as u64
 }
 
-// The read number of a word, of which the low 32 bits count, and its word.
+// The read number of a word, of which the low 32 bits count.
 pub fn read_from(word: u64) -> ReadNumber
     ensures { result ≡ record { 0 = word % 2 ^ 32 } }
 {
     ReadNumber((word % OVER_32) as u32)
 }
 
-pub fn read_word(tag: ReadNumber) -> u64
-    ensures { result ≡ tag.0 }
-{
-    tag.0 as u64
+impl From<ReadNumber> for u64 {
+    ghost from_gives = { λ tag word. word ≡ tag.0 };
+
+    fn from(tag: ReadNumber) -> u64 {
+        tag.0 as u64
+    }
 }
 
 // ---- write counters
-
-pub fn same_counter(count: WriteCounter, other: WriteCounter) -> bool
-    ensures { result ≡ eqb count.0 other.0 }
-{
-    count.0 == other.0
-}
 
 // It is the highest.
 pub fn is_last_counter(count: WriteCounter) -> bool
@@ -182,17 +157,19 @@ pub fn fits_counter(word: u64) -> bool
     word < OVER_COUNTER as u64
 }
 
-// The counter of a word, of which the low 32 bits count, and its word.
+// The counter of a word, of which the low 32 bits count.
 pub fn counter_from(word: u64) -> WriteCounter
     ensures { result ≡ record { 0 = word % 2 ^ 32 } }
 {
     WriteCounter((word % OVER_32) as u32)
 }
 
-pub fn counter_word(count: WriteCounter) -> u64
-    ensures { result ≡ count.0 }
-{
-    count.0 as u64
+impl From<WriteCounter> for u64 {
+    ghost from_gives = { λ count word. word ≡ count.0 };
+
+    fn from(count: WriteCounter) -> u64 {
+        count.0 as u64
+    }
 }
 
 // ---- pairs
@@ -219,20 +196,6 @@ pub fn stamp_of(pair: Pair) -> Timestamp
     ensures { result.0 ≡ stamp pair }
 {
     Timestamp((pair.0 >> CLIENT_AT) as u32)
-}
-
-// Whether the first is the lower pair: by timestamp, then by entry.
-pub fn is_below(pair: Pair, other: Pair) -> bool
-    ensures { result ≡ below pair other }
-{
-    pair.0 < other.0
-}
-
-// Whether the first has the lower timestamp.
-pub fn is_earlier(pair: Pair, other: Pair) -> bool
-    ensures { result ≡ ltb (stamp pair) (stamp other) }
-{
-    pair.0 >> CLIENT_AT < other.0 >> CLIENT_AT
 }
 
 // The pair of a counter, the client that writes, and an entry.
@@ -271,20 +234,20 @@ pub fn words_of(message: Message) -> Words
 }
 
 // The message, if what it does not use of the tag and the low bits is zero.
-fn if_zero(tag: u32, low: u64, message: Message) -> Unpacked
-    ensures { result ≡ cond (eqb tag 0 && eqb low 0) (Unpacked.Good message) malformed }
+fn if_zero(tag: u32, low: u64, message: Message) -> Result<Message, Refusal>
+    ensures { result ≡ cond (eqb tag 0 && eqb low 0) (Ok message) malformed }
 {
     if tag != 0 {
-        return Unpacked::Refused(Refusal::Malformed);
+        return Err(Refusal::Malformed);
     }
     if low != 0 {
-        return Unpacked::Refused(Refusal::Malformed);
+        return Err(Refusal::Malformed);
     }
-    Unpacked::Good(message)
+    Ok(message)
 }
 
-// The message of a number.
-pub fn of_words(words: Words) -> Unpacked
+// The message of a number, or the refusal of one that is none: always 9.
+pub fn of_words(words: Words) -> Result<Message, Refusal>
     ensures { result ≡ message_of (words_number words) }
 {
     let kind = words.0 >> KIND_AT;
@@ -292,7 +255,7 @@ pub fn of_words(words: Words) -> Unpacked
     let low = words.1;
     match kind {
         1 => if_zero(0, low, Message::GetInfo(ReadNumber(tag))),
-        2 => Unpacked::Good(Message::Info(ReadNumber(tag), Pair(low))),
+        2 => Ok(Message::Info(ReadNumber(tag), Pair(low))),
         3 => if_zero(tag, low, Message::Done),
         4 => if_zero(tag, 0, Message::WriteInfo(Pair(low))),
         5 => if_zero(tag, 0, Message::Fwd(Pair(low))),
@@ -301,45 +264,45 @@ pub fn of_words(words: Words) -> Unpacked
             low & BEHIND_COUNTER,
             Message::WriteAck(WriteCounter((low >> COUNTER_AT) as u32)),
         ),
-        _ => Unpacked::Refused(Refusal::Malformed),
+        _ => Err(Refusal::Malformed),
     }
 }
 
 // The message of a number that is known to go up to a server, or down from one, as on a sound channel: the
 // kind alone tells which. By what is known no other kind comes here, so the last line is never reached.
-pub fn request_of(words: Words) -> Unpacked
+pub fn request_of(words: Words) -> Result<Message, Refusal>
     requires { goes false (message_of (words_number words)) ≡ true }
     ensures { result ≡ message_of (words_number words) }
 {
     let kind = words.0 >> KIND_AT;
     if kind == 1 {
-        return Unpacked::Good(Message::GetInfo(ReadNumber(words.0 & TAG_MASK)));
+        return Ok(Message::GetInfo(ReadNumber(words.0 & TAG_MASK)));
     }
     if kind == 4 {
-        return Unpacked::Good(Message::WriteInfo(Pair(words.1)));
+        return Ok(Message::WriteInfo(Pair(words.1)));
     }
     if kind == 3 {
-        return Unpacked::Good(Message::Done);
+        return Ok(Message::Done);
     }
-    Unpacked::Refused(Refusal::Malformed)
+    Err(Refusal::Malformed)
 }
 
-pub fn reply_of(words: Words) -> Unpacked
+pub fn reply_of(words: Words) -> Result<Message, Refusal>
     requires { goes true (message_of (words_number words)) ≡ true }
     ensures { result ≡ message_of (words_number words) }
 {
     let kind = words.0 >> KIND_AT;
     if kind == 5 {
-        return Unpacked::Good(Message::Fwd(Pair(words.1)));
+        return Ok(Message::Fwd(Pair(words.1)));
     }
     if kind == 6 {
         let counter = WriteCounter((words.1 >> COUNTER_AT) as u32);
-        return Unpacked::Good(Message::WriteAck(counter));
+        return Ok(Message::WriteAck(counter));
     }
     if kind == 2 {
-        return Unpacked::Good(Message::Info(ReadNumber(words.0 & TAG_MASK), Pair(words.1)));
+        return Ok(Message::Info(ReadNumber(words.0 & TAG_MASK), Pair(words.1)));
     }
-    Unpacked::Refused(Refusal::Malformed)
+    Err(Refusal::Malformed)
 }
 
 // ---- words as bytes
@@ -349,12 +312,8 @@ fn write_bytes(number: u64, count: usize, out: &mut [u8], at: usize)
     requires { (count ≤ 8) × (at + count ≤ length out.old) }
     ensures { out.new ≡ sets out.old at (big_endian count number) }
 {
-    let mut rest = count;
-    let mut i = at;
-    while 0 < rest {
-        rest -= 1;
-        out[i] = basics::byte(number, (8 * rest) as u32);
-        i += 1;
+    for i in 0..count {
+        out[at + i] = basics::byte(number, (8 * (count - 1 - i)) as u32);
     }
 }
 
@@ -364,11 +323,9 @@ fn read_bytes(bytes: &[u8], at: usize, count: usize) -> u64
     ensures within { result < 256 ^ count }
     ensures spelt { result ≡ spelt 0 (take count (drop at bytes.now)) }
 {
-    let mut number: u64 = 0;
-    let mut i: usize = 0;
-    while i < count {
+    let mut number = 0;
+    for i in 0..count {
         number = basics::push(number, bytes[at + i]);
-        i += 1;
     }
     number
 }
@@ -397,6 +354,7 @@ pub fn load(bytes: &[u8], at: usize) -> Words
 // ---- kinds and widths
 
 // Whether a message goes to a client: INFO, FWD and WRITE_ACK are replies, the others requests.
+#[tactic(auto, unfolding(crate::specs::Layout::is_reply))]
 pub fn is_reply(message: Message) -> bool
     ensures { result ≡ is_reply message }
 {
@@ -427,26 +385,26 @@ pub fn is_well_formed(message: Message) -> bool
 // ---- packing and unpacking
 
 // Packs a message into the first bytes of out, or refuses (9, then 13) and leaves out as it was.
-pub fn pack(message: Message, out: &mut [u8]) -> Packed
+pub fn pack(message: Message, out: &mut [u8]) -> Result<(), Refusal>
     ensures answer { result ≡ pack_answer message out.old }
     ensures bytes { out.new ≡ pack_leaves message out.old }
 {
     if !is_well_formed(message) {
-        return Packed::Refused(Refusal::Malformed);
+        return Err(Refusal::Malformed);
     }
     if out.len() < MESSAGE_BYTES {
-        return Packed::Refused(Refusal::ShortBuffer);
+        return Err(Refusal::ShortBuffer);
     }
     store(words_of(message), out, 0);
-    Packed::Done
+    Ok(())
 }
 
 // The message of a slice of any length, or a refusal (9).
-pub fn unpack(bytes: &[u8]) -> Unpacked
+pub fn unpack(bytes: &[u8]) -> Result<Message, Refusal>
     ensures { result ≡ unpack_of bytes.now }
 {
     if bytes.len() != MESSAGE_BYTES {
-        return Unpacked::Refused(Refusal::Malformed);
+        return Err(Refusal::Malformed);
     }
     of_words(load(bytes, 0))
 }

@@ -13,7 +13,7 @@ use Prim.Native.Nat.{ℕ}
 use mathlib.Core.Path.{◌≡◌, refl}
 use mathlib.Core.Bool.{Bool, true, false, cond}
 use mathlib.Core.List.{List, [], ◌∷◌}
-use mathlib.Core.Option.{Option, none, some}
+use Rattle.std.specs.Prelude.{Option, None, Some}
 use native.Mathlib.Omega.{arith}
 use Rattle.refusal.specs.declared.Refusal.{Refusal}
 use Rattle.refusal.specs.Numbers.{numbered}
@@ -26,12 +26,12 @@ abbrev pub NoneApplies : List Rung → Type 0
 NoneApplies [] = Unit {0}
 NoneApplies (rung ∷ rungs) = (rung.applies ≡ false) × NoneApplies rungs
 
-passed : {P : Type 0} (test : Bool) (why : Refusal) (lower : Option Refusal) → (lower ≡ none → P)
-    → cond test (some why) lower ≡ none → (test ≡ false) × P
+passed : {P : Type 0} (test : Bool) (why : Refusal) (lower : Option Refusal) → (lower ≡ None → P)
+    → cond test (Some why) lower ≡ None → (test ≡ false) × P
 passed true why lower rest e = absurd (let z : ◌≡◌ {A = ℕ} 0 1 = cc in omega arith)
 passed false why lower rest e = (refl, rest e)
 
-pub none_applies : (rungs : List Rung) → lowest rungs ≡ none → NoneApplies rungs
+pub none_applies : (rungs : List Rung) → lowest rungs ≡ None → NoneApplies rungs
 none_applies [] e = tt
 none_applies (rung ∷ rungs) e =
     passed rung.applies (numbered rung.number) (lowest rungs) (none_applies rungs) e
@@ -40,8 +40,8 @@ none_applies (rung ∷ rungs) e =
 
 -- one test after the other: `next` where it does not apply, `stop` where it does, `end` where none is left
 pub data Climbs : List Rung → Option Refusal → Type 0 where
-  end : Climbs [] none
-  stop : {n : ℕ} {a : Bool} {rungs : List Rung} → a ≡ true → Climbs (n whenever a ∷ rungs) (some (numbered n))
+  end : Climbs [] None
+  stop : {n : ℕ} {a : Bool} {rungs : List Rung} → a ≡ true → Climbs (n whenever a ∷ rungs) (Some (numbered n))
   next : {n : ℕ} {a : Bool} {rungs : List Rung} {o : Option Refusal} → a ≡ false → Climbs rungs o
       → Climbs (n whenever a ∷ rungs) o
 

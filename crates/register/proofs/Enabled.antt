@@ -4,17 +4,16 @@
 -- for each event, and `enabled` that every event of a step has it. All later proofs go by cases on events and
 -- use this, and never look at the ladders.
 -- Assumes nothing.
-use Rattle.basics.proofs.Prelude.{◌≡◌, refl, true, false, ◌||◌, List, [], ◌∷◌, none, length, ℕ, ◌≤◌, ◌<◌}
+use Rattle.basics.proofs.Prelude.{◌≡◌, refl, true, false, ◌||◌, List, [], ◌∷◌, None, length, ℕ, ◌≤◌, ◌<◌}
 use Rattle.basics.proofs.Prelude.{le_refl, arith, leb-false, not-false}
 use Rattle.basics.proofs.Cases.{by_option, both}
 use Rattle.refusal.proofs.Ladders.{none_applies}
-use Rattle.register.proofs.Vocabulary.{last_read, Good, Settings, is_server, is_client, is_honest, is_idle}
-use Rattle.register.proofs.Vocabulary.{World, Event, refuses, begins, serves, takes, stops, lies}
+use Rattle.register.proofs.Vocabulary.{last_read, Settings, is_server, is_client, is_honest, is_idle}
+use Rattle.register.proofs.Vocabulary.{World, Event, refuses, begins, serves, takes, stops, lies, Ok, Err}
 use Rattle.register.proofs.Vocabulary.{response_of, Step, R, W, K, D, C, L, Formats, oldest, has_room}
 use Rattle.register.proofs.Vocabulary.{room_up, room_down, ladder, refusal_of, accepted, event_of}
 use Rattle.message.specs.Layout.{goes_down}
-use Rattle.message.specs.declared.Unpacked.{Unpacked}
-use Rattle.message.specs.declared.Unpacked.TheVariants.{Refused}
+use Rattle.message.specs.Layout.{Unpacked}
 use Rattle.register.specs.Steps.{serves_oldest, takes_oldest, lies_with}
 use Rattle.register.proofs.Vocabulary.{Message, Phase, Idle, Reading, ReadingForWrite, Storing}
 use Rattle.register.proofs.Bounds.{honest_of}
@@ -69,9 +68,9 @@ module _ (settings : Settings) (judge : Formats) (world : World) where
     client : is_client settings d ≡ true;
     server : is_server settings k ≡ true;
     faulty : settings.faulty k ≡ true;
-    reply : goes_down (Good message) ≡ true;
+    reply : goes_down (Ok message) ≡ true;
     bytes : List ℕ;
-    message : judge.unpack bytes ≡ Good message;
+    message : judge.unpack bytes ≡ Ok message;
     room : world.stopped d || has_room (world.down d k) 1 ≡ true;
   }
 
@@ -97,8 +96,8 @@ module _ (settings : Settings) (judge : Formats) (world : World) where
       → settings.faulty k ≡ true → goes_down unpacked ≡ true
       → world.stopped d || has_room (world.down d k) 1 ≡ true
       → Enabled (lies_with settings judge k d unpacked)
-  lies_enabled k d bytes (Refused refusal) is client there faulty reply room = tt
-  lies_enabled k d bytes (Good message) is client there faulty reply room =
+  lies_enabled k d bytes (Err refusal) is client there faulty reply room = tt
+  lies_enabled k d bytes (Ok message) is client there faulty reply room =
       record {
         client = client;
         server = there;
@@ -110,7 +109,7 @@ module _ (settings : Settings) (judge : Formats) (world : World) where
             = room;
       }
 
-  accepted_enabled : (step : Step) → refusal_of settings judge world step ≡ none
+  accepted_enabled : (step : Step) → refusal_of settings judge world step ≡ None
       → Enabled (accepted settings judge world step)
   unfolding refusal_of ladder accepted
   accepted_enabled (R d) h =

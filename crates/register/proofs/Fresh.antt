@@ -8,7 +8,7 @@
 -- Assumes nothing.
 use Rattle.register.proofs.Vocabulary.{Member, Settings, is_honest, Client, next_read, started, Server}
 use Rattle.register.proofs.Vocabulary.{World, Event, apply, Formats, world_at}
-use Rattle.basics.proofs.Prelude.{◌≡◌, refl, sym, ap, ◌∙◌, subst, Bool, true, false, inl, some, ℕ, zero, suc}
+use Rattle.basics.proofs.Prelude.{◌≡◌, refl, sym, ap, ◌∙◌, subst, Bool, true, false, inl, Some, ℕ, zero, suc}
 use Rattle.basics.proofs.Prelude.{◌+◌, ◌≤◌, le_trans, arith, eq-eqb}
 use Rattle.basics.proofs.Cases.{by_test, by_either, true_or_false, clash}
 use Rattle.register.proofs.Vocabulary.{Message, GetInfo, Info, Pair, ReadNumber, stamp}
@@ -56,7 +56,7 @@ pub record Fresh (settings : Settings) (world : World) (began : ℕ → ℕ → 
       → Member (Info tag pair) (world.down d k) → tag.0 ≤ (world.clients d).reads.0
   pub info : (d k : ℕ) → is_honest settings k ≡ true → (tag : ReadNumber) (pair : Pair)
       → Member (Info tag pair) (world.down d k) → tag ≡ (world.clients d).reads → began d k ≤ stamp pair
-  pub noted : (d k : ℕ) → is_honest settings k ≡ true → (time : ℕ) → (world.clients d).noted k ≡ some time
+  pub noted : (d k : ℕ) → is_honest settings k ≡ true → (time : ℕ) → (world.clients d).noted k ≡ Some time
       → began d k ≤ time
 
 -- an INFO answers a GET_INFO with its number, and carries the server's pair
@@ -126,7 +126,7 @@ module _ (settings : Settings) (judge : Formats) (world : World) (event : Event)
         (λ a. rw (asks_for d k tag pair a).pair (below d k))))
 
     fresh_noted : (d k : ℕ) → is_honest settings k ≡ true → (time : ℕ) (after : Client)
-        → ClientNext settings judge world event d after → after.noted k ≡ some time → began' d k ≤ time
+        → ClientNext settings judge world event d after → after.noted k ≡ Some time → began' d k ≤ time
     unfolding started
     fresh_noted d k honest time after (same s _) h = rw (as_was d k s) (old.noted d k honest time h)
     fresh_noted d k honest time after (starts phase _ _) h = absurd (none_some h)

@@ -2,7 +2,7 @@
 -- in their widths.
 -- Assumes nothing.
 use Rattle.basics.proofs.Prelude.{◌≡◌, true, List, ℕ, ◌^◌, ◌<◌}
-use Rattle.register.proofs.Vocabulary.{Good, Formats}
+use Rattle.register.proofs.Vocabulary.{Formats, Ok}
 use Rattle.register.proofs.Vocabulary.{Entry, Message, GetInfo, Info, Done, WriteInfo, Fwd, WriteAck}
 
 -- tags and counters have 20 bits, pairs 64
@@ -16,4 +16,4 @@ FieldsFit (WriteAck count) = count.0 < 2 ^ 20
 
 pub record Lawful (judge : Formats) : Type 0 where
   pub small : (entry : Entry) → judge.is_licence entry ≡ true → entry.0 < 2 ^ 40
-  pub fits : (bytes : List ℕ) (message : Message) → judge.unpack bytes ≡ Good message → FieldsFit message
+  pub fits : (bytes : List ℕ) (message : Message) → judge.unpack bytes ≡ Ok message → FieldsFit message

@@ -6,7 +6,7 @@
 -- Assumes nothing.
 use Rattle.register.proofs.Vocabulary.{Member, Settings, is_honest, Server, next_server, Client, started}
 use Rattle.register.proofs.Vocabulary.{World, Event, apply, Formats, world_at}
-use Rattle.basics.proofs.Prelude.{◌≡◌, refl, true, inl, some, ℕ, zero, suc, ◌≤◌, le_trans}
+use Rattle.basics.proofs.Prelude.{◌≡◌, refl, true, inl, Some, ℕ, zero, suc, ◌≤◌, le_trans}
 use Rattle.basics.proofs.Cases.{by_either}
 use Rattle.register.proofs.Vocabulary.{Message, Pair, stamp}
 use Rattle.register.proofs.Enabled.{Enabled}
@@ -25,7 +25,7 @@ LowMessage bound message = Good (λ p. stamp p ≤ bound) message
 -- what the client has of server k has at most the timestamp `bound`
 pub record LowClient (bound : ℕ) (self : Client) (k : ℕ) : Type 0 where
   pub sets : (pair : Pair) → Member pair (self.sets k) → stamp pair ≤ bound
-  pub noted : (time : ℕ) → self.noted k ≡ some time → time ≤ bound
+  pub noted : (time : ℕ) → self.noted k ≡ Some time → time ≤ bound
 
 pub record Low (settings : Settings) (world : World) : Type 0 where
   pub channels : (d k : ℕ) → is_honest settings k ≡ true → (message : Message)

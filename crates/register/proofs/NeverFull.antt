@@ -11,7 +11,7 @@ use Rattle.register.proofs.Vocabulary.{capacity, Client, started, with_ack, Resp
 use Rattle.register.proofs.Vocabulary.{refuses, begins, serves, takes, stops, lies, response_of, puts_up}
 use Rattle.register.proofs.Vocabulary.{leaves_up, next_up, next_clients, apply, Step, D, Formats, oldest}
 use Rattle.register.proofs.Vocabulary.{has_room, room_up, ladder, refusal_of, event_of, step_at, world_at}
-use Rattle.basics.proofs.Prelude.{◌≡◌, refl, ap, true, cond, ◌&&◌, List, ◌∷◌, append-nil, some, length}
+use Rattle.basics.proofs.Prelude.{◌≡◌, refl, ap, true, cond, ◌&&◌, List, ◌∷◌, append-nil, Some, length}
 use Rattle.basics.proofs.Prelude.{length-append, ℕ, zero, suc, ◌+◌, ◌≤◌, arith, eqb, leb, eqb-true, le-leb}
 use Rattle.basics.proofs.Cases.{by_test, clash}
 use Rattle.basics.proofs.Tests.{below_of}
@@ -104,7 +104,7 @@ module _ (settings : Settings) (judge : Formats) (world : World)
           (response_of settings world d k message).sends ≤ capacity = omega arith in
           le-leb _ _ room
 
-  not_full : (d k : ℕ) → refusal_of settings judge world (D d k) ≡ some (numbered 12) → ⊥
+  not_full : (d k : ℕ) → refusal_of settings judge world (D d k) ≡ Some (numbered 12) → ⊥
   unfolding refusal_of ladder
   not_full d k h =
       by_test (is_client settings d && is_server settings k)
@@ -127,5 +127,5 @@ module _ (settings : Settings) (judge : Formats) (steps : List Step) where
       (enabled settings judge (world_at settings judge steps i) (step_at settings judge steps i)) d k honest
 
   pub never_full : (i d k : ℕ)
-      → refusal_of settings judge (world_at settings judge steps i) (D d k) ≡ some (numbered 12) → ⊥
+      → refusal_of settings judge (world_at settings judge steps i) (D d k) ≡ Some (numbered 12) → ⊥
   never_full i d k h = not_full settings judge (world_at settings judge steps i) (kept_at i) d k h

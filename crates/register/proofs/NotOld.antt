@@ -8,7 +8,7 @@
 -- noted of it is at least what it held when the client began (`Fresh`). A choice is genuine: it is in f + 1
 -- sets, so in that of an honest server (`chosen_known`).
 -- Assumes nothing.
-use Rattle.basics.proofs.Prelude.{◌≡◌, refl, sym, Bool, true, false, ◌&&◌, inl, Option, none, some, ℕ, ◌+◌}
+use Rattle.basics.proofs.Prelude.{◌≡◌, refl, sym, Bool, true, false, ◌&&◌, inl, Option, None, Some, ℕ, ◌+◌}
 use Rattle.basics.proofs.Prelude.{◌-◌, ◌*◌, ◌≤◌, le_trans, arith, leb, leb-true, le-leb}
 use Rattle.basics.proofs.Cases.{by_either, both, both_of, true_or_false}
 use Rattle.basics.proofs.Update.{update_at}
@@ -40,10 +40,10 @@ Stored settings world time =
     servers settings - 2 * settings.f ≤ counted (holds settings world time) (servers settings)
 
 at_most : (limit : ℕ) (note : Option ℕ) → is_at_most limit note ≡ true
-    → (time : ℕ) × (note ≡ some time) × (time ≤ limit)
+    → (time : ℕ) × (note ≡ Some time) × (time ≤ limit)
 unfolding is_at_most
-at_most limit none h = absurd (true_or_false false h refl)
-at_most limit (some time) h = (time, refl, leb-true time limit h)
+at_most limit None h = absurd (true_or_false false h refl)
+at_most limit (Some time) h = (time, refl, leb-true time limit h)
 
 module _ (run : Run) where
   pub stored_stays : (i j time : ℕ) → i ≤ j → Stored run.settings (world_in run i) time
@@ -58,7 +58,7 @@ module _ (run : Run) where
 
   -- what is noted where a client decides is at least what the server held when the client began
   noted_fresh : (n d : ℕ) (pair : Pair) (decides : DecidesAt run n d pair) (k time : ℕ)
-      → is_honest run.settings k ≡ true → decides.grown.noted k ≡ some time → base run n d k ≤ time
+      → is_honest run.settings k ≡ true → decides.grown.noted k ≡ Some time → base run n d k ≤ time
   noted_fresh n d pair decides k time honest e =
       by_either ((grown_came decides.grows).note k time e) (λ a. (fresh run n).noted d k honest time a)
       (λ a. rw a.is ((fresh run n).info d k honest ((world_in run n).clients d).reads a.pair

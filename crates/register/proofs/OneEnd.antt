@@ -5,7 +5,7 @@
 -- Assumes nothing.
 use Rattle.basics.proofs.Prelude.{◌≡◌, sym, subst, List, ℕ}
 use Rattle.basics.proofs.Ranges.{neither_below}
-use Rattle.register.proofs.Vocabulary.{Settings, Step, Formats, answer_at, ReadBegins, WriteBegins}
+use Rattle.register.proofs.Vocabulary.{Settings, Step, Formats, answer_at, ReadBegins, WriteBegins, Ok}
 use Rattle.register.proofs.Vocabulary.{ReadEnds, WriteEnds}
 use Rattle.register.proofs.Vocabulary.{Pair, Read}
 
@@ -28,8 +28,8 @@ module _ (settings : Settings) (judge : Formats) (steps : List Step) where
       subst (λ (z : ℕ). ReadEnds settings judge steps begin z j' pair') (sym client) ends' in
       let step = neither_below j j' (λ less. mine.next j ends.later less pair ends.ends)
       (λ less. ends.next j' mine.later less pair' mine.ends) in
-      let a : answer_at settings judge steps j' ≡ Read pair =
-      subst (λ (z : ℕ). answer_at settings judge steps z ≡ Read pair) step ends.ends.answer in
+      let a : answer_at settings judge steps j' ≡ Ok (Read pair) =
+      subst (λ (z : ℕ). answer_at settings judge steps z ≡ Ok (Read pair)) step ends.ends.answer in
       let a' = ends'.ends.answer in
       (client, step, cc)
 

@@ -8,8 +8,8 @@ use Rattle.basics.proofs.Prelude.{◌≡◌, refl, sym, ap, ◌∙◌, subst, tr
 use Rattle.basics.proofs.Prelude.{◌<◌, arith}
 use Rattle.basics.proofs.Cases.{by_either, true_or_false, clash}
 use Rattle.basics.proofs.Ranges.{one_more}
-use Rattle.register.proofs.Vocabulary.{Refused, is_idle, begins, world_at, Formats}
-use Rattle.register.proofs.Vocabulary.{Entry, Pair, WriteCounter, pair_of, Answer, Went, Read, Wrote}
+use Rattle.register.proofs.Vocabulary.{is_idle, begins, world_at, Formats, Ok, Err, StepAnswer}
+use Rattle.register.proofs.Vocabulary.{Entry, Pair, WriteCounter, pair_of, Went, Read, Wrote}
 use Rattle.register.proofs.Vocabulary.{Spent, Phase, Idle, Reading, ReadingForWrite, Storing}
 use Rattle.register.proofs.Run.{Run, world_in, event_in, answer_in}
 use Rattle.register.proofs.Turns.{rested, opened, showed, spent, sent, ended}
@@ -44,7 +44,7 @@ module _ (run : Run) where
     pub silent : (i : ℕ) → at < i → i < n → EndsAt i d → ⊥
 
   -- a step that answers WENT where client d takes a message ends nothing of d
-  ends_nothing : (n d : ℕ) → (TakesAt run n d → answer_in run n ≡ Went) → EndsAt n d → ⊥
+  ends_nothing : (n d : ℕ) → (TakesAt run n d → answer_in run n ≡ Ok Went) → EndsAt n d → ⊥
   ends_nothing n d went (inl h) = let s = went h.1.takes in let s' = h.1.answer in clash (cc)
   ends_nothing n d went (inr h) = quiet_step run n d went h
 
@@ -109,18 +109,18 @@ module _ (run : Run) where
 
   -- the phase in which client d gives an answer at step j; SPENT leaves it idle, and WROTE shows what it
   -- stores
-  abbrev pub Answering : ℕ → ℕ → Answer → Type 0
-  Answering j d Went = Unit {0}
-  Answering j d (Read pair) = ((world_in run j).clients d).phase ≡ Reading
-  Answering j d (Wrote pair) =
+  abbrev pub Answering : ℕ → ℕ → StepAnswer → Type 0
+  Answering j d (Ok Went) = Unit {0}
+  Answering j d (Ok (Read pair)) = ((world_in run j).clients d).phase ≡ Reading
+  Answering j d (Ok (Wrote pair)) =
       (e : Entry) × (c : WriteCounter) × (((world_in run j).clients d).phase ≡ Storing e c) ×
       (pair ≡ pair_of c d e)
-  Answering j d Spent =
+  Answering j d (Ok Spent) =
       (e : Entry) × (((world_in run j).clients d).phase ≡ ReadingForWrite e)
       × (((world_in run (suc j)).clients d).phase ≡ Idle)
-  Answering j d (Refused refusal) = Unit {0}
+  Answering j d (Err refusal) = Unit {0}
 
-  pub answering : (j d : ℕ) (a : Answer) → TakesAt run j d → answer_in run j ≡ a → Answering j d a
+  pub answering : (j d : ℕ) (a : StepAnswer) → TakesAt run j d → answer_in run j ≡ a → Answering j d a
   answering j d a taken is = subst (Answering j d) is (go (turn_at run j d))
     where
       go : TurnAt run j d → Answering j d (answer_in run j)
@@ -132,10 +132,10 @@ module _ (run : Run) where
       go (ended entry count _ _ was _ _ an) = rw an (entry, count, was, refl)
 
   pub shows_open : (j d : ℕ) (pair : Pair) → ReadsAt run j d pair → ((world_in run j).clients d).phase ≡ Reading
-  shows_open j d pair reads = answering j d (Read pair) reads.takes reads.answer
+  shows_open j d pair reads = answering j d (Ok (Read pair)) reads.takes reads.answer
 
   pub ends_open : (j d : ℕ) → WritesAt run j d → (entry : Entry) × Open j d (ReadingForWrite entry)
   ends_open j d writes =
-      by_either writes.answer (λ a. let q = answering j d (Wrote a.0) writes.takes a.1 in
+      by_either writes.answer (λ a. let q = answering j d (Ok (Wrote a.0)) writes.takes a.1 in
       (q.0, open_storing j d q.0 q.1 q.2))
-      (λ a. let q = answering j d Spent writes.takes a in (q.0, open_write j d q.0 q.1))
+      (λ a. let q = answering j d (Ok Spent) writes.takes a in (q.0, open_write j d q.0 q.1))

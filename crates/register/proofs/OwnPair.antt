@@ -6,7 +6,7 @@
 -- sends, and WROTE answers what it then stores. A message on a channel was put there, by the write that was
 -- open (`Unique`).
 -- Assumes nothing.
-use Rattle.register.proofs.Vocabulary.{Member, entry_of, world_at, HasSent}
+use Rattle.register.proofs.Vocabulary.{Member, entry_of, world_at, HasSent, Ok}
 use Rattle.basics.proofs.Prelude.{◌≡◌, ap, ◌∙◌, subst, length, ℕ, zero, suc, ◌^◌, ◌<◌, arith, ltb, ltb-true}
 use Rattle.basics.proofs.Prelude.{ltb-false}
 use Rattle.basics.proofs.Cases.{by_test, by_either, clash}
@@ -56,10 +56,10 @@ module _ (run : Run) where
   -- ---- WROTE and SPENT
 
   module _ (begin d j : ℕ) (ends : WriteEndsIn run begin d j) where
-    pub wrote_sent : (pair : Pair) → answer_in run j ≡ Wrote pair
+    pub wrote_sent : (pair : Pair) → answer_in run j ≡ Ok (Wrote pair)
         → (i : ℕ) × (i < j) × SendsIn run begin d i pair
     wrote_sent pair answer =
-        let answered = answering run j d (Wrote pair) (writes_in run ends.ends).takes answer in
+        let answered = answering run j d (Ok (Wrote pair)) (writes_in run ends.ends).takes answer in
         let was = answered.2 in
         let is = answered.3 in
         let inside = ends.ends.in_list in
@@ -83,9 +83,9 @@ module _ (run : Run) where
         absurd (ends.next status.at status.after before
         (writes_out run (omega arith) status.how.ends.writes)))
 
-    pub spent_unsent : answer_in run j ≡ Spent → HasSent run.settings run.judge run.steps begin → ⊥
+    pub spent_unsent : answer_in run j ≡ Ok Spent → HasSent run.settings run.judge run.steps begin → ⊥
     spent_unsent answer sent =
-        let was = (answering run j d Spent (writes_in run ends.ends).takes answer).1 in
+        let was = (answering run j d (Ok Spent) (writes_in run ends.ends).takes answer).1 in
         let inside = ends.ends.in_list in
         let one = sent.sends.begins.step in
         let two = ends.begins.step in

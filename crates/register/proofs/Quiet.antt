@@ -12,7 +12,7 @@
 use Rattle.register.proofs.Vocabulary.{Member, counted, servers, is_client, is_honest, has, Client}
 use Rattle.register.proofs.Vocabulary.{is_reading, is_noted, is_at_most}
 use Rattle.basics.proofs.Prelude.{◌≡◌, refl, sym, ◌∙◌, subst, Bool, true, false, List, [], ◌∷◌, ◌++◌, Option}
-use Rattle.basics.proofs.Prelude.{some, ℕ, ◌-◌, ◌≤◌, le_trans, arith, leb-false, le-leb}
+use Rattle.basics.proofs.Prelude.{Some, ℕ, ◌-◌, ◌≤◌, le_trans, arith, leb-false, le-leb}
 use Rattle.basics.proofs.Cases.{by_either, true_unless, clash}
 use Rattle.message.proofs.Pairs.{initial_stamp}
 use Rattle.register.proofs.Vocabulary.{Entry, Message, WriteInfo, Pair, WriteCounter, stamp, Phase}
@@ -35,11 +35,11 @@ nil_snoc : (channel : List Message) (message : Message) → [] ≡ channel ++ me
 nil_snoc [] message e = clash (cc)
 nil_snoc (message' ∷ rest) message e = clash (cc)
 
-noted_some : (note : Option ℕ) (time : ℕ) → note ≡ some time → is_noted note ≡ true
+noted_some : (note : Option ℕ) (time : ℕ) → note ≡ Some time → is_noted note ≡ true
 unfolding is_noted
 noted_some note time e = rw e refl
 
-at_most_some : (limit : ℕ) (note : Option ℕ) (time : ℕ) → note ≡ some time → time ≤ limit
+at_most_some : (limit : ℕ) (note : Option ℕ) (time : ℕ) → note ≡ Some time → time ≤ limit
     → is_at_most limit note ≡ true
 unfolding is_at_most
 at_most_some limit note time e le = rw e (le-leb time limit le)
@@ -77,7 +77,7 @@ module _ (run : Run) (n d : ℕ) (client : is_client run.settings d ≡ true)
   -- server k has answered, and its pair is in the set
   record Answered (k : ℕ) : Type 0 where
     time : ℕ
-    noted : self.noted k ≡ some time
+    noted : self.noted k ≡ Some time
     held : Member (present k) (self.sets k)
 
   answered : is_reading self.phase ≡ true → (k : ℕ) → is_honest run.settings k ≡ true → Answered k

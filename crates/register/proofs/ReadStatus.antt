@@ -8,7 +8,7 @@ use Rattle.basics.proofs.Prelude.{◌≡◌, refl, ◌∙◌, subst, true, false
 use Rattle.basics.proofs.Prelude.{eq-eqb}
 use Rattle.basics.proofs.Cases.{true_or_false, clash}
 use Rattle.basics.proofs.Ranges.{one_more, Happened, until}
-use Rattle.register.proofs.Vocabulary.{is_idle, begins}
+use Rattle.register.proofs.Vocabulary.{is_idle, begins, Ok}
 use Rattle.register.proofs.Vocabulary.{Pair, Read, Wrote, Spent, Phase, Idle, Reading, ReadingForWrite}
 use Rattle.register.proofs.Vocabulary.{Storing}
 use Rattle.register.proofs.Enabled.{Enabled}
@@ -39,11 +39,11 @@ module _ (run : Run) where
 
   pub record ReadsAt (j d : ℕ) (pair : Pair) : Type 0 where
     pub takes : TakesAt j d
-    pub answer : answer_in run j ≡ Read pair
+    pub answer : answer_in run j ≡ Ok (Read pair)
 
   pub record WritesAt (j d : ℕ) : Type 0 where
     pub takes : TakesAt j d
-    pub answer : ((pair : Pair) × (answer_in run j ≡ Wrote pair)) ⊎ (answer_in run j ≡ Spent)
+    pub answer : ((pair : Pair) × (answer_in run j ≡ Ok (Wrote pair))) ⊎ (answer_in run j ≡ Ok Spent)
 
   -- client d decides for the pair at step j
   abbrev pub DecidesAt : ℕ → ℕ → Pair → Type 0

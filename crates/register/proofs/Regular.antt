@@ -11,7 +11,7 @@ use Rattle.basics.proofs.Ranges.{at_last}
 use Rattle.basics.proofs.Sorting.{once}
 use Rattle.register.specs.History.{Ends, HasSent, PairOf}
 use Rattle.register.specs.DemandThree.{Earlier, Legal, first, behind, Row, Agree}
-use Rattle.register.proofs.Vocabulary.{Pair, stamp, Read}
+use Rattle.register.proofs.Vocabulary.{Pair, stamp, Read, Ok}
 use Rattle.register.proofs.Run.{Run, answer_in}
 use Rattle.register.proofs.Since.{since}
 use Rattle.register.proofs.ReadStatus.{DecidesAt, read_status}
@@ -64,8 +64,8 @@ module _ (run : Run) where
       by_either (read_status run begin d begins (suc j) (omega arith))
       (λ status. absurd (status.silent j ends.later (omega arith) pair (reads_in_lem run ends.ends)))
       (λ status. at_last status.at j status.before
-      (λ e. let a : answer_in run j ≡ Read status.how.pair =
-      subst (λ (k : ℕ). answer_in run k ≡ Read status.how.pair) e status.how.reads.answer in
+      (λ e. let a : answer_in run j ≡ Ok (Read status.how.pair) =
+      subst (λ (k : ℕ). answer_in run k ≡ Ok (Read status.how.pair)) e status.how.reads.answer in
       let a' = ends.ends.answer in
       let same : status.how.pair ≡ pair = cc in
       record {

@@ -4,8 +4,8 @@
 -- list every step is refused, so nothing changes there.
 -- Assumes nothing.
 use Rattle.basics.proofs.Prelude.{List, ℕ}
-use Rattle.register.proofs.Vocabulary.{Answer, Settings, Accepted, World, Event, Step, Formats, step_at}
-use Rattle.register.proofs.Vocabulary.{world_at, answer_at}
+use Rattle.register.proofs.Vocabulary.{Settings, Accepted, World, Event, Step, Formats, step_at}
+use Rattle.register.proofs.Vocabulary.{world_at, answer_at, StepAnswer}
 use Rattle.register.specs.History.{event_at}
 use Rattle.register.proofs.Bounds.{Bounds, bounds}
 use Rattle.register.proofs.Enabled.{Enabled, enabled}
@@ -28,7 +28,7 @@ module _ (run : Run) where
   abbrev pub event_in : ℕ → Event
   event_in i = event_at run.settings run.judge run.steps i
 
-  abbrev pub answer_in : ℕ → Answer
+  abbrev pub answer_in : ℕ → StepAnswer
   answer_in i = answer_at run.settings run.judge run.steps i
 
   pub enabled_at : (i : ℕ) → Enabled run.settings run.judge (world_in i) (event_in i)

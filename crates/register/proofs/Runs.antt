@@ -13,7 +13,7 @@ use Rattle.register.proofs.Vocabulary.{is_at_most, chosen, client_takes, puts_up
 use Rattle.register.proofs.Vocabulary.{leaves_down, next_up, next_down, next_servers, next_clients}
 use Rattle.register.proofs.Vocabulary.{next_stopped, apply, answer_of, Step, K, D, Formats, oldest}
 use Rattle.register.proofs.Vocabulary.{has_room, room_up, room_down, ladder, refusal_of, accepted}
-use Rattle.register.proofs.Vocabulary.{event_of, world_at, answer_at}
+use Rattle.register.proofs.Vocabulary.{event_of, world_at, answer_at, Ok, StepAnswer}
 use Rattle.basics.proofs.Prelude.{List, [], ◌∷◌, ◌++◌, length, ℕ, zero, suc}
 use Rattle.calendar.specs.Calendar.{is_date, month_length, leap}
 use Rattle.licence.specs.Entry.{is_licence, is_licensed}
@@ -24,7 +24,7 @@ use Rattle.register.specs.Client.{higher, highest_of, all_pairs}
 use Rattle.register.specs.Client.{not_old, valid, counts, concluded, after_choice, acknowledged}
 use Rattle.register.specs.Client.{uses_info}
 use Rattle.register.specs.Steps.{is_empty}
-use Rattle.register.proofs.Vocabulary.{Entry, Pair, Answer, Went}
+use Rattle.register.proofs.Vocabulary.{Entry, Pair, Went}
 pub mod Listing
 pub mod Overlap
 pub mod Disagree
@@ -34,13 +34,13 @@ pub mod Spare
 pub mod Thirteen
 
 -- the answers of n steps from step i on
-abbrev pub answers_from : Settings → Formats → List Step → ℕ → ℕ → List Answer
+abbrev pub answers_from : Settings → Formats → List Step → ℕ → ℕ → List StepAnswer
 answers_from settings judge steps i zero = []
 answers_from settings judge steps i (suc n) =
     answer_at settings judge steps i ∷ answers_from settings judge steps (suc i) n
 
 -- all answers of a list of steps; to unfold it is to unfold all that it computes with
-unfoldable pub answers : Settings → Formats → List Step → List Answer
+unfoldable pub answers : Settings → Formats → List Step → List StepAnswer
 unfolding world_at answer_of event_of refusal_of ladder accepted apply next_servers next_clients next_stopped next_up
     next_down leaves_up leaves_down puts_up puts_down is_empty oldest has_room room_up room_down goes is_reply
     all_below count_below update is_server is_client is_honest
@@ -50,9 +50,9 @@ unfolding world_at answer_of event_of refusal_of ladder accepted apply next_serv
     counter stamp pair_of spelt message_of unpack_of is_licence is_licensed is_date month_length leap
 answers settings judge steps = answers_from settings judge steps 0 (length steps)
 
-abbrev pub went : ℕ → List Answer
+abbrev pub went : ℕ → List StepAnswer
 went zero = []
-went (suc n) = Went ∷ went n
+went (suc n) = Ok Went ∷ went n
 
 -- the entry of 01's examples: 29 February 2024, 40 copies, open
 abbrev pub the_entry : Entry

@@ -4,7 +4,7 @@
 -- acknowledgements; so if it is still in the phase, it has not. At a start it has nothing, and n − f is
 -- above 0.
 -- Assumes nothing.
-use Rattle.basics.proofs.Prelude.{◌≡◌, refl, sym, ◌∙◌, true, false, inr, none, ℕ, zero, suc, arith, leb-true}
+use Rattle.basics.proofs.Prelude.{◌≡◌, refl, sym, ◌∙◌, true, false, inr, None, ℕ, zero, suc, arith, leb-true}
 use Rattle.basics.proofs.Cases.{by_test}
 use Rattle.register.proofs.Vocabulary.{counted, enough, Settings, servers, Client, cleared, is_reading}
 use Rattle.register.proofs.Vocabulary.{is_noted, started, with_ack, Response, chosen, World, Event}
@@ -19,7 +19,7 @@ use Rattle.register.proofs.Frames.{ClientNext, same, starts, responds, client_ne
 use Rattle.register.proofs.Live.{not_reading}
 
 pub record Still (settings : Settings) (d : ℕ) (self : Client) : Type 0 where
-  pub undecided : is_reading self.phase ≡ true → choice settings d self ≡ none
+  pub undecided : is_reading self.phase ≡ true → choice settings d self ≡ None
   pub few : (entry : Entry) (count : WriteCounter) → self.phase ≡ Storing entry count
       → enough (servers settings) settings.f (counted self.acks (servers settings)) ≡ false
 
@@ -35,7 +35,7 @@ still_cleared : (settings : Settings) → Bounds settings → (d : ℕ) (phase :
     → Still settings d (cleared phase tag)
 unfolding chosen is_noted
 still_cleared settings bounded d phase tag =
-    let none_noted = counted_none (λ k. is_noted none) (servers settings) (λ k. refl) in
+    let none_noted = counted_none (λ k. is_noted None) (servers settings) (λ k. refl) in
     let none_acks = counted_none (λ k. false) (servers settings) (λ k. refl) in
     record {
       undecided = λ reading. rw (none_enough settings bounded
@@ -46,7 +46,7 @@ still_cleared settings bounded d phase tag =
 module _ (settings : Settings) (bounded : Bounds settings) (d : ℕ) (self : Client) (k : ℕ)
     (message : Message) (still : Still settings d self) where
   still_grown : (after : Client) → Grown self k message after → is_reading self.phase ≡ true
-      → choice settings d after ≡ none → Still settings d after
+      → choice settings d after ≡ None → Still settings d after
   still_grown after grows reading undecided =
       record {
         undecided = λ _. undecided;

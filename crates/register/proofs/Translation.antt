@@ -8,12 +8,11 @@
 use Rattle.basics.proofs.Prelude.{◌≡◌, refl, sym, ap, ◌∙◌, subst, length, ℕ, ◌<◌, le_refl, arith}
 use Rattle.basics.proofs.Cases.{by_either, by_list, by_option, clash}
 use Rattle.refusal.specs.declared.Refusal.{Refusal}
-use Rattle.message.specs.declared.Unpacked.{Unpacked}
-use Rattle.register.proofs.Vocabulary.{Good, Refused, Settings, World, Event, refuses, begins, serves}
+use Rattle.message.specs.Layout.{Unpacked}
+use Rattle.register.proofs.Vocabulary.{Settings, World, Event, refuses, begins, serves, Ok, Err}
 use Rattle.register.proofs.Vocabulary.{takes, stops, lies, answer_of, Step, R, W, K, D, C, L, Formats}
 use Rattle.register.proofs.Vocabulary.{refusal_of, accepted, event_of, ReadBegins, WriteBegins}
 use Rattle.register.proofs.Vocabulary.{AnswersRead, AnswersWrite, ReadEnds, WriteEnds, Sends}
-use Rattle.message.specs.declared.Unpacked.TheVariants.{Refused}
 use Rattle.register.specs.Steps.{lies_with}
 use Rattle.register.proofs.Vocabulary.{Entry, WriteInfo, Pair, Went, Phase, Idle, Reading}
 use Rattle.register.proofs.Vocabulary.{ReadingForWrite, Storing}
@@ -42,8 +41,8 @@ From (lies k d message) step = Unit {0}
 
 module _ (settings : Settings) (judge : Formats) (world : World) where
   lie_from : (k d : ℕ) (step : Step) (unpacked : Unpacked) → From (lies_with settings judge k d unpacked) step
-  lie_from k d step (Good message) = tt
-  lie_from k d step (Refused refusal) = tt
+  lie_from k d step (Ok message) = tt
+  lie_from k d step (Err refusal) = tt
 
   accepted_from : (step : Step) → From (accepted settings judge world step) step
   unfolding accepted
@@ -60,7 +59,7 @@ module _ (settings : Settings) (judge : Formats) (world : World) where
       by_option (refusal_of settings judge world step) (λ e. rw e (accepted_from step)) (λ x e. rw e tt)
 
   not_refused : (step : Step)
-      → ((refusal : Refusal) → answer_of settings world (event_of settings judge world step) ≡ Refused refusal
+      → ((refusal : Refusal) → answer_of settings world (event_of settings judge world step) ≡ Err refusal
       → ⊥) → event_of settings judge world step ≡ accepted settings judge world step
   unfolding event_of answer_of
   not_refused step never =
@@ -83,7 +82,7 @@ module _ (run : Run) where
   source i = came_from run.settings run.judge (world_in run i) (step_in run i)
 
   accepted_at : (i : ℕ) (step : Step) → step_in run i ≡ step
-      → ((refusal : Refusal) → answer_in run i ≡ Refused refusal → ⊥)
+      → ((refusal : Refusal) → answer_in run i ≡ Err refusal → ⊥)
       → event_in run i ≡ accepted run.settings run.judge (world_in run i) step
   accepted_at i step q never =
       not_refused run.settings run.judge (world_in run i) (step_in run i) never
@@ -104,7 +103,7 @@ module _ (run : Run) where
       let a = begun.answer in accepted_at begin (W d begun.entry) begun.step (λ x e. clash (cc))
 
   -- a beginning is answered WENT
-  begins_went : (begin d : ℕ) (phase : Phase) → event_in run begin ≡ begins d phase → answer_in run begin ≡ Went
+  begins_went : (begin d : ℕ) (phase : Phase) → event_in run begin ≡ begins d phase → answer_in run begin ≡ Ok Went
   unfolding answer_of
   begins_went begin d phase is = ap (answer_of run.settings (world_in run begin)) is
 
@@ -130,7 +129,7 @@ module _ (run : Run) where
 
   -- ---- answers
 
-  takes_at_lem : (j d k : ℕ) → step_in run j ≡ D d k → ((refusal : Refusal) → answer_in run j ≡ Refused refusal → ⊥)
+  takes_at_lem : (j d k : ℕ) → step_in run j ≡ D d k → ((refusal : Refusal) → answer_in run j ≡ Err refusal → ⊥)
       → TakesAt run j d
   unfolding accepted answer_of
   takes_at_lem j d k q never =

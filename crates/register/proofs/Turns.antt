@@ -4,10 +4,10 @@
 -- its choice; its write is spent; its write sends; its write ends. Each says what the step answers, so that
 -- operations can be followed from their beginning to their end (`ReadStatus`, `WriteStatus`, `Open`).
 -- Assumes nothing.
-use Rattle.register.proofs.Vocabulary.{Member, counted, enough, Settings, servers, Client, started}
+use Rattle.register.proofs.Vocabulary.{Member, counted, enough, Settings, servers, Client, started, Ok}
 use Rattle.register.proofs.Vocabulary.{with_ack, Response, World, Event, refuses, begins, serves, takes}
 use Rattle.register.proofs.Vocabulary.{stops, lies, response_of, answer_of, apply, Formats}
-use Rattle.basics.proofs.Prelude.{◌≡◌, refl, sym, ap, ◌∙◌, subst, true, false, inl, inr, [], some, ℕ, eqb}
+use Rattle.basics.proofs.Prelude.{◌≡◌, refl, sym, ap, ◌∙◌, subst, true, false, inl, inr, [], Some, ℕ, eqb}
 use Rattle.basics.proofs.Prelude.{eqb-false, eq-eqb}
 use Rattle.basics.proofs.Cases.{true_or_false}
 use Rattle.register.proofs.Vocabulary.{Entry, Message, WriteInfo, WriteAck, Pair, WriteCounter, pair_of}
@@ -26,30 +26,30 @@ module _ (settings : Settings) (judge : Formats) (world : World) (event : Event)
     pub by : Takes settings judge world event d
     pub grown : Client
     pub grows : Grown (world.clients d) by.server by.message grown
-    pub chosen : choice settings d grown ≡ some pair
+    pub chosen : choice settings d grown ≡ Some pair
 
   pub data Turn (after : Client) : Type 0 where
     rested : after.phase ≡ (world.clients d).phase → starts_at event d ≡ false
-        → (Takes settings judge world event d → answer_of settings world event ≡ Went)
+        → (Takes settings judge world event d → answer_of settings world event ≡ Ok Went)
         → ((message : Message) → Puts settings judge world event d message → ⊥) → Turn after
     opened : (phase : Phase) → event ≡ begins d phase → Enabled settings judge world (begins d phase)
         → after.phase ≡ phase → Turn after
     showed : (pair : Pair) → Decides pair → (world.clients d).phase ≡ Reading → after.phase ≡ Idle
-        → answer_of settings world event ≡ Read pair → Turn after
+        → answer_of settings world event ≡ Ok (Read pair) → Turn after
     spent : (pair : Pair) (entry : Entry) → Decides pair → (world.clients d).phase ≡ ReadingForWrite entry
-        → after.phase ≡ Idle → answer_of settings world event ≡ Spent → Turn after
+        → after.phase ≡ Idle → answer_of settings world event ≡ Ok Spent → Turn after
     sent : (pair : Pair) (entry : Entry) → Decides pair → (world.clients d).phase ≡ ReadingForWrite entry
-        → after.phase ≡ Storing entry (next_counter pair) → answer_of settings world event ≡ Went
+        → after.phase ≡ Storing entry (next_counter pair) → answer_of settings world event ≡ Ok Went
         → Puts settings judge world event d (WriteInfo (pair_of (next_counter pair) d entry)) → Turn after
     ended : (entry : Entry) (count : WriteCounter) (taken : Takes settings judge world event d)
         → taken.message ≡ WriteAck count → (world.clients d).phase ≡ Storing entry count
         → enough (servers settings) settings.f
         (counted (with_ack (world.clients d) taken.server).acks (servers settings)) ≡ true
-        → after.phase ≡ Idle → answer_of settings world event ≡ Wrote (pair_of count d entry) → Turn after
+        → after.phase ≡ Idle → answer_of settings world event ≡ Ok (Wrote (pair_of count d entry)) → Turn after
 
   -- an event that is no turn of d's: it answers and puts nothing for d
   no_answer_now : takes_at event d ≡ false → Takes settings judge world event d
-      → answer_of settings world event ≡ Went
+      → answer_of settings world event ≡ Ok Went
   no_answer_now h taken =
       let q = taken.event in absurd (true_or_false (eqb d d) (eq-eqb d d refl) (rw q at h))
 
@@ -65,9 +65,9 @@ module _ (settings : Settings) (judge : Formats) (world : World) (event : Event)
   -- client d takes a message, and responds
   module _ (taken : Takes settings judge world event d) (response : Response)
       (is : response ≡ response_of settings world d taken.server taken.message) where
-    answer_is : answer_of settings world event ≡ response.answer
+    answer_is : answer_of settings world event ≡ Ok response.answer
     unfolding answer_of
-    answer_is = let q = taken.event in rw q (ap (λ (x : Response). x.answer) (sym is))
+    answer_is = let q = taken.event in rw q (ap (λ (x : Response). Ok x.answer) (sym is))
 
     puts_is : (message : Message) → Member message response.sends
         → Puts settings judge world event d message
@@ -87,7 +87,7 @@ module _ (settings : Settings) (judge : Formats) (world : World) (event : Event)
         → Turn response.client
     rests phase went none =
         let q = taken.event in
-        rested phase (rw q refl) (λ _. answer_is ∙ went) (λ m h. subst (Member m) none (is_put m h))
+        rested phase (rw q refl) (λ _. answer_is ∙ ap Ok went) (λ m h. subst (Member m) none (is_put m h))
 
   outcome_turn : (taken : Takes settings judge world event d) (response : Response)
       → response ≡ response_of settings world d taken.server taken.message

@@ -8,7 +8,7 @@ use Rattle.basics.proofs.Prelude.{◌≡◌, sym, subst, inr, ℕ, ◌<◌, arit
 use Rattle.basics.proofs.Cases.{by_either, clash}
 use Rattle.basics.proofs.Ranges.{at_last, neither_below}
 use Rattle.message.proofs.Pairs.{client_of_stamp}
-use Rattle.register.proofs.Vocabulary.{Pair, stamp, Wrote, Spent}
+use Rattle.register.proofs.Vocabulary.{Pair, stamp, Wrote, Spent, Ok}
 use Rattle.register.proofs.Run.{Run}
 use Rattle.register.proofs.ReadStatus.{begins_idle, WritesAt}
 use Rattle.register.proofs.WriteStatus.{in_phase_lem, write_status}
@@ -81,8 +81,8 @@ module _ (run : Run) where
       let was = sends.put.phase in
       let now = phase_after run n d pair sends in
       by_either writes.answer
-      (λ a. let x = (answering run n d (Wrote a.0) writes.takes a.1).2 in clash (cc))
-      (λ a. let x = (answering run n d Spent writes.takes a).2 in clash (cc))
+      (λ a. let x = (answering run n d (Ok (Wrote a.0)) writes.takes a.1).2 in clash (cc))
+      (λ a. let x = (answering run n d (Ok Spent) writes.takes a).2 in clash (cc))
 
   pub record Sender (n d : ℕ) (pair : Pair) : Type 0 where
     pub begin : ℕ

@@ -10,6 +10,7 @@ unfoldable pub use Rattle.basics.specs.Tables.{listed, tabled}
 pub use Rattle.basics.specs.Tests.{all_pass, is_up_to}
 unfoldable pub use Rattle.basics.specs.Tests.{all_below}
 unfoldable pub use Rattle.basics.specs.Update.{update}
+pub use Rattle.std.specs.Prelude.{Result, Ok, Err}
 pub use Rattle.refusal.specs.declared.Refusal.{Refusal}
 pub use Rattle.refusal.specs.Ladder.{Rung, lowest}
 pub use Rattle.message.specs.declared.Entry.{Entry}
@@ -17,8 +18,7 @@ pub use Rattle.message.specs.declared.Message.{Message}
 pub use Rattle.message.specs.declared.Message.TheVariants.{GetInfo, Info, Done, WriteInfo, Fwd, WriteAck}
 pub use Rattle.message.specs.declared.Pair.{Pair}
 pub use Rattle.message.specs.declared.ReadNumber.{ReadNumber}
-pub use Rattle.message.specs.declared.Unpacked.{Unpacked}
-pub use Rattle.message.specs.declared.Unpacked.TheVariants.{Good}
+pub use Rattle.message.specs.Layout.{Unpacked}
 pub use Rattle.message.specs.declared.Words.{Words}
 pub use Rattle.message.specs.declared.WriteCounter.{WriteCounter}
 pub use Rattle.message.specs.Layout.{last_read, words_number, tag_bits, words, goes_up, counter_bits, client_bits}
@@ -27,7 +27,7 @@ unfoldable pub use Rattle.message.specs.Layout.{words_of, goes, message_of, well
 pub use Rattle.message.specs.Pair.{initial, below, same, pair_bits, stamp_bits}
 unfoldable pub use Rattle.message.specs.Pair.{stamp, counter, client, entry, pair_of}
 pub use Rattle.register.specs.declared.Answer.{Answer}
-pub use Rattle.register.specs.declared.Answer.TheVariants.{Went, Read, Wrote, Spent, Refused}
+pub use Rattle.register.specs.declared.Answer.TheVariants.{Went, Read, Wrote, Spent}
 pub use Rattle.register.specs.declared.Phase.{Phase}
 pub use Rattle.register.specs.declared.Phase.TheVariants.{Idle, Reading, ReadingForWrite, Storing}
 pub use Rattle.register.specs.Settings.{Settings, Accepted, servers, capacity, most_clients, most_servers}
@@ -44,7 +44,7 @@ unfoldable pub use Rattle.register.specs.Client.{client_takes, higher, highest_o
 unfoldable pub use Rattle.register.specs.Client.{is_storing, uses_info, concluded, after_choice}
 unfoldable pub use Rattle.register.specs.Client.{acknowledged}
 pub use Rattle.register.specs.World.{World, Event, takes, stops, response_of, refuses, begins, serves}
-pub use Rattle.register.specs.World.{lies, new_world}
+pub use Rattle.register.specs.World.{lies, new_world, StepAnswer}
 unfoldable pub use Rattle.register.specs.World.{apply, next_stopped, puts_up, puts_down, leaves_up}
 unfoldable pub use Rattle.register.specs.World.{leaves_down, next_up, next_down, next_servers, next_clients}
 unfoldable pub use Rattle.register.specs.World.{answer_of}

@@ -13,7 +13,7 @@
 -- Assumes nothing.
 use Rattle.register.proofs.Vocabulary.{Member, Server, next_server, Client, next_read, started}
 use Rattle.basics.proofs.Prelude.{◌≡◌, refl, sym, ◌∙◌, Bool, true, false, ◌⊎◌, inl, inr, ◌≢◌, List, [], ◌∷◌}
-use Rattle.basics.proofs.Prelude.{◌++◌, Option, none, ℕ, ◌+◌, ◌≤◌, ◌<◌, arith}
+use Rattle.basics.proofs.Prelude.{◌++◌, Option, None, ℕ, ◌+◌, ◌≤◌, ◌<◌, arith}
 use Rattle.basics.proofs.Cases.{by_either}
 use Rattle.basics.proofs.Members.{member_left, member_right}
 use Rattle.basics.proofs.Update.{update_same, update_other}
@@ -36,7 +36,7 @@ pub record Asking (tag : ReadNumber) (up : List Message) : Type 0 where
 pub record Asks (tag : ReadNumber) (note : Option ℕ) (up down : List Message) : Type 0 where
   pub get : Asking tag up
   pub silent : infos tag down ≡ 0
-  pub unnoted : note ≡ none
+  pub unnoted : note ≡ None
 
 -- the pair is in the set or on its way to it
 abbrev pub Told : Pair → ReadNumber → List Message → List Pair → Type 0
@@ -92,7 +92,7 @@ unfolding next_server
 asked_pair server d tag = refl
 
 first_info : (tag : ReadNumber) (down : List Message) (pair : Pair) → infos tag down ≡ 0
-    → infos tag (down ++ Info tag pair ∷ []) + number none ≡ 1
+    → infos tag (down ++ Info tag pair ∷ []) + number None ≡ 1
 unfolding number infos
 first_info tag down pair h =
     let a = infos_append tag down (Info tag pair ∷ []) in let b = info_one tag pair (Info tag pair) refl in

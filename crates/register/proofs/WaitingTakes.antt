@@ -9,7 +9,7 @@
 -- Assumes nothing.
 use Rattle.register.proofs.Vocabulary.{Member, update, add, Server, Client, set_limit, is_reading}
 use Rattle.register.proofs.Vocabulary.{with_info, with_pair}
-use Rattle.basics.proofs.Prelude.{◌≡◌, refl, sym, true, ◌⊎◌, inl, inr, ◌≢◌, List, ◌∷◌, Option, some, ℕ, ◌≤◌}
+use Rattle.basics.proofs.Prelude.{◌≡◌, refl, sym, true, ◌⊎◌, inl, inr, ◌≢◌, List, ◌∷◌, Option, Some, ℕ, ◌≤◌}
 use Rattle.basics.proofs.Prelude.{arith}
 use Rattle.basics.proofs.Cases.{by_either, clash}
 use Rattle.basics.proofs.Update.{update_same, update_other}
@@ -67,7 +67,7 @@ fits_keeps self server k pair fits h =
     (add_keeps set_limit pair (self.sets k) server.pair (omega arith) fits.ordered h fits.low
     fits.top)
 
-number_some : (notes : ℕ → Option ℕ) (k time : ℕ) → number (update notes k (some time) k) ≡ 1
+number_some : (notes : ℕ → Option ℕ) (k time : ℕ) → number (update notes k (Some time) k) ≡ 1
 unfolding number
 number_some notes k time = rw update_same refl
 

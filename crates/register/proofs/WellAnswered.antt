@@ -9,7 +9,7 @@
 use Rattle.basics.proofs.Prelude.{◌≡◌, inl, inr, ℕ, ◌<◌, arith}
 use Rattle.basics.proofs.Cases.{by_either, clash}
 use Rattle.basics.proofs.Ranges.{neither_below}
-use Rattle.register.proofs.Vocabulary.{begins, AnswersRead, AnswersWrite}
+use Rattle.register.proofs.Vocabulary.{AnswersRead, AnswersWrite}
 use Rattle.register.proofs.Vocabulary.{Pair, Reading}
 use Rattle.register.proofs.Run.{Run}
 use Rattle.register.proofs.ReadStatus.{begins_idle, read_status}

@@ -5,7 +5,7 @@
 -- server or a working client, so a channel that is unused or drops stays empty.
 -- In order: lists of messages; channels to servers; channels to clients.
 -- Assumes nothing.
-use Rattle.register.proofs.Vocabulary.{Member, last_read, Good, Settings, Accepted, is_server, is_client}
+use Rattle.register.proofs.Vocabulary.{Member, last_read, Settings, Accepted, is_server, is_client, Ok}
 use Rattle.register.proofs.Vocabulary.{is_honest, capacity, Sent, sent, server_sends, sent_to, next_read}
 use Rattle.register.proofs.Vocabulary.{World, Event, refuses, begins, serves, takes, stops, lies}
 use Rattle.register.proofs.Vocabulary.{response_of, puts_up, puts_down, leaves_up, leaves_down, next_up}
@@ -61,7 +61,7 @@ pub oldest_kind : (Kind : Message → Type 0) (channel : List Message) (message 
 oldest_kind Kind channel message rest e well = well.kinds message (rw e (inl refl))
 
 -- a reply whose fields fit is of the kinds that servers send
-reply_kind : (message : Message) → goes_down (Good message) ≡ true → FieldsFit message → FromServer message
+reply_kind : (message : Message) → goes_down (Ok message) ≡ true → FieldsFit message → FromServer message
 unfolding goes is_reply
 reply_kind (GetInfo tag) reply fit = absurd (true_or_false false reply refl)
 reply_kind (Info tag pair) reply fit = fit

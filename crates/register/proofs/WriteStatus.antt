@@ -8,7 +8,7 @@
 use Rattle.basics.proofs.Prelude.{◌≡◌, refl, ◌∙◌, true, ◌⊎◌, inl, inr, ℕ, suc, ◌<◌, arith, eq-eqb}
 use Rattle.basics.proofs.Cases.{by_either, clash}
 use Rattle.basics.proofs.Ranges.{one_more, Happened, until}
-use Rattle.register.proofs.Vocabulary.{counted, enough, servers, with_ack, begins}
+use Rattle.register.proofs.Vocabulary.{counted, enough, servers, with_ack, begins, Ok}
 use Rattle.register.proofs.Vocabulary.{Entry, WriteInfo, WriteAck, Pair, WriteCounter, pair_of, Went}
 use Rattle.register.proofs.Vocabulary.{ReadingForWrite, Storing}
 use Rattle.register.proofs.Run.{Run, world_in, event_in, answer_in}
@@ -61,7 +61,7 @@ module _ (run : Run) where
         ⊎ ((s : SentOnce begin d entry i) × Stores d entry (next_counter s.pair) i)
 
   -- a step that answers neither WROTE nor SPENT
-  pub quiet_step : (n d : ℕ) → (TakesAt run n d → answer_in run n ≡ Went) → WritesAt run n d → ⊥
+  pub quiet_step : (n d : ℕ) → (TakesAt run n d → answer_in run n ≡ Ok Went) → WritesAt run n d → ⊥
   quiet_step n d went writes =
       let s = went writes.takes in
       by_either writes.answer (λ x. let x' = x.1 in clash (cc)) (λ x. clash (cc))

@@ -4,15 +4,14 @@
 -- list. An operation is named by the number of the step that began it, counted from 0. Everything follows
 -- from the settings and the list by the rules of `World` and `Steps`.
 -- Assumes nothing.
-use Rattle.std.specs.Prelude.{ℕ, zero, suc, ◌<◌, ◌≤◌, ◌≡◌, true, false, ◌⊎◌, List, [], length, get_or}
+use Rattle.std.specs.Prelude.{ℕ, zero, suc, ◌<◌, ◌≤◌, ◌≡◌, true, false, ◌⊎◌, List, [], length, get_or, Ok}
 use Rattle.basics.specs.Members.{Member}
 use Rattle.message.specs.declared.Entry.{Entry}
 use Rattle.message.specs.declared.Message.TheVariants.{WriteInfo}
 use Rattle.message.specs.declared.Pair.{Pair}
-use Rattle.register.specs.declared.Answer.{Answer}
 use Rattle.register.specs.declared.Answer.TheVariants.{Went, Read, Wrote, Spent}
 use Rattle.register.specs.Settings.{Settings, is_client, is_honest}
-use Rattle.register.specs.World.{World, new_world, Event, apply, answer_of, puts_up}
+use Rattle.register.specs.World.{World, new_world, Event, apply, StepAnswer, answer_of, puts_up}
 use Rattle.register.specs.Steps.{Step, R, W, D, Formats, event_of}
 
 module _ (settings : Settings) (judge : Formats) (steps : List Step) where
@@ -29,7 +28,7 @@ module _ (settings : Settings) (judge : Formats) (steps : List Step) where
   event_at i = event_of settings judge (world_at i) (step_at i)
 
   -- the answer of step i
-  abbrev pub answer_at : ℕ → Answer
+  abbrev pub answer_at : ℕ → StepAnswer
   answer_at i = answer_of settings (world_at i) (event_at i)
 
   -- the world after the whole list
@@ -40,28 +39,28 @@ module _ (settings : Settings) (judge : Formats) (steps : List Step) where
   pub record ReadBegins (begin d : ℕ) : Type 0 where
     pub in_list : begin < length steps
     pub step : step_at begin ≡ R d
-    pub answer : answer_at begin ≡ Went
+    pub answer : answer_at begin ≡ Ok Went
 
   -- a write of client d begins at step `begin`: an accepted W
   pub record WriteBegins (begin d : ℕ) : Type 0 where
     pub in_list : begin < length steps
     pub entry : Entry
     pub step : step_at begin ≡ W d entry
-    pub answer : answer_at begin ≡ Went
+    pub answer : answer_at begin ≡ Ok Went
 
   -- step j of client d answers READ with the pair
   pub record AnswersRead (j d : ℕ) (pair : Pair) : Type 0 where
     pub in_list : j < length steps
     pub server : ℕ
     pub step : step_at j ≡ D d server
-    pub answer : answer_at j ≡ Read pair
+    pub answer : answer_at j ≡ Ok (Read pair)
 
   -- step j of client d answers WROTE or SPENT
   pub record AnswersWrite (j d : ℕ) : Type 0 where
     pub in_list : j < length steps
     pub server : ℕ
     pub step : step_at j ≡ D d server
-    pub answer : ((pair : Pair) × (answer_at j ≡ Wrote pair)) ⊎ (answer_at j ≡ Spent)
+    pub answer : ((pair : Pair) × (answer_at j ≡ Ok (Wrote pair))) ⊎ (answer_at j ≡ Ok Spent)
 
   -- the read `begin` of client d ends at step j and shows the pair: its client's next READ
   pub record ReadEnds (begin d j : ℕ) (pair : Pair) : Type 0 where

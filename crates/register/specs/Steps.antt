@@ -4,7 +4,8 @@
 -- Soundness (3) is not here: every world of a run is well formed, and `state` judges the code's states.
 -- Assumes nothing.
 use Rattle.std.specs.Prelude.{ℕ, suc, ◌+◌, Bool, true, false, not, ◌&&◌, ◌||◌, List, [], ◌∷◌, leb, length}
-use Rattle.std.proofs.Math.Option.{Option, none, some}
+use Rattle.std.specs.Prelude.{Ok, Err}
+use Rattle.std.specs.Prelude.{Option, None, Some}
 use Rattle.basics.specs.Tests.{all_below}
 use Rattle.refusal.specs.declared.Refusal.{Refusal}
 use Rattle.refusal.specs.Numbers.{numbered}
@@ -13,8 +14,7 @@ use Rattle.message.specs.Layout.{last_read, goes_down}
 use Rattle.message.specs.declared.Entry.{Entry}
 use Rattle.message.specs.declared.Message.{Message}
 use Rattle.message.specs.declared.Message.TheVariants.{Done}
-use Rattle.message.specs.declared.Unpacked.{Unpacked}
-use Rattle.message.specs.declared.Unpacked.TheVariants.{Good, Refused}
+use Rattle.message.specs.Layout.{Unpacked}
 use Rattle.register.specs.declared.Phase.TheVariants.{Reading, ReadingForWrite}
 use Rattle.register.specs.Settings.{Settings, servers, is_server, is_client, is_honest, capacity}
 use Rattle.register.specs.Server.{server_sends, sent_to}
@@ -99,8 +99,8 @@ module _ (settings : Settings) (judge : Formats) where
   takes_oldest d k (message ∷ rest) = takes d k message rest
 
   abbrev pub lies_with : ℕ → ℕ → Unpacked → Event
-  lies_with k d (Good message) = lies k d message
-  lies_with k d (Refused refusal) = refuses refusal
+  lies_with k d (Ok message) = lies k d message
+  lies_with k d (Err refusal) = refuses refusal
 
   unfoldable pub accepted : World → Step → Event
   accepted world (R d) = begins d Reading
@@ -111,8 +111,8 @@ module _ (settings : Settings) (judge : Formats) where
   accepted world (L k d bytes) = lies_with k d (judge.unpack bytes)
 
   abbrev pub decided : Option Refusal → Event → Event
-  decided none event = event
-  decided (some refusal) event = refuses refusal
+  decided None event = event
+  decided (Some refusal) event = refuses refusal
 
   -- the event of a step
   unfoldable pub event_of : World → Step → Event

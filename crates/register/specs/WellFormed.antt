@@ -6,7 +6,7 @@
 -- run is well formed is in `proofs/Reachable`.
 -- Assumes nothing.
 use Rattle.std.specs.Prelude.{◌≡◌, true, false, ◌&&◌, List, [], ℕ, ◌^◌, ◌≤◌, ◌<◌, length}
-use Rattle.std.proofs.Math.Option.{none, some}
+use Rattle.std.specs.Prelude.{None, Some}
 use Rattle.basics.specs.Members.{Member}
 use Rattle.message.specs.declared.Entry.{Entry}
 use Rattle.message.specs.declared.Message.{Message}
@@ -70,10 +70,10 @@ pub record WellClient (settings : Settings) (judge : Formats) (self : Client) : 
   -- its parts are in range
   pub phase : WellPhase judge self.phase
   pub reads : self.reads.0 < 2 ^ tag_bits
-  pub noted : (k stamp : ℕ) → self.noted k ≡ some stamp → stamp < 2 ^ stamp_bits
+  pub noted : (k stamp : ℕ) → self.noted k ≡ Some stamp → stamp < 2 ^ stamp_bits
   pub sets : (k : ℕ) → WellSet (self.sets k)
   -- noted timestamps and sets: none outside a reading phase, and none of what is no server
-  pub noted_unused : (k : ℕ) → is_server settings k && is_reading self.phase ≡ false → self.noted k ≡ none
+  pub noted_unused : (k : ℕ) → is_server settings k && is_reading self.phase ≡ false → self.noted k ≡ None
   pub sets_unused : (k : ℕ) → is_server settings k && is_reading self.phase ≡ false → self.sets k ≡ []
   -- acknowledgements: none of what is no server, and none outside storing
   pub acks_unused : (k : ℕ) → is_server settings k ≡ false → self.acks k ≡ false

@@ -1,16 +1,16 @@
 -- The system at one moment, what happens in it, and what each happening changes (01, 'Rehearsal').
 --
--- In order: the world; the setup; events; what an event puts on channels, which channels drop, what it
+-- In order: the world; the setup; what a step answers; events; what an event puts on channels, which channels drop, what it
 -- leaves there; the next world and the answer. Which event a step is, and when it is refused, is in
 -- `Steps`; nothing here refuses.
 -- Assumes nothing.
-use Rattle.std.specs.Prelude.{ℕ, Bool, true, false, cond, ◌&&◌, List, [], ◌∷◌, ◌++◌, eqb}
+use Rattle.std.specs.Prelude.{ℕ, Bool, true, false, cond, ◌&&◌, List, [], ◌∷◌, ◌++◌, eqb, Result, Ok, Err}
 use Rattle.basics.specs.Update.{update}
 use Rattle.refusal.specs.declared.Refusal.{Refusal}
 use Rattle.message.specs.declared.Message.{Message}
 use Rattle.message.specs.declared.Message.TheVariants.{GetInfo}
 use Rattle.register.specs.declared.Answer.{Answer}
-use Rattle.register.specs.declared.Answer.TheVariants.{Went, Refused}
+use Rattle.register.specs.declared.Answer.TheVariants.{Went}
 use Rattle.register.specs.declared.Phase.{Phase}
 use Rattle.register.specs.Settings.{Settings, servers, is_server}
 use Rattle.register.specs.Server.{Server, new_server, next_server, server_sends, sent_to}
@@ -35,6 +35,10 @@ new_world =
       up = λ d k. [];
       down = λ d k. [];
     }
+
+-- what a step answers: one of 01's answers, or a refusal
+abbrev pub StepAnswer : Type 0
+StepAnswer = Result Answer Refusal
 
 -- what can happen: nothing, for a refusal; client d starts in a phase (R, W); server k serves a message of
 -- client d (K), client d takes a message of server k (D), and leaves the rest; client d stops (C); faulty
@@ -137,10 +141,10 @@ module _ (settings : Settings) where
       }
 
   -- the answer of a step: WENT, or a client's to a message (READ, WROTE, SPENT), or REFUSED 4 to 12
-  unfoldable pub answer_of : World → Event → Answer
-  answer_of world (refuses refusal) = Refused refusal
-  answer_of world (begins d' phase) = Went
-  answer_of world (serves k' d' message rest) = Went
-  answer_of world (takes d' k' message rest) = (response_of world d' k' message).answer
-  answer_of world (stops d') = Went
-  answer_of world (lies k' d' message) = Went
+  unfoldable pub answer_of : World → Event → StepAnswer
+  answer_of world (refuses refusal) = Err refusal
+  answer_of world (begins d' phase) = Ok Went
+  answer_of world (serves k' d' message rest) = Ok Went
+  answer_of world (takes d' k' message rest) = Ok (response_of world d' k' message).answer
+  answer_of world (stops d') = Ok Went
+  answer_of world (lies k' d' message) = Ok Went

@@ -4,7 +4,8 @@
 -- Why: every world of a history is well formed (`register`), and a step of the stored form of such a world is
 -- the model's step, stored (`Histories.stored_stepped`).
 -- Assumes nothing.
-use Rattle.basics.proofs.Prelude.{◌≡◌, true, List, get_or, ℕ, suc}
+use Rattle.basics.proofs.Prelude.{◌≡◌, List, get_or, ℕ, suc}
+use Rattle.std.specs.Prelude.{Some}
 use Rattle.register.specs.declared.Step.{Step}
 use Rattle.register.proofs.Vocabulary.{formats, world_at, answer_at, World}
 use Rattle.register.specs.Steps as model
@@ -25,7 +26,7 @@ module _ (settings : Settings) (steps : List model.Step) where
   -- the program before it, at a line
   abbrev pub stage_at : ℕ → ℕ → Stage
   stage_at place number =
-      stage true settings (store_servers (world place)) (store_clients (world place))
+      stage (Some settings) (store_servers (world place)) (store_clients (world place))
       (store_slots (world place)) number
 
   -- what the history has of it
@@ -35,7 +36,7 @@ module _ (settings : Settings) (steps : List model.Step) where
       (store_clients (world (suc place))) (store_slots (world (suc place)))
 
   pub step_answered : Allowed settings → (place number : ℕ) (step : Step)
-      → get_or steps place (model.R 0) ≡ step_of step → step_on (stage_at place number) step ≡ answered place
+      → get_or steps place (model.R 0) ≡ step_of step → step_on (stage_at place number) settings step ≡ answered place
   unfolding world_at
   step_answered allowed place number step e =
       let well = well_formed_lem (settings_of settings) formats allowed.accepted lawful steps place in

@@ -5,7 +5,7 @@
 -- the bytes that were read as its part. A last line without its end gets one, as if it had been read.
 -- In order: parts; a block and what is kept of it; one turn more.
 -- Assumes nothing.
-use Rattle.basics.proofs.Prelude.{◌≡◌, refl, sym, ap, ◌∙◌, subst, false, List, [], ◌∷◌, ◌++◌, length, take}
+use Rattle.basics.proofs.Prelude.{◌≡◌, refl, sym, ap, ◌∙◌, subst, List, [], ◌∷◌, ◌++◌, length, take}
 use Rattle.basics.proofs.Prelude.{drop, ℕ, zero, suc, ◌+◌, ◌-◌, ◌≤◌, ◌<◌, zero-add, arith}
 use lib.ListN.{length-take}
 use lib.Seq.{take-nil, take-append_seam}
@@ -14,15 +14,16 @@ use Rattle.script.specs.Lines.{kept, whole_lines, most, newline}
 use Rattle.script.specs.Writing.{Written}
 use Rattle.script.proofs.Writing.{keeps}
 use Rattle.register.specs.World.{new_world}
+use Rattle.std.specs.Prelude.{None}
+use Rattle.script.specs.declared.print.Numeral.{Numeral}
 use Rattle.script.specs.Numerals.{numeral_of}
 use Rattle.script.proofs.Numerals.{own_number, number_is_lem}
-use Rattle.system.specs.Setup.{settings_by}
 use Rattle.system.specs.Stored.{Stored}
 use Rattle.rehearse.specs.declared.lines.Turn.{Turn}
 use Rattle.rehearse.specs.Stage.{stage, stage_after}
-use Rattle.rehearse.specs.Blocks.{cut_line, turn_of, stage_in, LinesDone, joined}
+use Rattle.rehearse.specs.Blocks.{cut_line, stage_in, LinesDone, joined}
 use Rattle.rehearse.specs.Blocks.{Progress, progress, beginning, turn, turns, input_bytes, output_bytes}
-use Rattle.rehearse.proofs.Staying.{Sound, first_sound, stage_sound}
+use Rattle.rehearse.proofs.Staying.{Sound, stage_sound}
 
 -- ---- parts
 
@@ -81,22 +82,18 @@ pub record Between (left : Turn) (servers clients slots input : List ℕ) (have 
   pub wide : length out ≡ output_bytes
 
 -- at first nothing was read
-pub none_read : {left : Turn} {servers clients slots input out : List ℕ}
-    → left ≡ turn_of (settings_by 0 1 1 0) false (numeral_of 0) 0 0
+pub none_read : {numeral : Numeral} {servers clients slots input out : List ℕ} → numeral ≡ numeral_of 0
     → Stored new_world servers clients slots → length input ≡ input_bytes → length out ≡ output_bytes
-    → Between left servers clients slots input 0 out
+    → Between (record { settings = None; number = numeral; at = 0; used = 0 }) servers clients slots input 0 out
 unfolding turns
-none_read {left} {servers} {clients} {slots} is stored long wide =
-    let first : stage_in left servers clients slots ≡ beginning =
-    ap (λ (other : Turn). stage_in other servers clients slots) is
-    ∙ (λ k. stage false (settings_by 0 1 1 0) (stored.servers k) (stored.clients k) (stored.slots k)
-    (number_is_lem 0 k)) in
+none_read {numeral} is stored long wide =
+    let number : numeral.number ≡ 0 = ap (λ (other : Numeral). other.number) is ∙ number_is_lem 0 in
     record {
       parts = [];
-      known = first;
-      numeral = own_number 0 (ap (λ (other : Turn). other.number) is);
+      known = λ k. stage None (stored.servers k) (stored.clients k) (stored.slots k) (number k);
+      numeral = own_number 0 is;
       cut = refl;
-      sound = subst Sound (sym first) first_sound;
+      sound = tt;
       few = omega arith;
       long = long;
       wide = wide;

@@ -6,7 +6,8 @@
 -- accepted settings demand 3 holds of every list of steps (`register`).
 -- In order: the outputs from an accepted S on; the session in a script; the program.
 -- Assumes nothing.
-use Rattle.basics.proofs.Prelude.{◌≡◌, refl, sym, ap, ◌∙◌, subst, List, ◌∷◌, ◌++◌, some, length, ℕ}
+use Rattle.basics.proofs.Prelude.{◌≡◌, refl, sym, ap, ◌∙◌, subst, List, ◌∷◌, ◌++◌, length, ℕ}
+use Rattle.std.specs.Prelude.{Option, Some}
 use Rattle.register.specs.Settings.{Settings}
 use Rattle.register.proofs.Theorem.{demand_three_lem}
 use Rattle.script.specs.declared.parse.Line.{Line}
@@ -26,8 +27,8 @@ use Rattle.rehearse.proofs.Whole.{whole}
 
 -- ---- the outputs from an accepted S on
 
-module _ {known : Stage} {setup : Line} {S : Settings} (session_of : Begun known setup S)
-    (between after' : List Line)
+module _ {known : Stage} {setup : Option Line} {S : Settings} (session_of : Begun known setup S)
+    (between after' : List (Option Line))
     (plain : NoneAccepted between) where
   -- the program behind the S
   abbrev first : Stage
@@ -50,8 +51,8 @@ module _ {known : Stage} {setup : Line} {S : Settings} (session_of : Begun known
 
 -- ---- the session in a script
 
-session : (known : Stage) (before between after' : List Line) (setup : Line) (S : Settings)
-    → accepted_by setup ≡ some S
+session : (known : Stage) (before between after' : List (Option Line)) (setup : Option Line) (S : Settings)
+    → accepted_by setup ≡ Some S
     → NoneAccepted between
     → Session (outputs_of known (before ++ (setup ∷ between ++ after'))) (length before) S between
 session known before between after' setup S e plain =
@@ -79,6 +80,6 @@ rehearsed parts =
       many = outputs_many beginning (lines_in parts);
       written = whole beginning parts ∙ text_is beginning 0 (lines_of (input_of parts)) refl;
       sessions = λ before between after' setup S split accepted plain.
-          subst (λ (ls : List Line). Session (outputs_of beginning ls) (length before) S between) (sym split)
+          subst (λ (ls : List (Option Line)). Session (outputs_of beginning ls) (length before) S between) (sym split)
           (session beginning before between after' setup S accepted plain);
     }

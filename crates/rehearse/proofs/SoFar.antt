@@ -4,8 +4,9 @@
 --
 -- In order: the lines so far; one line more; the end of the lines.
 -- Assumes nothing.
-use Rattle.basics.proofs.Prelude.{◌≡◌, refl, sym, ap, ◌∙◌, subst, Bool, List, [], ◌∷◌, ◌++◌, append-nil}
+use Rattle.basics.proofs.Prelude.{◌≡◌, refl, sym, ap, ◌∙◌, subst, List, [], ◌∷◌, ◌++◌, append-nil}
 use Rattle.basics.proofs.Prelude.{length, drop, ℕ, ◌+◌, ◌*◌, ◌≤◌, ◌<◌, arith}
+use Rattle.std.specs.Prelude.{Option}
 use lib.Seq.{append_snoc}
 use Rattle.script.specs.declared.next.Found.{Found}
 use Rattle.script.specs.declared.print.Numeral.{Numeral}
@@ -21,7 +22,7 @@ use Rattle.script.proofs.Writing.{then, reads, keeps, written_none}
 use Rattle.state.specs.declared.Settings.{Settings}
 use Rattle.rehearse.specs.declared.lines.Turn.{Turn}
 use Rattle.rehearse.specs.Stage.{Stage, stage, output_of, after, Obeys, text_of, stage_after}
-use Rattle.rehearse.specs.Blocks.{length_of, turn_of, stage_in, LinesDone}
+use Rattle.rehearse.specs.Blocks.{length_of, stage_in, LinesDone}
 use Rattle.rehearse.proofs.Scripts.{stage_more, text_more, length_more}
 use Rattle.rehearse.proofs.Scripts.{next_line, line_length, no_line}
 use Rattle.rehearse.proofs.Staying.{Sound, line_sound}
@@ -135,16 +136,11 @@ module _ {first : Stage} {input out : List ℕ} where
 
 -- what the code answers there
 pub lines_done : {left : Turn} {input out servers clients slots servers' clients' slots' out' : List ℕ}
-    {settings : Settings} {is_set : Bool} {numeral : Numeral}
-    {at used : ℕ} (left' : Turn) → left' ≡ turn_of settings is_set numeral at used
-    → numeral ≡ numeral_of numeral.number
+    {settings : Option Settings} {numeral : Numeral} {at used : ℕ} → numeral ≡ numeral_of numeral.number
     → (Written (text_of (stage_in left servers clients slots) (whole_lines input)) out 0 used out')
-    × (stage is_set settings servers' clients' slots' numeral.number
+    × (stage settings servers' clients' slots' numeral.number
     ≡ stage_after (stage_in left servers clients slots) (whole_lines input))
     × (at ≡ length_of (whole_lines input))
-    → LinesDone left input servers clients slots out left' servers' clients' slots' out'
-lines_done {left} {input} {out} {servers} {clients} {slots} {servers'} {clients'} {slots'} {out'}
-    left' is own facts =
-    subst (λ (other : Turn).
-    LinesDone left input servers clients slots out other servers' clients' slots' out') (sym is)
-    (record { state = facts.1; numeral = own; text = facts.0; place = facts.2 })
+    → LinesDone left input servers clients slots out
+    (record { settings = settings; number = numeral; at = at; used = used }) servers' clients' slots' out'
+lines_done own facts = record { state = facts.1; numeral = own; text = facts.0; place = facts.2 }

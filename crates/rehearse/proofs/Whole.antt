@@ -9,8 +9,9 @@
 -- part by part.
 -- Assumes nothing.
 use Rattle.basics.proofs.Prelude.{◌≡◌, refl, sym, ap, ◌∙◌, true, false, List, [], ◌∷◌, ◌++◌, append_assoc}
-use Rattle.basics.proofs.Prelude.{append-nil, none, length, get_or, take, drop, ℕ, zero, suc, ◌+◌, ◌-◌, arith}
+use Rattle.basics.proofs.Prelude.{append-nil, length, get_or, take, drop, ℕ, zero, suc, ◌+◌, ◌-◌, arith}
 use Rattle.basics.proofs.Prelude.{eqb}
+use Rattle.std.specs.Prelude.{None}
 use Rattle.basics.proofs.Cases.{by_test, by_list, clash}
 use Rattle.script.specs.Grammar.{line_of}
 use Rattle.script.specs.Lines.{behind, in_front, lines_by, lines_of, whole_lines, most, newline}
@@ -24,7 +25,7 @@ use Rattle.rehearse.proofs.Scripts.{text_then}
 -- ---- a text without a line end
 
 abbrev Endless : List ℕ → Type 0
-Endless text = behind newline text ≡ none
+Endless text = behind newline text ≡ None
 
 -- its first byte is none, and there is none behind it
 endless_rest : (byte : ℕ) (text : List ℕ) → Endless (byte ∷ text) → (eqb byte newline ≡ false) × Endless text

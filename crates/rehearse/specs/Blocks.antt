@@ -3,16 +3,13 @@
 -- In order: the whole lines of a text, and the line that is cut; what the lines of a block leave; a block
 -- of what was kept and what was read; the program, part by part.
 -- Assumes nothing.
-use Rattle.std.specs.Prelude.{ℕ, ◌+◌, ◌*◌, ◌≡◌, Bool, false, List, [], ◌∷◌, ◌++◌, length, take, drop}
-use Rattle.script.specs.declared.print.Numeral.{Numeral}
+use Rattle.std.specs.Prelude.{ℕ, ◌+◌, ◌*◌, ◌≡◌, List, [], ◌∷◌, ◌++◌, length, take, drop, None}
 use Rattle.script.specs.Lines.{newline, whole_lines, most}
 use Rattle.script.specs.Numerals.{numeral_of}
 use Rattle.script.specs.Printed.{longest}
 use Rattle.script.specs.Writing.{Written}
 use Rattle.register.specs.World.{new_world}
-use Rattle.state.specs.declared.Settings.{Settings}
 use Rattle.state.specs.State.{store_servers, store_clients, store_slots}
-use Rattle.system.specs.Setup.{settings_by}
 use Rattle.rehearse.specs.declared.lines.Turn.{Turn}
 use Rattle.rehearse.specs.Stage.{Stage, stage, text_of, stage_after}
 
@@ -29,14 +26,10 @@ cut_line text = drop (length_of (whole_lines text)) text
 
 -- ---- what the lines of a block leave
 
-abbrev pub turn_of : Settings → Bool → Numeral → (at used : ℕ) → Turn
-turn_of settings is_set number at used =
-    record { settings = settings; is_set = is_set; number = number; at = at; used = used }
-
 -- what the program knows, with its memory
 abbrev pub stage_in : Turn → List ℕ → List ℕ → List ℕ → Stage
 stage_in known servers clients slots =
-    stage known.is_set known.settings servers clients slots known.number.number
+    stage known.settings servers clients slots known.number.number
 
 -- every whole line is obeyed: its text is written, and the program knows what it knows after it
 pub record LinesDone (first : Turn) (input servers clients slots out : List ℕ)
@@ -79,8 +72,7 @@ progress known cut wrote = record { known = known; cut = cut; wrote = wrote }
 
 -- at first no setup was accepted, and the next line is number 0; no step reaches the system that is there
 abbrev pub beginning : Stage
-beginning =
-    stage false (settings_by 0 1 1 0) (store_servers new_world) (store_clients new_world) (store_slots new_world) 0
+beginning = stage None (store_servers new_world) (store_clients new_world) (store_slots new_world) 0
 
 -- it reads some bytes, and writes the text of the lines that are then whole
 abbrev pub turn : Progress → List ℕ → Progress

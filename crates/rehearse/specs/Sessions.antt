@@ -6,15 +6,16 @@
 --
 -- In order: what lines are; what is printed for the lines of a session; a session; what holds of the program.
 -- Assumes nothing.
-use Rattle.std.specs.Prelude.{ℕ, suc, ◌-◌, ◌^◌, min, ◌≡◌, List, [], ◌∷◌, ◌++◌, map, length}
-use Rattle.std.proofs.Math.Option.{Option, none, some}
+use Rattle.std.specs.Prelude.{ℕ, suc, ◌-◌, ◌^◌, min, ◌≡◌, List, [], ◌∷◌, ◌++◌, map, length, Option, Some, None, Result}
+use Rattle.std.specs.Prelude.{Ok, Err}
+use Rattle.refusal.specs.declared.Refusal.{Refusal}
 use Rattle.basics.specs.Members.{Member}
-use Rattle.register.specs.declared.Answer.{Answer}
 use Rattle.register.specs.DemandThree.{DemandThreeOf}
 use Rattle.register.specs.Formats.{formats}
 use Rattle.register.specs.History.{answer_at}
 use Rattle.register.specs.Settings.{Settings}
 use Rattle.register.specs.Steps.{Step}
+use Rattle.register.specs.World.{StepAnswer}
 use Rattle.script.specs.declared.parse.Line.{Line}
 use Rattle.script.specs.declared.parse.Line.TheVariants as line
 use Rattle.script.specs.declared.print.Output.{Output}
@@ -22,9 +23,8 @@ use Rattle.script.specs.declared.print.Output.TheVariants as output
 use Rattle.script.specs.Grammar.{line_of}
 use Rattle.script.specs.Lines.{lines_of}
 use Rattle.script.specs.Printed.{printed}
+use Rattle.state.specs.declared.Settings as state
 use Rattle.state.specs.State.{settings_of, step_of}
-use Rattle.system.specs.declared.setup.Setup.{Setup}
-use Rattle.system.specs.declared.setup.Setup.TheVariants as setup
 use Rattle.system.specs.Setup.{setup_of}
 use Rattle.rehearse.specs.Stage.{setup_output}
 use Rattle.rehearse.specs.Blocks.{progress, beginning, turns, ending, input_of}
@@ -32,38 +32,38 @@ use Rattle.rehearse.specs.Blocks.{progress, beginning, turns, ending, input_of}
 -- ---- what lines are
 
 -- the settings of a line that is an accepted S
-abbrev pub accepted_in : Setup → Option Settings
-accepted_in (setup.Set settings) = some (settings_of settings)
-accepted_in (setup.Refused why) = none
+abbrev pub accepted_in : Result state.Settings Refusal → Option Settings
+accepted_in (Ok settings) = Some (settings_of settings)
+accepted_in (Err why) = None
 
-unfoldable pub accepted_by : Line → Option Settings
-accepted_by (line.Setup f n count faulty) = accepted_in (setup_of f n count faulty)
-accepted_by (line.Do step) = none
-accepted_by line.Unread = none
+unfoldable pub accepted_by : Option Line → Option Settings
+accepted_by (Some (line.Setup f n count faulty)) = accepted_in (setup_of f n count faulty)
+accepted_by (Some (line.Do step)) = None
+accepted_by None = None
 
 -- no line of these is an accepted S
-abbrev pub NoneAccepted : List Line → Type 0
-NoneAccepted lines = (one : Line) → Member one lines → accepted_by one ≡ none
+abbrev pub NoneAccepted : List (Option Line) → Type 0
+NoneAccepted lines = (one : Option Line) → Member one lines → accepted_by one ≡ None
 
 -- the steps among lines; a line that is unreadable, or an S, is none
-unfoldable pub steps_of : List Line → List Step
+unfoldable pub steps_of : List (Option Line) → List Step
 steps_of [] = []
-steps_of (line.Setup f n count faulty ∷ rest) = steps_of rest
-steps_of (line.Do step ∷ rest) = step_of step ∷ steps_of rest
-steps_of (line.Unread ∷ rest) = steps_of rest
+steps_of (Some (line.Setup f n count faulty) ∷ rest) = steps_of rest
+steps_of (Some (line.Do step) ∷ rest) = step_of step ∷ steps_of rest
+steps_of (None ∷ rest) = steps_of rest
 
 -- ---- what is printed for the lines of a session
 
 -- one output for each line: the first step gets answer `next`, the one after it `next + 1`, and so on
-unfoldable pub outputs_by : (ℕ → Answer) → ℕ → List Line → List Output
+unfoldable pub outputs_by : (ℕ → StepAnswer) → ℕ → List (Option Line) → List Output
 outputs_by answer next [] = []
-outputs_by answer next (line.Setup f n count faulty ∷ rest) =
+outputs_by answer next (Some (line.Setup f n count faulty) ∷ rest) =
     setup_output (setup_of f n count faulty) ∷ outputs_by answer next rest
-outputs_by answer next (line.Do step ∷ rest) = output.Answered (answer next) ∷ outputs_by answer (suc next) rest
-outputs_by answer next (line.Unread ∷ rest) = output.Unread ∷ outputs_by answer next rest
+outputs_by answer next (Some (line.Do step) ∷ rest) = output.Answered (answer next) ∷ outputs_by answer (suc next) rest
+outputs_by answer next (None ∷ rest) = output.Unread ∷ outputs_by answer next rest
 
 -- SET, and behind it the answers of the history that the steps have from the settings on
-abbrev pub session_outputs : Settings → List Line → List Output
+abbrev pub session_outputs : Settings → List (Option Line) → List Output
 session_outputs settings lines = output.Set ∷ outputs_by (answer_at settings formats (steps_of lines)) 0 lines
 
 -- outputs as text: the output at place n is printed with the number n, at most the last of 64 bits
@@ -78,7 +78,7 @@ text_from n (first ∷ rest) = printed (number_at n) first ++ text_from (suc n) 
 
 -- from a place of the outputs on stand those of an accepted S and of the lines behind it, with the answers of
 -- the history; and demand 3 holds of this history
-pub record Session (outputs : List Output) (place : ℕ) (settings : Settings) (lines : List Line)
+pub record Session (outputs : List Output) (place : ℕ) (settings : Settings) (lines : List (Option Line))
     : Type 0 where
   pub front : List Output
   pub behind : List Output
@@ -89,7 +89,7 @@ pub record Session (outputs : List Output) (place : ℕ) (settings : Settings) (
 -- ---- what holds of the program
 
 -- the lines of an input that comes in parts
-abbrev pub lines_in : List (List ℕ) → List Line
+abbrev pub lines_in : List (List ℕ) → List (Option Line)
 lines_in parts = map line_of (lines_of (input_of parts))
 
 -- all that the program has written at the input's end is the text of outputs, one for each line; and wherever
@@ -98,7 +98,7 @@ pub record Rehearsed (parts : List (List ℕ)) : Type 0 where
   pub outputs : List Output
   pub many : length outputs ≡ length (lines_in parts)
   pub written : ending (turns (progress beginning [] []) parts) ≡ text_from 0 outputs
-  pub sessions : (before between after : List Line) (start : Line) (settings : Settings)
+  pub sessions : (before between after : List (Option Line)) (start : Option Line) (settings : Settings)
       → lines_in parts ≡ before ++ (start ∷ between ++ after)
-      → accepted_by start ≡ some settings → NoneAccepted between
+      → accepted_by start ≡ Some settings → NoneAccepted between
       → Session outputs (length before) settings between

@@ -3,8 +3,8 @@
 -- In order: what the program knows between two lines; what it prints of a line; what it knows after the
 -- line; lines one after the other.
 -- Assumes nothing.
-use Rattle.std.specs.Prelude.{ℕ, ◌≡◌, Bool, true, cond, List, [], ◌∷◌, ◌++◌}
-use Rattle.register.specs.declared.Answer.TheVariants.{Refused}
+use Rattle.std.specs.Prelude.{ℕ, ◌≡◌, List, [], ◌∷◌, ◌++◌, Option, Some, None, Result, Ok, Err}
+use Rattle.refusal.specs.declared.Refusal.{Refusal}
 use Rattle.register.specs.declared.Step.{Step}
 use Rattle.register.specs.World.{new_world}
 use Rattle.script.specs.declared.parse.Line.{Line}
@@ -17,77 +17,73 @@ use Rattle.script.specs.Printed.{printed}
 use Rattle.state.specs.declared.Settings.{Settings}
 use Rattle.state.specs.State.{store_servers, store_clients, store_slots}
 use Rattle.steps.specs.After.{After}
-use Rattle.system.specs.declared.setup.Setup.{Setup}
-use Rattle.system.specs.declared.setup.Setup.TheVariants as setup
 use Rattle.system.specs.Setup.{setup_of}
 use Rattle.system.specs.Step.{stepped}
 
--- whether a setup was accepted, the settings and the memory of the system, and the next line's number
+-- the settings of the last accepted setup, if there was one, the memory of the system, and the next line's
+-- number
 pub record Stage : Type 0 where
-  pub is_set : Bool
-  pub settings : Settings
+  pub settings : Option Settings
   pub servers : List ℕ
   pub clients : List ℕ
   pub slots : List ℕ
   pub number : ℕ
 
-abbrev pub stage : Bool → Settings → List ℕ → List ℕ → List ℕ → ℕ → Stage
-stage is_set settings servers clients slots number =
-    record {
-      is_set = is_set;
-      settings = settings;
-      servers = servers;
-      clients = clients;
-      slots = slots;
-      number = number;
-    }
+abbrev pub stage : Option Settings → List ℕ → List ℕ → List ℕ → ℕ → Stage
+stage settings servers clients slots number =
+    record { settings = settings; servers = servers; clients = clients; slots = slots; number = number }
 
--- a step of the system that it knows
-abbrev pub step_on : Stage → Step → After
-step_on known step = stepped known.settings known.servers known.clients known.slots step
+-- a step of the system, by its settings
+abbrev pub step_on : Stage → Settings → Step → After
+step_on known settings step = stepped settings known.servers known.clients known.slots step
 
 -- ---- what is printed
 
 -- SET, or the refusal
-abbrev pub setup_output : Setup → Output
-setup_output (setup.Set settings) = output.Set
-setup_output (setup.Refused why) = output.Answered (Refused why)
+abbrev pub setup_output : Result Settings Refusal → Output
+setup_output (Ok settings) = output.Set
+setup_output (Err why) = output.Answered (Err why)
 
 -- a step before an accepted setup is unreadable
-unfoldable pub output_of : Stage → Line → Output
-output_of known (line.Setup f n count faulty) = setup_output (setup_of f n count faulty)
-output_of known (line.Do step) =
-    cond known.is_set (output.Answered (step_on known step).answer) output.Unread
-output_of known line.Unread = output.Unread
+abbrev pub step_output : Stage → Option Settings → Step → Output
+step_output known (Some settings) step = output.Answered (step_on known settings step).answer
+step_output known None step = output.Unread
+
+unfoldable pub output_of : Stage → Option Line → Output
+output_of known (Some (line.Setup f n count faulty)) = setup_output (setup_of f n count faulty)
+output_of known (Some (line.Do step)) = step_output known known.settings step
+output_of known None = output.Unread
 
 -- ---- what is known after it
 
 -- only the count of lines has changed, or the memory too
 abbrev pub counted : Stage → Stage
 counted known =
-    stage known.is_set known.settings
-    known.servers known.clients known.slots (next_number known.number)
+    stage known.settings known.servers known.clients known.slots (next_number known.number)
 
 abbrev pub moved : Stage → After → Stage
 moved known result =
-    stage known.is_set known.settings
-    result.servers result.clients result.slots (next_number known.number)
+    stage known.settings result.servers result.clients result.slots (next_number known.number)
 
 -- an accepted setup sets up afresh, a refused one keeps the present system, or none
-abbrev pub set_up : Stage → Setup → Stage
-set_up known (setup.Set settings) =
-    stage true settings (store_servers new_world) (store_clients new_world) (store_slots new_world)
+abbrev pub set_up : Stage → Result Settings Refusal → Stage
+set_up known (Ok settings) =
+    stage (Some settings) (store_servers new_world) (store_clients new_world) (store_slots new_world)
     (next_number known.number)
-set_up known (setup.Refused why) = counted known
+set_up known (Err why) = counted known
 
 -- a step before an accepted setup changes nothing
-unfoldable pub after : Stage → Line → Stage
-after known (line.Setup f n count faulty) = set_up known (setup_of f n count faulty)
-after known (line.Do step) = cond known.is_set (moved known (step_on known step)) (counted known)
-after known line.Unread = counted known
+abbrev pub step_stage : Stage → Option Settings → Step → Stage
+step_stage known (Some settings) step = moved known (step_on known settings step)
+step_stage known None step = counted known
+
+unfoldable pub after : Stage → Option Line → Stage
+after known (Some (line.Setup f n count faulty)) = set_up known (setup_of f n count faulty)
+after known (Some (line.Do step)) = step_stage known known.settings step
+after known None = counted known
 
 -- a line is obeyed: what is printed of it, and what is known after it, but for the line's number
-pub record Obeys (known : Stage) (given : Line) (what : Output) (next : ℕ → Stage) : Type 0 where
+pub record Obeys (known : Stage) (given : Option Line) (what : Output) (next : ℕ → Stage) : Type 0 where
   pub prints : what ≡ output_of known given
   pub leaves : next (next_number known.number) ≡ after known given
 

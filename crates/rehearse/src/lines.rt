@@ -1,67 +1,37 @@
 // The lines of a block, one after the other: what each does, and the line that is printed of it.
-ghost use Rattle.std.specs.Prelude.{ℕ, ◌*◌, ◌+◌, ◌≤◌, true, ◌≡◌, length};
+ghost use Rattle.std.specs.Prelude.{ℕ, ◌*◌, ◌≤◌, true, ◌≡◌, length, IfSome};
 ghost use Rattle.script.specs.Numerals.{numeral_of};
 ghost use Rattle.script.specs.Printed.{longest};
 ghost use Rattle.state.specs.Sound.{is_sound};
 ghost use Rattle.rehearse.specs.Stage.{stage, Obeys};
-ghost use Rattle.rehearse.specs.Blocks.{turn_of, LinesDone};
+ghost use Rattle.rehearse.specs.Blocks.{LinesDone};
 
 use channel::Slots;
-use register::Answer;
+use register::Step;
 use script::next::next;
 use script::parse::Line;
 use script::print::{Numeral, Output, next_numeral, put_numeral, put_output};
 use state::{Clients, Servers, Settings};
 use steps::step::make_step;
-use system::setup::{Setup, set_up};
+use system::setup::set_up;
 
-// What the lines of a block leave: the settings, whether a setup was accepted, the next line's number,
-// where the line that is cut begins, and how much output there is.
+// What the lines of a block leave: the settings of the last accepted setup, if there was one, the next line's
+// number, where the line that is cut begins, and how much output there is.
 #[derive(Clone, Copy)]
 pub struct Turn {
-    pub settings: Settings,
-    pub is_set: bool,
+    pub settings: Option<Settings>,
     pub number: Numeral,
     pub at: usize,
     pub used: usize,
 }
 
-pub fn turn_of(settings: Settings, is_set: bool, number: Numeral, at: usize, used: usize) -> Turn
-    ensures { result ≡ turn_of settings is_set number at used }
-{
-    Turn {
-        settings: settings,
-        is_set: is_set,
-        number: number,
-        at: at,
-        used: used,
-    }
-}
-
 // ---- what a line does
 
-// What is printed of a line, and the settings after it, with whether a setup was accepted.
-#[derive(Clone, Copy)]
-struct Obeyed {
-    what: Output,
-    settings: Settings,
-    is_set: bool,
-}
-
-fn obeyed_of(settings: Settings, is_set: bool, what: Output) -> Obeyed
-    ensures { result ≡ record { what = what; settings = settings; is_set = is_set } }
-{
-    Obeyed {
-        what: what,
-        settings: settings,
-        is_set: is_set,
-    }
-}
+// Each function answers what is printed of the line.
 
 // An accepted setup sets up afresh, a refused one keeps the present system, or none.
 fn set_afresh(
-    settings: Settings,
-    is_set: bool,
+    settings: &mut Option<Settings>,
     f: u32,
     n: u32,
     count: u32,
@@ -69,49 +39,59 @@ fn set_afresh(
     servers: &mut Servers,
     clients: &mut Clients,
     slots: &mut Slots,
-) -> Obeyed
+) -> Output
     ensures { (number : ℕ) → Obeys
-        (stage is_set settings servers.old clients.old slots.old number)
-        (Line.Setup f n count faulty) result.what (stage result.is_set result.settings
-        servers.new clients.new slots.new) }
+        (stage settings.old servers.old clients.old slots.old number)
+        (Some (Line.Setup f n count faulty)) result
+        (stage settings.new servers.new clients.new slots.new) }
 {
     match set_up(f, n, count, faulty, servers, clients, slots) {
-        Setup::Set(accepted) => obeyed_of(accepted, true, Output::Set),
-        Setup::Refused(why) => obeyed_of(settings, is_set, Output::Answered(Answer::Refused(why))),
+        Ok(accepted) => {
+            *settings = Some(accepted);
+            Output::Set
+        }
+        Err(why) => Output::Answered(Err(why)),
     }
 }
 
 // A step before an accepted setup is unreadable.
 #[tactic(auto, using(system::proofs::StepLaws::step_law), unfolding(crate::specs::Stage::output_of, crate::specs::Stage::after))]
-fn obey(
-    settings: Settings,
-    is_set: bool,
-    line: Line,
+fn obey_step(
+    settings: Option<Settings>,
+    step: Step,
     servers: &mut Servers,
     clients: &mut Clients,
     slots: &mut Slots,
-) -> Obeyed
-    requires { is_sound settings servers.old clients.old slots.old ≡ true }
+) -> Output
+    requires { IfSome settings (λ present. is_sound present servers.old clients.old slots.old ≡ true) }
     ensures { (number : ℕ) → Obeys
-        (stage is_set settings servers.old clients.old slots.old number)
-        line result.what (stage result.is_set result.settings
-        servers.new clients.new slots.new) }
+        (stage settings servers.old clients.old slots.old number)
+        (Some (Line.Do step)) result (stage settings servers.new clients.new slots.new) }
+{
+    match settings {
+        Some(present) => Output::Answered(make_step(present, step, servers, clients, slots)),
+        None => Output::Unread,
+    }
+}
+
+fn obey(
+    settings: &mut Option<Settings>,
+    line: Option<Line>,
+    servers: &mut Servers,
+    clients: &mut Clients,
+    slots: &mut Slots,
+) -> Output
+    requires { IfSome settings.old (λ present. is_sound present servers.old clients.old slots.old ≡ true) }
+    ensures { (number : ℕ) → Obeys
+        (stage settings.old servers.old clients.old slots.old number)
+        line result (stage settings.new servers.new clients.new slots.new) }
 {
     match line {
-        Line::Setup(f, n, count, faulty) => set_afresh(
-            settings, is_set, f, n, count, faulty, servers, clients, slots,
+        Some(Line::Setup(f, n, count, faulty)) => set_afresh(
+            settings, f, n, count, faulty, servers, clients, slots,
         ),
-        Line::Do(step) => {
-            if !is_set {
-                return obeyed_of(settings, is_set, Output::Unread);
-            }
-            obeyed_of(
-                settings,
-                is_set,
-                Output::Answered(make_step(settings, step, servers, clients, slots)),
-            )
-        }
-        Line::Unread => obeyed_of(settings, is_set, Output::Unread),
+        Some(Line::Do(step)) => obey_step(*settings, step, servers, clients, slots),
+        None => Output::Unread,
     }
 }
 
@@ -127,7 +107,7 @@ pub fn obey_lines(
     clients: &mut Clients,
     slots: &mut Slots,
 ) -> Turn
-    requires { (is_sound turn.settings servers.old clients.old slots.old ≡ true)
+    requires { IfSome turn.settings (λ present. is_sound present servers.old clients.old slots.old ≡ true)
         × (turn.number ≡ numeral_of turn.number.number)
         × (length input.now * longest ≤ length out.old) }
     ensures { LinesDone turn input.now
@@ -135,21 +115,21 @@ pub fn obey_lines(
         result servers.new clients.new slots.new out.new }
 {
     let mut settings = turn.settings;
-    let mut is_set = turn.is_set;
     let mut number = turn.number;
     let mut at = 0;
     let mut used = 0;
     loop {
         let found = next(input, at);
         if input.len() <= found.end {
-            return turn_of(settings, is_set, number, at, used);
+            return Turn {
+                settings: settings,
+                number: number,
+                at: at,
+                used: used,
+            };
         }
-        let line = found.line;
         let number_end = put_numeral(out, used, number);
-        let obeyed = obey(settings, is_set, line, servers, clients, slots);
-        let what = obeyed.what;
-        settings = obeyed.settings;
-        is_set = obeyed.is_set;
+        let what = obey(&mut settings, found.line, servers, clients, slots);
         used = put_output(out, number_end, what);
         at = found.end + 1;
         number = next_numeral(number);

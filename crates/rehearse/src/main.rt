@@ -8,10 +8,10 @@ ghost use Rattle.std.specs.Prelude.{◌+◌, ◌<◌, ◌≤◌, ◌≡◌, leng
 ghost use Rattle.script.specs.Writing.{Written};
 ghost use Rattle.rehearse.specs.Blocks.{joined, input_bytes, output_bytes};
 
-use lines::{obey_lines, turn_of};
+use lines::{Turn, obey_lines};
 use script::lines::{NEWLINE, keep};
 use script::print::{PRINTED_BYTES, numeral_of};
-use state::{CLIENTS_LENGTH, SERVERS_LENGTH, Settings};
+use state::{CLIENTS_LENGTH, SERVERS_LENGTH};
 use std::io::Read;
 
 mod lines;
@@ -74,8 +74,7 @@ fn write_out(rt: &(impl Print + Eprint), text: &[u8]) -> bool {
 }
 
 // Every line of input prints at most 80 bytes, so the output of a block has room. A proved loop has to end,
-// and nothing says that the input does: so the loop counts its turns down, from a number that no run uses
-// up.
+// and nothing says that the input does: so the loop has a number of turns that no run uses up.
 fn main(rt: HostRuntime) {
     let mut stdin = rt.stdin();
     let mut servers = [0u64; SERVERS_LENGTH];
@@ -83,16 +82,14 @@ fn main(rt: HostRuntime) {
     let mut slots = channel::empty_slots();
     let mut input = new_input();
     let mut out = new_output();
-    let settings = Settings {
-        f: 0,
-        n: 1,
-        clients: 1,
-        faulty: 0,
+    let mut turn = Turn {
+        settings: None,
+        number: numeral_of(0),
+        at: 0,
+        used: 0,
     };
-    let mut turn = turn_of(settings, false, numeral_of(0), 0, 0);
     let mut have = 0;
-    let mut turns = u64::MAX;
-    while 0 < turns {
+    for _ in 0..u64::MAX {
         let more = read_behind(&mut stdin, &mut input, have);
         let total = close(&mut input, have, more);
         if total < 1 {
@@ -112,6 +109,5 @@ fn main(rt: HostRuntime) {
         }
         let at = turn.at;
         have = keep(&mut input, at, total);
-        turns -= 1;
     }
 }

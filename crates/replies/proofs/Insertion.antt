@@ -4,12 +4,19 @@
 -- (`is_there`), nothing changes; otherwise it is put there (`insert_is`). A set within its limit then keeps
 -- all (`add_room`), and one that is over it loses its first pair (`add_full`).
 -- Assumes nothing.
-use Rattle.basics.proofs.Prelude.{◌≡◌, refl, Bool, false, cond, ◌&&◌, List, [], ◌∷◌, length, get_or, take, drop}
+use Rattle.basics.proofs.Prelude.{◌≡◌, refl, Bool, false, cond, not, ◌&&◌, List, [], ◌∷◌, length, get_or}
+use Rattle.basics.proofs.Prelude.{take, drop}
 use Rattle.basics.proofs.Prelude.{length-append, length-drop, length-take-le, ℕ, suc, ◌+◌, ◌≤◌, ◌<◌, arith}
 use Rattle.basics.proofs.Prelude.{ltb, eqb-false, ne_eqb, le-leb, lt-leb, ltb-true, ltb-false, lt-ltb, le-ltb}
+use Rattle.basics.proofs.Prelude.{sym, ap, ◌∙◌, leb, leb-true, leb-false}
 use Prim.Native.Nat.compare
+use Rattle.std.specs.Prelude.{Option, Some, None, unwrap_or}
+use Rattle.std.specs.List.{position_or_len}
+use Rattle.std.proofs.lemmas.List.Recursion.{is_position_or_len}
+use Rattle.std.proofs.lemmas.List.Sums.{prefix_len-le-length}
 use Rattle.basics.proofs.Cases.{by_test}
 use Rattle.register.proofs.Vocabulary.{Pair, below, same, initial, insert, add}
+use Rattle.replies.specs.Replies.{pairs_of}
 use Rattle.replies.specs.Loops.{rank_of, placed_at}
 
 pub rank_le : (pair : Pair) (pairs : List Pair) → rank_of pair pairs ≤ length pairs
@@ -18,6 +25,28 @@ rank_le pair [] = omega arith
 rank_le pair (other ∷ rest) =
     let ih = rank_le pair rest in
     by_test (below other pair) (λ e. rw e (omega arith)) (λ e. rw e (omega arith))
+
+-- the first number that is not below the pair's stands at its place, or the pair's place is the end
+pub rank_at : (pair : Pair) (numbers : List ℕ) {at : Option ℕ} {place : ℕ}
+    → let first = position_or_len (leb pair.0) numbers in
+    at ≡ cond (ltb first (length numbers)) (Some first) None → place ≡ unwrap_or at (length numbers)
+    → place ≡ rank_of pair (pairs_of numbers)
+unfolding rank_of
+rank_at pair numbers found e =
+    e ∙ ap (λ (at : Option ℕ). unwrap_or at (length numbers)) found
+    ∙ by_test (ltb first (length numbers)) (λ t. rw t)
+    (λ t. let past = ltb-false first (length numbers) t in
+    let most = prefix_len-le-length (λ number. not (leb pair.0 number)) numbers in
+    rw t (omega arith)) ∙ sym (same numbers)
+  where
+    first : ℕ
+    first = position_or_len (leb pair.0) numbers
+
+    same : (numbers : List ℕ) → rank_of pair (pairs_of numbers) ≡ position_or_len (leb pair.0) numbers
+    same = is_position_or_len (λ list. rank_of pair (pairs_of list)) (leb pair.0) refl
+        (λ number rest. by_test (leb pair.0 number)
+        (λ t. let le = leb-true pair.0 number t in rw (t, le-ltb number pair.0 le))
+        (λ t. let lt = leb-false pair.0 number t in rw (t, lt-ltb number pair.0 lt) (omega arith)))
 
 -- the pair that stands at a pair's place is that pair
 abbrev pub is_there : Pair → List Pair → Bool

@@ -2,11 +2,15 @@
 --
 -- A place of a server is there, so each of the three readings is its number's (`noted_at`, `set_at_lem`,
 -- `ack_at_lem`). A set's size is the number that stands for it, or four where that is more (`size_below`,
--- `size_full`), and its pairs are the numbers in order (`pair_at_lem`, `set_four`).
+-- `size_full`), and its pairs are the numbers in order (`pair_at_lem`, `numbers_at`, `set_four`, `set_read`).
 -- Assumes nothing.
-use Rattle.basics.proofs.Prelude.{◌≡◌, refl, sym, ap, ◌∙◌, not, List, [], ◌∷◌, ◌++◌, append-nil, length, get_or}
+use Rattle.basics.proofs.Prelude.{◌≡◌, refl, sym, ap, ◌∙◌, not, List, [], ◌∷◌, ◌++◌, append-nil, length}
+use Rattle.basics.proofs.Prelude.{get_or}
 use Rattle.basics.proofs.Prelude.{take, drop, length-drop, length-take-le, ℕ, zero, suc, ◌+◌, ◌*◌, ◌≤◌, ◌<◌}
 use Rattle.basics.proofs.Prelude.{not-suc-le-zero, add-zero, add-one, arith, eqb, leb, ne_eqb, lt-ltb}
+use Rattle.basics.proofs.Prelude.{leb-true, leb-false}
+use Rattle.basics.proofs.Cases.{by_test}
+use Rattle.std.proofs.lemmas.List.{take-take}
 use Prim.Native.Nat.compare
 use native.Mathlib.Nat.{le_of_suc-le-suc}
 use lib.ListN.{drop_of_length-le}
@@ -56,6 +60,13 @@ pairs_at_lem [] j otherwise h = absurd (not-suc-le-zero h)
 pairs_at_lem (number ∷ numbers) zero otherwise h = refl
 pairs_at_lem (number ∷ numbers) (suc j) otherwise h = pairs_at_lem numbers j otherwise (le_of_suc-le-suc h)
 
+-- the pairs from place j on begin with the one at j
+pub rest_at : (numbers : List ℕ) (j : ℕ) → j < length numbers
+    → drop j (pairs_of numbers) ≡ record { 0 = get_or numbers j 0 } ∷ drop (suc j) (pairs_of numbers)
+rest_at numbers j h =
+    drop-cons (pairs_of numbers) j initial (omega (arith, pairs_length numbers))
+    ∙ ap (λ (pair : Pair). pair ∷ drop (suc j) (pairs_of numbers)) (pairs_at_lem numbers j initial h)
+
 module _ (replies : List ℕ) (i : ℕ) (long : length replies ≡ replies_length) (ih : i < most_servers) where
   abbrev four : List ℕ
   four = four_at replies i
@@ -79,6 +90,18 @@ module _ (replies : List ℕ) (i : ℕ) (long : length replies ≡ replies_lengt
 
   pub size_full : set_limit ≤ size → length pairs ≡ set_limit
   size_full h = set_length ∙ ap length (take_all size four (omega (arith, four_length))) ∙ four_length
+
+  -- as many numbers as the set has pairs
+  pub numbers_at : (count width : ℕ) → count ≡ length pairs → width ≡ count
+      → pairs_of (take width (drop (pairs_at + i * set_limit) replies)) ≡ pairs
+  numbers_at count width e same =
+      let numbers = drop (pairs_at + i * set_limit) replies in
+      by_test (leb size set_limit)
+      (λ t. let few = leb-true size set_limit t in
+      rw (same ∙ e ∙ size_below few, ← take-take size set_limit numbers few) (sym (set_at_lem replies i ih)))
+      (λ t. let many = leb-false size set_limit t in
+      rw (same ∙ e ∙ size_full (omega arith))
+      (ap pairs_of (sym (take_all size four (omega (arith, four_length)))) ∙ sym (set_at_lem replies i ih)))
 
   pub size_most : length pairs ≤ set_limit
   size_most =
@@ -112,19 +135,36 @@ module _ (replies : List ℕ) (i : ℕ) (long : length replies ≡ replies_lengt
       get_or-take size four j 0 (omega (arith, size_most_read)) ∙ four_at_lem j (omega (arith, size_most)) in
       rw (set_at_lem replies i ih) (pairs_at_lem (take size four) j otherwise inside ∙ (λ e. record { 0 = word e }))
 
-  -- the rest of a set from place j on begins with the pair at j
-  pub rest_at : (j : ℕ) → j < length pairs
-      → drop j pairs ≡ record { 0 = pair_at replies i j } ∷ drop (suc j) pairs
-  rest_at j h = drop-cons pairs j initial h ∙ ap (λ (x : Pair). x ∷ drop (suc j) pairs) (pair_at_lem j initial h)
-
   -- the set by its four numbers
-  pub set_four : pairs
+  pub set_four : (numbers : List ℕ) → numbers ≡ four
+      → pairs
+      ≡ of_four (get_or numbers 0 0) (get_or numbers 1 0) (get_or numbers 2 0) (get_or numbers 3 0) size
+  unfolding row
+  set_four numbers e =
+      let number : ℕ → ℕ = λ j. get_or numbers j 0 in
+      let long : length numbers ≡ set_limit = ap length e ∙ four_length in
+      let whole : row number set_limit ++ drop set_limit numbers ≡ numbers =
+      row_is number set_limit numbers (omega arith) (λ j h. refl) in
+      let none = drop_of_length-le numbers {i = set_limit} (omega arith) in
+      let all = rw (none, append-nil (row number set_limit)) at whole in
+      set_at_lem replies i ih ∙ ap (λ (list : List ℕ). pairs_of (take size list)) (sym (all ∙ e))
+
+  -- number j of them
+  pub number_at : (numbers : List ℕ) → numbers ≡ four → (j : ℕ) → j < set_limit
+      → get_or numbers j 0 ≡ pair_at replies i j
+  number_at numbers e j h = ap (λ (list : List ℕ). get_or list j 0) e ∙ four_at_lem j h
+
+  -- the set by the numbers as they are read one by one
+  pub set_read : pairs
       ≡ of_four (get_or replies (pairs_at + i * set_limit) 0) (pair_at replies i 1) (pair_at replies i 2)
       (pair_at replies i 3) size
-  unfolding row
-  set_four =
-      let numbers : row (pair_at replies i) set_limit ++ drop set_limit four ≡ four =
-      row_is (pair_at replies i) set_limit four (omega (arith, four_length)) (λ j h. sym (four_at_lem j h)) in
-      let none = drop_of_length-le four {i = set_limit} (omega (arith, four_length)) in
-      let all = rw (none, append-nil (row (pair_at replies i) set_limit)) at numbers in
-      set_at_lem replies i ih ∙ rw (← all, add-zero (pairs_at + i * set_limit))
+  set_read =
+      let number = number_at four refl in
+      set_four four refl
+      ∙ rw (
+        number 0 (omega arith),
+        number 1 (omega arith),
+        number 2 (omega arith),
+        number 3 (omega arith),
+        add-zero (pairs_at + i * set_limit),
+      )

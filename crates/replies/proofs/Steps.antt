@@ -1,23 +1,20 @@
 -- One turn of each loop over a set, on the rest of the set from place j on, and the end of each; and the four
 -- places of a set, read without a loop.
 -- Assumes nothing.
-use Rattle.basics.proofs.Prelude.{◌≡◌, refl, ap, ◌∙◌, Bool, true, false, cond, ◌&&◌, ◌||◌, List, [], ◌∷◌}
+use Rattle.basics.proofs.Prelude.{◌≡◌, refl, ap, ◌∙◌, Bool, cond, ◌&&◌, ◌||◌, List, [], ◌∷◌}
 use Rattle.basics.proofs.Prelude.{◌++◌, Option, length, take, drop, ℕ, zero, suc, ◌+◌, ◌≤◌, ◌<◌, add-one}
 use Rattle.basics.proofs.Prelude.{arith, eqb, ltb}
 use mathlib.Core.Bool.{and_assoc, and-true, or_assoc, or-false}
 use lib.ListN.{drop_of_length-le}
 use lib.Seq.{take-nil}
 use mir.Val.{bool_byte}
-use Rattle.register.proofs.Vocabulary.{count_below, Pair, below, has, higher, highest_of, all_pairs}
+use Rattle.register.proofs.Vocabulary.{count_below, Pair, has, higher, highest_of, all_pairs}
 use Rattle.replies.specs.Replies.{pairs_of}
 use Rattle.replies.specs.Sound.{is_rising}
-use Rattle.replies.specs.Loops.{best_of, rank_of}
-
+use Rattle.replies.specs.Loops.{best_of}
 -- ---- counting
 
-pub bool_le : (b : Bool) → bool_byte b ≤ 1
-bool_le true = omega arith
-bool_le false = omega arith
+pub use Rattle.basics.proofs.Counting.{bool_le}
 
 pub count_step : (test : ℕ → Bool) (i count : ℕ) (b : Bool) → b ≡ test i → count ≡ count_below test i
     → count + bool_byte b ≡ count_below test (i + 1)
@@ -28,26 +25,6 @@ pub count_end : (test : ℕ → Bool) (i n count : ℕ) → i ≤ n → n ≤ i 
     → count ≡ count_below test n
 count_end test i n count most least e = let end : i ≡ n = omega arith in e ∙ ap (count_below test) end
 
--- a loop over the numbers below n: before number i it has counted those that pass the test
-abbrev pub Counted : (ℕ → Bool) → ℕ → ℕ → ℕ → Type 0
-Counted test n count i = (i ≤ n) × (count ≤ i) × (count ≡ count_below test i)
-
-module _ (test : ℕ → Bool) (n : ℕ) where
-  pub counted_none : Counted test n 0 0
-  unfolding count_below
-  counted_none = (omega arith, omega arith, refl)
-
-  pub counted_more : (count i : ℕ) (b : Bool) → i < n → b ≡ test i → Counted test n count i
-      → Counted test n (count + bool_byte b) (i + 1)
-  counted_more count i b less e so = (
-    omega arith,
-    omega (arith, bool_le b, so.1),
-    count_step test i count b e so.2,
-  )
-
-  pub counted_all : (count i : ℕ) → n ≤ i → Counted test n count i → count ≡ count_below test n
-  counted_all count i end so = count_end test i n count so.0 end so.2
-
 -- tests that agree below n count the same
 pub count_same : (p q : ℕ → Bool) (n : ℕ) → ((i : ℕ) → i < n → p i ≡ q i) → count_below p n ≡ count_below q n
 unfolding count_below
@@ -55,17 +32,6 @@ count_same p q zero h = refl
 count_same p q (suc n) h = rw (count_same p q n (λ i less. h i (omega arith)), h n (omega arith))
 
 -- ---- the rest of a set from place j on, by its first pair
-
-module _ (pairs : List Pair) (j : ℕ) (first : Pair) (e : drop j pairs ≡ first ∷ drop (suc j) pairs)
-    (pair : Pair) where
-  pub rank_next : below first pair ≡ true
-      → rank_of pair (drop j pairs) ≡ suc (rank_of pair (drop (j + 1) pairs))
-  unfolding rank_of
-  rank_next q = rw (add-one j, e, q)
-
-  pub rank_here : below first pair ≡ false → rank_of pair (drop j pairs) ≡ 0
-  unfolding rank_of
-  rank_here q = rw (e, q)
 
 module _ (test : Pair → Bool) (pairs : List Pair) (best : Option Pair) (j : ℕ) (first : Pair)
     (e : drop j pairs ≡ first ∷ drop (suc j) pairs) where
@@ -75,10 +41,6 @@ module _ (test : Pair → Bool) (pairs : List Pair) (best : Option Pair) (j : �
   best_next = rw (add-one j, e)
 
 -- ---- the end of a set
-
-pub rank_none : (pair : Pair) (pairs : List Pair) (j : ℕ) → j ≡ length pairs → rank_of pair (drop j pairs) ≡ 0
-unfolding rank_of
-rank_none pair pairs j h = rw (drop_of_length-le pairs {i = j} (omega arith))
 
 pub best_none : (test : Pair → Bool) (pairs : List Pair) (best : Option Pair) (j : ℕ) → j ≡ length pairs
     → best_of test (drop j pairs) best ≡ best

@@ -5,7 +5,7 @@
 -- to one server's part is one update of what is shown (`note_noted`, `set_sets`, `ack_acks`), and the empty
 -- memory shows nothing.
 -- Assumes nothing.
-use Rattle.basics.proofs.Prelude.{◌≡◌, refl, sym, ap, ◌∙◌, true, false, not, List, [], none, some, length}
+use Rattle.basics.proofs.Prelude.{◌≡◌, refl, sym, ap, ◌∙◌, true, false, not, List, [], None, Some, length}
 use Rattle.basics.proofs.Prelude.{get_or, take, replicate, length-set, ℕ, zero, suc, ◌+◌, ◌*◌, ◌≤◌, ◌<◌}
 use Rattle.basics.proofs.Prelude.{add-one, arith, eqb, ltb, ltb-true, lt-ltb}
 use lib.Seq.{ext_get_or, get_or-set_same, get_or-set_other}
@@ -92,11 +92,11 @@ module _ (replies : List ℕ) (i stamp : ℕ) (long : length replies ≡ replies
     λ j h. note_other (pairs_at + k * set_limit + j) (λ e. omega arith),
   )
 
-  pub note_noted : noted_in (put_note replies i stamp) ≡ update (noted_in replies) (suc i) (some stamp)
+  pub note_noted : noted_in (put_note replies i stamp) ≡ update (noted_in replies) (suc i) (Some stamp)
   unfolding noted_in note_of
   note_noted =
-      shown_update none (λ k. note_of (note_at replies k)) (λ k. note_of (note_at (put_note replies i stamp) k)) i
-      (some stamp) ih (rw (get_or-set_same replies i (stamp + 1) 0 (omega arith), add-one stamp))
+      shown_update None (λ k. note_of (note_at replies k)) (λ k. note_of (note_at (put_note replies i stamp) k)) i
+      (Some stamp) ih (rw (get_or-set_same replies i (stamp + 1) 0 (omega arith), add-one stamp))
       (λ k h apart. ap note_of (note_other k (λ e. apart (sym e))))
 
   pub note_sets : set_in (put_note replies i stamp) ≡ set_in replies
@@ -138,7 +138,7 @@ module _ (replies : List ℕ) (i : ℕ) (long : length replies ≡ replies_lengt
   pub ack_noted : noted_in (put_ack replies i) ≡ noted_in replies
   unfolding noted_in
   ack_noted =
-      shown_same none (λ k. note_of (note_at (put_ack replies i) k)) (λ k. note_of (note_at replies k))
+      shown_same None (λ k. note_of (note_at (put_ack replies i) k)) (λ k. note_of (note_at replies k))
       (λ k h. ap note_of (ack_other k (λ e. omega arith)))
 
   pub ack_sets : set_in (put_ack replies i) ≡ set_in replies
@@ -186,7 +186,7 @@ module _ (replies : List ℕ) (i : ℕ) (pairs : List Pair) (long : length repli
   pub set_noted : noted_in stored ≡ noted_in replies
   unfolding noted_in
   set_noted =
-      shown_same none (λ k. note_of (note_at stored k)) (λ k. note_of (note_at replies k))
+      shown_same None (λ k. note_of (note_at stored k)) (λ k. note_of (note_at replies k))
       (λ k h. ap note_of (set_front k (omega arith) (λ e. omega arith)))
 
   pub set_acks : ack_in stored ≡ ack_in replies
@@ -198,9 +198,9 @@ module _ (replies : List ℕ) (i : ℕ) (pairs : List Pair) (long : length repli
 -- ---- a memory whose numbers are zero shows nothing
 
 module _ (replies : List ℕ) where
-  pub zero_noted : ((i : ℕ) → i < most_servers → note_at replies i ≡ 0) → noted_in replies ≡ (λ k. none)
+  pub zero_noted : ((i : ℕ) → i < most_servers → note_at replies i ≡ 0) → noted_in replies ≡ (λ k. None)
   unfolding noted_in note_of
-  zero_noted zeros = shown_none none (λ i. note_of (note_at replies i)) (λ i h. ap note_of (zeros i h))
+  zero_noted zeros = shown_none None (λ i. note_of (note_at replies i)) (λ i h. ap note_of (zeros i h))
 
   pub zero_sets : ((i : ℕ) → i < most_servers → size_at replies i ≡ 0) → set_in replies ≡ (λ k. [])
   unfolding set_in
@@ -221,7 +221,7 @@ zero_at (suc n) (suc k) = zero_at n k
 abbrev pub emptied : List ℕ
 emptied = replicate replies_length 0
 
-pub empty_noted : noted_in emptied ≡ (λ k. none)
+pub empty_noted : noted_in emptied ≡ (λ k. None)
 empty_noted = zero_noted emptied (λ i h. zero_at replies_length i)
 
 pub empty_sets : set_in emptied ≡ (λ k. [])

@@ -6,7 +6,7 @@
 -- there.
 -- Assumes nothing.
 use Rattle.std.specs.Prelude.{ℕ, suc, ◌+◌, ◌-◌, Bool, true, cond, not, List, [], ◌∷◌, ◌++◌, eqb, ltb, get_or, take, drop}
-use Rattle.std.proofs.Math.Option.{Option, none, some}
+use Rattle.std.specs.Prelude.{Option, None, Some}
 use Rattle.message.specs.declared.Pair.{Pair}
 use Rattle.message.specs.Pair.{below}
 use Rattle.register.specs.declared.Phase.TheVariants.{Idle}
@@ -27,8 +27,8 @@ counts_in n f replies = counts n f 0 (held_in replies)
 
 -- a pair is above what was chosen so far
 abbrev pub is_above : Pair → Option Pair → Bool
-is_above pair none = true
-is_above pair (some best) = below best pair
+is_above pair None = true
+is_above pair (Some best) = below best pair
 
 -- the best choice so far, with the pairs of one more set
 unfoldable pub best_of : (Pair → Bool) → List Pair → Option Pair → Option Pair

@@ -8,7 +8,7 @@
 -- part replaced.
 -- Assumes nothing.
 use Rattle.std.specs.Prelude.{ℕ, zero, suc, ◌+◌, ◌*◌, ◌/◌, ◌%◌, ◌≤◌, ◌<◌, ◌≡◌, Bool, false, cond, not, List, [], ◌∷◌, ◌++◌, eqb, ltb, length, get_or, take, drop, set}
-use Rattle.std.proofs.Math.Option.{Option, none, some}
+use Rattle.std.specs.Prelude.{Option, None, Some}
 use Rattle.std.proofs.lemmas.List.Edits.{sets}
 use mir.Val.{bool_byte}
 use Rattle.message.specs.declared.Pair.{Pair}
@@ -16,8 +16,6 @@ use Rattle.message.specs.declared.ReadNumber.{ReadNumber}
 use Rattle.register.specs.declared.Phase.{Phase}
 use Rattle.register.specs.Settings.{most_servers}
 use Rattle.register.specs.Client.{Client, set_limit}
-use Rattle.replies.specs.declared.Choice.{Choice}
-use Rattle.replies.specs.declared.Choice.TheVariants.{Found, Nothing}
 
 -- ---- the places
 
@@ -52,8 +50,8 @@ pair_at replies i j = get_or replies (pairs_at + i * set_limit + j) 0
 
 -- a timestamp is stored plus one, so that zero is none
 unfoldable pub note_of : ℕ → Option ℕ
-note_of zero = none
-note_of (suc stamp) = some stamp
+note_of zero = None
+note_of (suc stamp) = Some stamp
 
 abbrev pub pairs_of : List ℕ → List Pair
 pairs_of [] = []
@@ -72,7 +70,7 @@ by_number nothing at_place zero = nothing
 by_number nothing at_place (suc i) = cond (ltb i most_servers) (at_place i) nothing
 
 unfoldable pub noted_in : List ℕ → ℕ → Option ℕ
-noted_in replies = by_number none (λ i. note_of (note_at replies i))
+noted_in replies = by_number None (λ i. note_of (note_at replies i))
 
 unfoldable pub set_in : List ℕ → ℕ → List Pair
 set_in replies = by_number [] (set_at replies)
@@ -99,8 +97,8 @@ row value zero = []
 row value (suc n) = value 0 ∷ row (λ i. value (suc i)) n
 
 unfoldable pub note_word : Option ℕ → ℕ
-note_word none = 0
-note_word (some stamp) = suc stamp
+note_word None = 0
+note_word (Some stamp) = suc stamp
 
 -- the number of the pair at place j of a set, zero behind its last
 unfoldable pub pair_word : List Pair → ℕ → ℕ
@@ -134,9 +132,3 @@ put_set replies i pairs =
 pub record Padded (replies : List ℕ) (i : ℕ) : Type 0 where
   pub size : size_at replies i ≤ set_limit
   pub zeros : (j : ℕ) → j < set_limit → size_at replies i ≤ j → pair_at replies i j ≡ 0
-
--- ---- the choice as an answer
-
-abbrev pub choice_of : Choice → Option Pair
-choice_of (Found pair) = some pair
-choice_of Nothing = none

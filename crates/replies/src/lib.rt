@@ -8,7 +8,7 @@ ghost use Rattle.register.specs.Settings.{most_servers};
 ghost use Rattle.register.specs.Thresholds.{counted};
 ghost use Rattle.register.specs.PairSet.{has, add};
 ghost use Rattle.register.specs.Client.{is_noted, is_at_most, higher, chosen, set_limit};
-ghost use Rattle.replies.specs.Replies.{replies_length, note_of, noted_in, set_in, ack_in, choice_of};
+ghost use Rattle.replies.specs.Replies.{replies_length, note_of, pairs_of, four_at, noted_in, set_in, ack_in};
 ghost use Rattle.replies.specs.Replies.{put_note, put_ack, put_set, Padded};
 ghost use Rattle.replies.specs.Sound.{is_rising, is_padded, is_within, is_sound_at, are_sound};
 ghost use Rattle.replies.specs.Loops.{is_used, held_in, counts_in, is_above, best_of, rank_of};
@@ -30,30 +30,20 @@ const PAIRS: usize = 3 * SERVERS;
 
 pub const LENGTH: usize = PAIRS + SERVERS * LIMIT;
 
+// The memory of what the servers have replied.
+pub type Replies = [u64; LENGTH];
+
 // The bits of a timestamp, and the highest one plus one.
 const STAMP_BITS: u32 = message::COUNTER_BITS + message::CLIENT_BITS;
 
 const MOST_NOTED: u64 = 1 << STAMP_BITS;
 
-// The pair that is chosen, if one counts.
-#[derive(Clone, Copy)]
-pub enum Choice {
-    Found(Pair),
-    Nothing,
-}
-
 // How many of the n numbers from at on are in use.
-fn used(replies: &[u64], at: usize, n: usize) -> u32
-    requires { (at + n ≤ length replies.now) × (n ≤ most_servers) }
+fn used(replies: &Replies, at: usize, n: usize) -> u32
+    requires { (at + n ≤ replies_length) × (n ≤ most_servers) }
     ensures { result ≡ count_below (is_used replies.now at) n }
 {
-    let mut count: u32 = 0;
-    let mut i = 0;
-    while i < n {
-        count += (replies[at + i] != 0) as u32;
-        i += 1;
-    }
-    count
+    basics::count_where(n, |i| replies[at + i] != 0)
 }
 
 // Whether a number notes a timestamp, at or below the stamp.
@@ -67,23 +57,17 @@ fn is_at_most(number: u64, stamp: Timestamp) -> bool
 }
 
 // How many noted timestamps are at or below the stamp.
-fn at_most(replies: &[u64], n: usize, stamp: Timestamp) -> u32
-    requires { (length replies.now ≡ replies_length) × (n ≤ most_servers) }
+fn at_most(replies: &Replies, n: usize, stamp: Timestamp) -> u32
+    requires { n ≤ most_servers }
     ensures { result
         ≡ counted (λ k. is_at_most stamp.0 (noted_in replies.now k)) n }
 {
-    let mut count: u32 = 0;
-    let mut i = 0;
-    while i < n {
-        count += is_at_most(replies[i], stamp) as u32;
-        i += 1;
-    }
-    count
+    basics::count_where(n, |i| is_at_most(replies[i], stamp))
 }
 
 // The size of a set, never above the limit.
-fn size_of(replies: &[u64], i: usize) -> usize
-    requires { (length replies.now ≡ replies_length) × (i < most_servers) }
+fn size_of(replies: &Replies, i: usize) -> usize
+    requires { i < most_servers }
     ensures { (result ≡ length (set_in replies.now (suc i))) × (result ≤ set_limit) }
 {
     let size = replies[SIZES + i];
@@ -94,10 +78,20 @@ fn size_of(replies: &[u64], i: usize) -> usize
     }
 }
 
+// The numbers of the pairs of the set at place i.
+fn pairs(replies: &Replies, i: usize) -> &[u64]
+    requires { i < most_servers }
+    ensures { pairs_of result.now ≡ set_in replies.now (suc i) }
+{
+    let at = PAIRS + i * LIMIT;
+    &replies[at..at + size_of(replies, i)]
+}
+
 // Whether the set of the server at place i has the pair.
-// All four numbers are read, so that nothing branches: which of them is the pair's cannot be foreseen.
-fn holds(replies: &[u64], i: usize, pair: Pair) -> bool
-    requires { (length replies.now ≡ replies_length) × (i < most_servers) }
+// All four numbers are read, so that nothing branches: which of them is the pair's cannot be foreseen. They are
+// read one by one: taken out by `four`, they made `choose` a fifth slower.
+fn holds(replies: &Replies, i: usize, pair: Pair) -> bool
+    requires { i < most_servers }
     ensures { result ≡ has pair (set_in replies.now (suc i)) }
 {
     let size = size_of(replies, i);
@@ -110,22 +104,16 @@ fn holds(replies: &[u64], i: usize, pair: Pair) -> bool
 }
 
 // How many sets have the pair.
-fn holders(replies: &[u64], n: usize, pair: Pair) -> u32
-    requires { (length replies.now ≡ replies_length) × (n ≤ most_servers) }
+fn holders(replies: &Replies, n: usize, pair: Pair) -> u32
+    requires { n ≤ most_servers }
     ensures { result ≡ counted (λ k. has pair (set_in replies.now k)) n }
 {
-    let mut count: u32 = 0;
-    let mut i = 0;
-    while i < n {
-        count += holds(replies, i, pair) as u32;
-        i += 1;
-    }
-    count
+    basics::count_where(n, |i| holds(replies, i, pair))
 }
 
 // Whether a pair counts: its timestamp is not old, and it stands in enough sets.
-fn does_count(replies: &[u64], n: u8, f: u8, pair: Pair) -> bool
-    requires { (length replies.now ≡ replies_length) × (n ≤ most_servers) }
+fn does_count(replies: &Replies, n: u8, f: u8, pair: Pair) -> bool
+    requires { n ≤ most_servers }
     ensures { result ≡ counts_in n f replies.now pair }
 {
     if !register::is_not_old(f, at_most(replies, n as usize, message::stamp_of(pair))) {
@@ -134,20 +122,20 @@ fn does_count(replies: &[u64], n: u8, f: u8, pair: Pair) -> bool
     register::is_valid(f, holders(replies, n as usize, pair))
 }
 
-fn is_above(pair: Pair, best: Choice) -> bool
-    ensures { result ≡ is_above pair (choice_of best) }
+fn is_above(pair: Pair, best: Option<Pair>) -> bool
+    ensures { result ≡ is_above pair best }
 {
     match best {
-        Choice::Found(other) => message::is_below(other, pair),
-        Choice::Nothing => true,
+        Some(other) => other < pair,
+        None => true,
     }
 }
 
 // The choice with one candidate more. It is tested only if it is above the choice so far.
-fn consider(replies: &[u64], n: u8, f: u8, pair: Pair, best: Choice) -> Choice
-    requires { (length replies.now ≡ replies_length) × (n ≤ most_servers) }
-    ensures { choice_of result
-        ≡ cond (counts_in n f replies.now pair) (higher pair (choice_of best)) (choice_of best) }
+fn consider(replies: &Replies, n: u8, f: u8, pair: Pair, best: Option<Pair>) -> Option<Pair>
+    requires { n ≤ most_servers }
+    ensures { result
+        ≡ cond (counts_in n f replies.now pair) (higher pair best) best }
 {
     if !is_above(pair, best) {
         return best;
@@ -155,80 +143,69 @@ fn consider(replies: &[u64], n: u8, f: u8, pair: Pair, best: Choice) -> Choice
     if !does_count(replies, n, f, pair) {
         return best;
     }
-    Choice::Found(pair)
+    Some(pair)
 }
 
 // The choice with the pairs of one more set, the highest first.
-fn better(replies: &[u64], n: u8, f: u8, i: usize, best: Choice) -> Choice
-    requires { (length replies.now ≡ replies_length) × (n ≤ most_servers) × (i < most_servers) }
-    ensures { choice_of result
+fn better(replies: &Replies, n: u8, f: u8, i: usize, best: Option<Pair>) -> Option<Pair>
+    requires { (n ≤ most_servers) × (i < most_servers) }
+    ensures { result
         ≡ best_of (counts_in n f replies.now) (set_in replies.now (suc i))
-        (choice_of best) }
+        best }
 {
-    let at = PAIRS + i * LIMIT;
+    let set = pairs(replies, i);
     let mut choice = best;
-    let mut j = size_of(replies, i);
-    while 0 < j {
-        j -= 1;
-        choice = consider(replies, n, f, Pair(replies[at + j]), choice);
+    for j in (0..set.len()).rev() {
+        choice = consider(replies, n, f, Pair(set[j]), choice);
     }
     choice
 }
 
 // The highest of the pairs that count, once enough timestamps are noted. There are at most 4n candidates;
 // one that is above the best so far costs n steps for its timestamp and 4n for its holders.
-pub fn choose(replies: &[u64], n: u8, f: u8) -> Choice
-    requires { (length replies.now ≡ replies_length) × (n ≤ most_servers) }
-    ensures { choice_of result ≡ chosen n f 0 (held_in replies.now) }
+pub fn choose(replies: &Replies, n: u8, f: u8) -> Option<Pair>
+    requires { n ≤ most_servers }
+    ensures { result ≡ chosen n f 0 (held_in replies.now) }
 {
-    let mut best = Choice::Nothing;
+    let mut best = None;
     if !register::is_enough(n, f, used(replies, 0, n as usize)) {
         return best;
     }
-    let mut i = 0;
-    while i < n as usize {
+    for i in 0..n as usize {
         best = better(replies, n, f, i, best);
-        i += 1;
     }
     best
 }
 
 // How many servers have acknowledged.
-pub fn acknowledged(replies: &[u64], n: u8) -> u32
-    requires { (length replies.now ≡ replies_length) × (n ≤ most_servers) }
+pub fn acknowledged(replies: &Replies, n: u8) -> u32
+    requires { n ≤ most_servers }
     ensures { result ≡ counted (ack_in replies.now) n }
 {
     used(replies, ACKS, n as usize)
 }
 
 // Whether a timestamp of the server at place i is noted.
-pub fn is_noted(replies: &[u64], i: usize) -> bool
-    requires { (length replies.now ≡ replies_length) × (i < most_servers) }
+pub fn is_noted(replies: &Replies, i: usize) -> bool
+    requires { i < most_servers }
     ensures { result ≡ is_noted (noted_in replies.now (suc i)) }
 {
     replies[i] != 0
 }
 
-// How many pairs at the head of a set of this size are below the pair.
-fn rank(replies: &[u64], i: usize, size: usize, pair: Pair) -> usize
-    requires { (length replies.now ≡ replies_length) × (i < most_servers)
-        × (size ≡ length (set_in replies.now (suc i))) × (size ≤ set_limit) }
+// How many pairs at the head of the set at place i are below the pair.
+fn rank(replies: &Replies, i: usize, pair: Pair) -> usize
+    requires { i < most_servers }
     ensures { result ≡ rank_of pair (set_in replies.now (suc i)) }
 {
-    let at = PAIRS + i * LIMIT;
-    let mut j = 0;
-    while j < size {
-        if pair.0 <= replies[at + j] {
-            return j;
-        }
-        j += 1;
-    }
-    j
+    let set = pairs(replies, i);
+    let at = set.iter().position(|other| pair.0 <= *other);
+    at.unwrap_or(set.len())
 }
 
 // Number `place` of those from at on, once the pair stands at place j.
-fn widened(replies: &[u64], at: usize, j: usize, pair: Pair, place: usize) -> u64
-    requires { (at + set_limit ≤ length replies.now) × (j ≤ set_limit) × (place ≤ set_limit) }
+fn widened(replies: &Replies, at: usize, j: usize, pair: Pair, place: usize) -> u64
+    requires { (at + set_limit ≤ replies_length) × (j ≤ set_limit) × (place ≤ set_limit) }
     ensures { result ≡ widened_by replies.now at j pair.0 place }
 {
     if place < j {
@@ -241,8 +218,8 @@ fn widened(replies: &[u64], at: usize, j: usize, pair: Pair, place: usize) -> u6
 }
 
 // A pair put at place j of a set of this size, of which the first `out` then leave.
-fn place(replies: &mut [u64], i: usize, size: usize, j: usize, pair: Pair, out: usize)
-    requires { (length replies.old ≡ replies_length) × (i < most_servers)
+fn place(replies: &mut Replies, i: usize, size: usize, j: usize, pair: Pair, out: usize)
+    requires { (i < most_servers)
         × (size ≡ length (set_in replies.old (suc i)))
         × (j ≤ size) × (out ≤ 1) × (size + 1 ≤ set_limit + out) × Padded replies.old i }
     ensures { replies.new
@@ -262,13 +239,13 @@ fn place(replies: &mut [u64], i: usize, size: usize, j: usize, pair: Pair, out: 
 }
 
 // Adds a pair to the set of the server at place i: if it would make five, the lowest of the five leaves.
-pub fn insert(replies: &mut [u64], i: usize, pair: Pair)
-    requires { (length replies.old ≡ replies_length) × (i < most_servers) × Padded replies.old i }
+pub fn insert(replies: &mut Replies, i: usize, pair: Pair)
+    requires { (i < most_servers) × Padded replies.old i }
     ensures { replies.new
         ≡ put_set replies.old i (add set_limit pair (set_in replies.old (suc i))) }
 {
     let size = size_of(replies, i);
-    let j = rank(replies, i, size, pair);
+    let j = rank(replies, i, pair);
     if j < size {
         if replies[PAIRS + i * LIMIT + j] == pair.0 {
             return;
@@ -282,45 +259,33 @@ pub fn insert(replies: &mut [u64], i: usize, pair: Pair)
 }
 
 // Notes the timestamp of the server at place i.
-pub fn note(replies: &mut [u64], i: usize, stamp: Timestamp)
-    requires { (length replies.old ≡ replies_length) × (i < most_servers) }
+pub fn note(replies: &mut Replies, i: usize, stamp: Timestamp)
+    requires { i < most_servers }
     ensures { replies.new ≡ put_note replies.old i stamp.0 }
 {
     replies[i] = (stamp.0 as u64) + 1;
 }
 
 // Notes that the server at place i has acknowledged.
-pub fn acknowledge(replies: &mut [u64], i: usize)
-    requires { (length replies.old ≡ replies_length) × (i < most_servers) }
+pub fn acknowledge(replies: &mut Replies, i: usize)
+    requires { i < most_servers }
     ensures { replies.new ≡ put_ack replies.old i }
 {
     replies[ACKS + i] = 1;
 }
 
 // Empties all of it.
-pub fn clear(replies: &mut [u64])
-    requires { length replies.old ≡ replies_length }
+pub fn clear(replies: &mut Replies)
     ensures { replies.new ≡ replicate replies_length 0 }
 {
-    let mut i = 0;
-    while i < LENGTH {
-        replies[i] = 0;
-        i += 1;
-    }
+    replies.fill(0);
 }
 
 // A copy, for a trial.
-pub fn copied(replies: &[u64]) -> [u64; LENGTH]
-    requires { length replies.now ≡ replies_length }
+pub fn copied(replies: &Replies) -> Replies
     ensures { result ≡ replies.now }
 {
-    let mut copy = [0u64; LENGTH];
-    let mut at = 0;
-    while at < LENGTH {
-        copy[at] = replies[at];
-        at += 1;
-    }
-    copy
+    *replies
 }
 
 // ---- soundness
@@ -332,37 +297,40 @@ fn is_within(used: bool, limit: u64, number: u64) -> bool
     if used { number <= limit } else { number <= 0 }
 }
 
+// The four numbers of the set at place i, of which its size says how many are pairs.
+fn four(replies: &Replies, i: usize) -> [u64; LIMIT]
+    requires { i < most_servers }
+    ensures { result ≡ four_at replies.now i }
+{
+    let at = PAIRS + i * LIMIT;
+    let set = replies[at..].first_chunk().unwrap();
+    *set
+}
+
 // Whether the set at place i is in strict order.
-fn is_rising(replies: &[u64], i: usize) -> bool
-    requires { (length replies.now ≡ replies_length) × (i < most_servers) }
+fn is_rising(replies: &Replies, i: usize) -> bool
+    requires { i < most_servers }
     ensures { result ≡ is_rising (set_in replies.now (suc i)) }
 {
     let size = size_of(replies, i);
-    let at = PAIRS + i * LIMIT;
-    let first = replies[at];
-    let second = replies[at + 1];
-    let third = replies[at + 2];
-    let fourth = replies[at + 3];
+    let [first, second, third, fourth] = four(replies, i);
     (((size < 2) | (first < second)) & ((size < 3) | (second < third)))
         & ((size < 4) | (third < fourth))
 }
 
 // Whether the numbers behind the last pair of the set at place i are zero.
-fn is_padded(replies: &[u64], i: usize) -> bool
-    requires { (length replies.now ≡ replies_length) × (i < most_servers) }
+fn is_padded(replies: &Replies, i: usize) -> bool
+    requires { i < most_servers }
     ensures { result ≡ is_padded replies.now i }
 {
     let size = replies[SIZES + i];
-    let at = PAIRS + i * LIMIT;
-    let first = (0 < size) | (replies[at] == 0);
-    let second = (1 < size) | (replies[at + 1] == 0);
-    let third = (2 < size) | (replies[at + 2] == 0);
-    let fourth = (3 < size) | (replies[at + 3] == 0);
-    ((first & second) & third) & fourth
+    let [first, second, third, fourth] = four(replies, i);
+    let front = ((0 < size) | (first == 0)) & ((1 < size) | (second == 0));
+    (front & ((2 < size) | (third == 0))) & ((3 < size) | (fourth == 0))
 }
 
-fn is_sound_at(replies: &[u64], i: usize, reading: bool, storing: bool) -> bool
-    requires { (length replies.now ≡ replies_length) × (i < most_servers) }
+fn is_sound_at(replies: &Replies, i: usize, reading: bool, storing: bool) -> bool
+    requires { i < most_servers }
     ensures { result ≡ is_sound_at reading storing replies.now i }
 {
     let noted = is_within(reading, MOST_NOTED, replies[i]);
@@ -375,15 +343,14 @@ fn is_sound_at(replies: &[u64], i: usize, reading: bool, storing: bool) -> bool
 pub fn are_sound(replies: &[u64], n: usize, reading: bool, storing: bool) -> bool
     ensures { result ≡ are_sound n reading storing replies.now }
 {
-    if replies.len() != LENGTH {
+    let Some(replies) = replies.as_array() else {
         return false;
-    }
-    let mut i = 0;
-    while i < SERVERS {
+    };
+    // Not `all`: with it the compiler makes a branch of each of the tests that `is_sound_at` joins.
+    for i in 0..SERVERS {
         if !is_sound_at(replies, i, (i < n) & reading, (i < n) & storing) {
             return false;
         }
-        i += 1;
     }
     true
 }

@@ -1,20 +1,15 @@
 -- What stands in a text from a place on.
 --
--- In order: the line from a place up to its end; what was found there, behind the text, by the quick reader
--- and by `parse`.
+-- In order: the line from a place up to its end; what is found behind the text.
 -- Assumes nothing.
 use Rattle.basics.proofs.Prelude.{◌≡◌, sym, ap, ◌∙◌, List, length, take, drop, length-drop, ℕ, ◌+◌, ◌-◌}
 use Rattle.basics.proofs.Prelude.{◌≤◌, ◌<◌, add-zero, arith}
 use lib.ListN.{drop_of_length-le}
 use lib.Seq.{take-nil}
-use Rattle.register.specs.declared.Step.{Step}
-use Rattle.script.specs.declared.next.Quick.{Quick}
-use Rattle.script.specs.declared.next.Quick.TheVariants as quick
-use Rattle.script.specs.declared.parse.Line.{Line}
-use Rattle.script.specs.declared.parse.Line.TheVariants.{Do, Unread}
+use Rattle.std.specs.Prelude.{None}
 use Rattle.script.specs.Lines.{up_to, part, line_end, newline}
 use Rattle.script.specs.Grammar.{line_of}
-use Rattle.script.specs.Next.{found_at, IsQuick}
+use Rattle.script.specs.Next.{found_at}
 use Rattle.script.proofs.Places.{up_to_take, up_to_short}
 use Rattle.script.proofs.Readers.{rest_is}
 
@@ -47,18 +42,7 @@ module _
 
 -- behind the text stands nothing
 pub none_found : (text : List ℕ) (at : ℕ) → length text ≤ at
-    → record { end = at; line = Unread } ≡ found_at text at
+    → record { end = at; line = None } ≡ found_at text at
 unfolding up_to line_of
 none_found text at h =
-    rw (drop_of_length-le text h, take-nil) (λ i. record { end = sym (add-zero at) i; line = Unread })
-
--- what the quick reader found
-pub quick_found : (text : List ℕ) (at : ℕ) (answer : Quick) → IsQuick answer text at → (step : Step) (end : ℕ)
-    → answer ≡ quick.Is step end → record { end = end; line = Do step } ≡ found_at text at
-quick_found text at answer h step end e = sym (rw e at h)
-
--- what stands up to the line's end
-pub line_found : (text : List ℕ) (at end : ℕ) (line : Line) → end ≡ line_end text at
-    → line ≡ line_of (part text at end) → record { end = end; line = line } ≡ found_at text at
-line_found text at end line e is =
-    λ i. record { end = e i; line = (is ∙ ap (λ (n : ℕ). line_of (part text at n)) e) i }
+    rw (drop_of_length-le text h, take-nil) (λ i. record { end = sym (add-zero at) i; line = None })

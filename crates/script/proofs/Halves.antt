@@ -1,9 +1,10 @@
 -- Hexadecimal digits in two parts: 22 digits are a number when the first 6 and the other 16 are, and then it
 -- is the first part times 2 ^ 64 plus the second.
 -- Assumes nothing.
-use Rattle.basics.proofs.Prelude.{◌≡◌, refl, sym, ap, ◌∙◌, true, ◌&&◌, List, [], ◌∷◌, Option, none, some}
+use Rattle.basics.proofs.Prelude.{◌≡◌, refl, sym, ap, ◌∙◌, true, ◌&&◌, List, [], ◌∷◌}
 use Rattle.basics.proofs.Prelude.{length, take, drop, length-drop, length-take-le, ℕ, ◌+◌, ◌-◌, ◌*◌, ◌%◌, ◌^◌}
 use Rattle.basics.proofs.Prelude.{◌<◌, zero-add, arith, eqb, eqb-true, eq-eqb}
+use Rattle.std.specs.Prelude.{Option, Some, None}
 use native.Mathlib.Nat.{mod-eq_of_lt, lt_of_lt_of_le, add-mul, mul_assoc, add_assoc, zero-mul}
 use native.Mathlib.Nat.{pow-succ', pow-zero}
 use lib.Arith.{digits_lt}
@@ -12,13 +13,11 @@ use lib.ListN.{take-append-drop}
 use lib.Pow.{high, low}
 use Rattle.basics.proofs.Cases.{by_test, both}
 use Rattle.script.specs.Numbers.{is_hex_digit, hex_value, all_bytes, value_from, hex_in, message_digits}
-use Rattle.script.specs.declared.parse.Hex.{Hex}
-use Rattle.script.specs.declared.parse.Hex.TheVariants as hex
-use Rattle.script.specs.declared.parse.Line.TheVariants.{Do, Unread}
+use Rattle.script.specs.declared.parse.Line.TheVariants.{Do}
 use Rattle.message.specs.declared.Words.{Words}
 use Rattle.register.specs.declared.Step.TheVariants.{L}
 use Rattle.message.specs.Layout.{words}
-use Rattle.script.specs.Grammar.{hex_is, message_after}
+use Rattle.script.specs.Grammar.{◌>>=◌, message_after}
 use Rattle.script.proofs.Readers.{rest_is}
 use Rattle.script.proofs.Texts.{all_append, value_append, hex_lt}
 
@@ -52,7 +51,7 @@ digits_below (byte ∷ text) e =
     (digits_lt (hex_lt byte parts.0) (digits_below text parts.1))
 
 -- what hexadecimal digits that are a number are: n of them, and the number is theirs
-pub hex_value_lem : (n : ℕ) (text : List ℕ) (value : ℕ) → hex_in n text ≡ some value
+pub hex_value_lem : (n : ℕ) (text : List ℕ) (value : ℕ) → hex_in n text ≡ Some value
     → (length text ≡ n) × (value_from hex_value 16 0 text ≡ value) × (all_bytes is_hex_digit text ≡ true)
 unfolding hex_in
 hex_value_lem n text value e =
@@ -62,15 +61,16 @@ hex_value_lem n text value e =
     (eqb-true (length text) n parts.0, is, parts.1))
     (λ t. let q = rw t at e in let z : ◌≡◌ {A = ℕ} 0 1 = cc in absurd (omega arith))
 
-pub hex_small : (n : ℕ) (text : List ℕ) (value : ℕ) → hex_in n text ≡ some value → value < 16 ^ n
+pub hex_small : (n : ℕ) (text : List ℕ) (value : ℕ) → hex_in n text ≡ Some value → value < 16 ^ n
 hex_small n text value e =
     let is = hex_value_lem n text value e in
     rw (← is.1, ← is.0) (digits_below text is.2)
 
 abbrev joined : Option ℕ → Option ℕ → Option ℕ
-joined none lower = none
-joined (some upper) none = none
-joined (some upper) (some lower) = some (upper * 2 ^ 64 + lower)
+joined first second = do
+  upper ← first
+  lower ← second
+  Some (upper * 2 ^ 64 + lower)
 
 module _ (text : List ℕ) (wide : length text ≡ message_digits) where
   first_wide : length (take 6 text) ≡ 6
@@ -109,8 +109,8 @@ words_back : (upper lower : ℕ) → lower < 2 ^ 64
 words_back upper lower fits = λ i. record { 0 = high upper 64 fits i; 1 = low upper 64 fits i }
 
 -- what was read of a text of n digits
-pub read_wide : (n : ℕ) (text : List ℕ) (told : Hex) → length text ≡ n → hex_is told ≡ hex_in (length text) text
-    → hex_is told ≡ hex_in n text
+pub read_wide : (n : ℕ) (text : List ℕ) (told : Option ℕ) → length text ≡ n → told ≡ hex_in (length text) text
+    → told ≡ hex_in n text
 read_wide n text told wide means = means ∙ ap (λ (k : ℕ). hex_in k text) wide
 
 -- what the readers of the two parts answered, behind a server and a client
@@ -118,32 +118,32 @@ module _
     (k d : ℕ)
     (text : List ℕ)
     (wide : length text ≡ message_digits)
-    (high : Hex)
-    (first : hex_is high ≡ hex_in (length (take 6 text)) (take 6 text))
+    (high : Option ℕ)
+    (first : high ≡ hex_in (length (take 6 text)) (take 6 text))
   where
-    first_is : hex_in 6 (take 6 text) ≡ hex_is high
+    first_is : hex_in 6 (take 6 text) ≡ high
     first_is = sym (read_wide 6 (take 6 text) high (first_wide text wide) first)
 
-    pub first_none : high ≡ hex.No → Unread ≡ message_after k d text
+    pub first_none : high ≡ None → None ≡ message_after k d text
     first_none is = rw (halves text wide, first_is, is) refl
 
     module _
-        (low : Hex)
-        (second : let rest = take (length text - 6) (drop 6 text) in hex_is low ≡ hex_in (length rest) rest)
-        {upper : ℕ} (is_high : high ≡ hex.Is upper)
+        (low : Option ℕ)
+        (second : let rest = take (length text - 6) (drop 6 text) in low ≡ hex_in (length rest) rest)
+        {upper : ℕ} (is_high : high ≡ Some upper)
       where
-        second_is : hex_in 16 (drop 6 text) ≡ hex_is low
+        second_is : hex_in 16 (drop 6 text) ≡ low
         second_is = sym (read_wide 16 (drop 6 text) low (rest_wide text wide) (rw (rest_is text 6) at second))
 
-        pub second_none : low ≡ hex.No → Unread ≡ message_after k d text
+        pub second_none : low ≡ None → None ≡ message_after k d text
         second_none is_low = rw (halves text wide, first_is, is_high, second_is, is_low) refl
 
-        pub both_are : {lower : ℕ} → low ≡ hex.Is lower
-            → Do (L k d (record { 0 = upper % 2 ^ 32; 1 = lower })) ≡ message_after k d text
+        pub both_are : {lower : ℕ} → low ≡ Some lower
+            → Some (Do (L k d (record { 0 = upper % 2 ^ 32; 1 = lower }))) ≡ message_after k d text
         both_are {lower} is_low =
-            let small : upper < 2 ^ 24 = hex_small 6 (take 6 text) upper (first_is ∙ ap hex_is is_high) in
-            let fits : lower < 2 ^ 64 = hex_small 16 (drop 6 text) lower (second_is ∙ ap hex_is is_low) in
-            ap (λ (n : ℕ). Do (L k d (record { 0 = n; 1 = lower })))
+            let small : upper < 2 ^ 24 = hex_small 6 (take 6 text) upper (first_is ∙ is_high) in
+            let fits : lower < 2 ^ 64 = hex_small 16 (drop 6 text) lower (second_is ∙ is_low) in
+            ap (λ (n : ℕ). Some (Do (L k d (record { 0 = n; 1 = lower }))))
             (mod-eq_of_lt (lt_of_lt_of_le small (lit≤ tt)))
-            ∙ ap (λ (w : Words). Do (L k d w)) (sym (words_back upper lower fits))
+            ∙ ap (λ (w : Words). Some (Do (L k d w))) (sym (words_back upper lower fits))
             ∙ rw (halves text wide, first_is, is_high, second_is, is_low) refl

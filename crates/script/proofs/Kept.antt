@@ -1,19 +1,18 @@
--- The part of a block that is kept: moved to the front byte by byte, and cut after so many bytes as make a
--- line unreadable.
+-- The part of a block that is kept: moved to the front, and cut after so many bytes as make a line unreadable.
 --
--- In order: a part of a part, by its length; the block after i bytes have moved (each is read where none was
--- stored yet); the whole part moved; a line that was cut is unreadable, as it is whole.
+-- In order: a part of a part, by its length; the part moved; a line that was cut is unreadable, as it is
+-- whole.
 -- Assumes nothing.
-use Rattle.basics.proofs.Prelude.{◌≡◌, refl, sym, ap, ◌∙◌, Bool, true, false, ◌&&◌, List, ◌++◌, length, get_or}
-use Rattle.basics.proofs.Prelude.{set, take, drop, length-append, length-drop, length-take-le, ℕ, suc, ◌+◌}
-use Rattle.basics.proofs.Prelude.{◌-◌, ◌≤◌, ◌<◌, add-one, arith, leb, leb-true, leb-false, lt-leb}
+use Rattle.basics.proofs.Prelude.{◌≡◌, refl, sym, ap, ◌∙◌, Bool, true, false, ◌&&◌, List, ◌++◌, length}
+use Rattle.basics.proofs.Prelude.{take, drop, length-append, length-drop, length-take-le, ℕ, ◌+◌}
+use Rattle.basics.proofs.Prelude.{◌-◌, ◌≤◌, ◌<◌, arith, leb, leb-true, leb-false, lt-leb}
+use Rattle.std.specs.Prelude.{None}
+use Rattle.std.specs.List.{copy_within}
 use Prim.Native.Nat.{min}
-use native.Mathlib.Nat.{add_comm, min-eq_left, min-eq_right}
+use native.Mathlib.Nat.{min-eq_left, min-eq_right}
 use lib.ListN.{length-take}
-use lib.Seq.{take-take, take_all, take-length, take-suc}
-use lib.Seq.{drop-cons, set_at, append_snoc, get_or-append-add, get_or-drop}
+use lib.Seq.{take-take, take_all, take-length, paste}
 use Rattle.basics.proofs.Cases.{by_test}
-use Rattle.script.specs.declared.parse.Line.TheVariants.{Unread}
 use Rattle.script.specs.Grammar.{line_of}
 use Rattle.script.specs.Lines.{kept, most}
 use Rattle.script.specs.Writing.{Written}
@@ -53,71 +52,29 @@ kept_take text at end n e =
     ) in
     cc (count, take_both most (end - at) rest, take_within (min most (end - at)) rest)
 
--- ---- byte by byte
-
--- the block after i bytes have moved to the front
-abbrev pub moved : List ℕ → ℕ → ℕ → List ℕ
-moved text at i = take i (drop at text) ++ drop i text
-
-module _ (text : List ℕ) (at i : ℕ) (inside : at + i ≤ length text) where
-  front : length (take i (drop at text)) ≡ i
-  front = length-take-le i (drop at text) (rw (length-drop at text) (omega arith))
-
-  pub length_moved : length (moved text at i) ≡ length text
-  length_moved =
-      length-append (take i (drop at text)) (drop i text) ∙ rw (front, length-drop i text) (omega arith)
-
-  -- behind what was stored the block is as it was
-  pub moved_read : get_or (moved text at i) (at + i) 0 ≡ get_or text (at + i) 0
-  moved_read =
-      cc (
-        add_comm at i,
-        front,
-        get_or-append-add (take i (drop at text)) (drop i text) at 0,
-        get_or-drop i text at 0,
-      )
-
-pub moved_more : (text : List ℕ) (at i : ℕ) → at + i < length text
-    → set (moved text at i) i (get_or text (at + i) 0) ≡ moved text at (i + 1)
-moved_more text at i h =
-    let stored : List ℕ = take i (drop at text) in
-    let byte : ℕ = get_or (drop at text) i 0 in
-    let inside : i < length (drop at text) = rw (length-drop at text) (omega arith) in
-    cc (
-      drop-cons text i 0 (omega arith),
-      set_at stored (get_or text i 0) (drop (suc i) text) (get_or text (at + i) 0) i
-          (front text at i (omega arith)),
-      get_or-drop at text i 0,
-      append_snoc stored byte (drop (suc i) text),
-      take-suc (drop at text) i 0 inside,
-      add-one i,
-    )
-
--- ---- the whole part
+-- ---- the part moved
 
 module _ (text : List ℕ) (at end n : ℕ) (is : n ≡ min (min end (length text) - at) most) where
-  pub within : at ≤ length text → at + n ≤ length text
-  within h = omega arith
-
   long : length (kept text at end) ≡ n
   long =
       ap length (sym (kept_take text at end n is))
       ∙ length-take n (drop at text) ∙ rw (length-drop at text) (omega arith)
 
-  pub kept_written : Written (kept text at end) text 0 n (moved text at n)
+  pub kept_written : Written (kept text at end) text 0 n (copy_within text at (at + n) 0)
   kept_written =
-      let ends : n ≡ 0 + length (kept text at end) = rw long (omega arith) in
+      let count : at + n - at ≡ n = omega arith in
       record {
         fits = rw long (omega arith);
-        ends = ends;
+        ends = rw long (omega arith);
         holds =
-            ap (λ (l : List ℕ). l ++ drop n text) (kept_take text at end n is)
-            ∙ ap (λ (k : ℕ). kept text at end ++ drop k text) ends;
+            ap (paste text 0 (drop at text)) count
+            ∙ ap (λ (l : List ℕ). l ++ drop (0 + n) text) (kept_take text at end n is)
+            ∙ ap (λ (k : ℕ). kept text at end ++ drop (0 + k) text) (sym long);
       }
 
 -- ---- a line that was cut
 
-too_long : (text : List ℕ) → 64 < length text → line_of text ≡ Unread
+too_long : (text : List ℕ) → 64 < length text → line_of text ≡ None
 unfolding line_of
 too_long text h = rw (lt-leb (length text) 64 h, and_right (leb 3 (length text))) refl
   where

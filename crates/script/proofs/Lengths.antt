@@ -3,11 +3,12 @@
 -- the number.
 -- Assumes nothing.
 use Rattle.basics.proofs.Prelude.{[], ◌∷◌, ◌++◌, length, length-append, ℕ, ◌+◌, ◌≤◌, arith}
+use Rattle.std.specs.Prelude.{Ok, Err}
 use Rattle.message.specs.declared.Pair.{Pair}
 use Rattle.message.specs.Pair.{counter, client, entry}
 use Rattle.refusal.specs.Numbers.{number_of}
-use Rattle.register.specs.declared.Answer.{Answer}
-use Rattle.register.specs.declared.Answer.TheVariants.{Went, Read, Wrote, Spent, Refused}
+use Rattle.register.specs.declared.Answer.TheVariants.{Went, Read, Wrote, Spent}
+use Rattle.register.specs.World.{StepAnswer}
 use Rattle.script.specs.declared.print.Output.{Output}
 use Rattle.script.specs.declared.print.Output.TheVariants.{Set, Unread, Answered}
 use Rattle.script.specs.Lines.{newline}
@@ -30,12 +31,12 @@ pair_short pair =
     (omega (arith, two_short (counter pair).0 (client pair), digits_length 16 entry_digits (entry pair).0))
 
 -- a word and what it adds have 3 to 58 bytes
-answer_size : (answer : Answer) → (3 ≤ length (answer_text answer)) × (length (answer_text answer) ≤ 58)
-answer_size Went = (omega arith, omega arith)
-answer_size (Read pair) = (omega arith, omega (arith, pair_short pair))
-answer_size (Wrote pair) = (omega arith, omega (arith, pair_short pair))
-answer_size Spent = (omega arith, omega arith)
-answer_size (Refused refusal) = (omega arith, omega (arith, spaced_short (number_of refusal)))
+answer_size : (answer : StepAnswer) → (3 ≤ length (answer_text answer)) × (length (answer_text answer) ≤ 58)
+answer_size (Ok Went) = (omega arith, omega arith)
+answer_size (Ok (Read pair)) = (omega arith, omega (arith, pair_short pair))
+answer_size (Ok (Wrote pair)) = (omega arith, omega (arith, pair_short pair))
+answer_size (Ok Spent) = (omega arith, omega arith)
+answer_size (Err refusal) = (omega arith, omega (arith, spaced_short (number_of refusal)))
 
 output_size : (output : Output) → (3 ≤ length (output_text output)) × (length (output_text output) ≤ 58)
 output_size Set = (omega arith, omega arith)

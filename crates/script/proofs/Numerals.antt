@@ -64,10 +64,7 @@ module _ (numeral : Numeral) (own : numeral ≡ numeral_of numeral.number) where
       ap length text_is
       ∙ length_written (replicate 8 0) 0 digits (omega (arith, kept_few (numeral.number / 100)))
 
-  -- 20 bytes from a place on take the text, and the last two digits behind those that are kept
-  pub text_room : (out : List ℕ) (at : ℕ) → at + 20 ≤ length out → at + length numeral.text ≤ length out
-  text_room out at h = rw eight_bytes (omega arith)
-
+  -- the last two digits have room behind those that are kept
   pub kept_room : {before mid : List ℕ} {at end : ℕ} → at + 20 ≤ length before
       → Written numeral.text before at end mid → at + numeral.kept + 2 ≤ length mid
   kept_room h first = rw (keeps first) (omega (arith, few_kept))

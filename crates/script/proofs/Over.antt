@@ -102,20 +102,3 @@ module _ {text before : List ℕ} {at end : ℕ} {mid : List ℕ} (begun : Begun
             over text begun.more begun.wrote begun.ends rest
             ∙ ap (λ (l : List ℕ). written before at (text ++ l)) all;
       }
-
-  pub over_keeps : {more : List ℕ} {last : ℕ} {after : List ℕ} → Written more mid end last after
-      → length after ≡ length before
-  over_keeps rest = keeps rest ∙ begun_keeps
-
--- nothing behind it
-pub begun_alone : {text before : List ℕ} {at end : ℕ} {after : List ℕ} → Written text before at end after
-    → Begun text before at end after
-begun_alone {text} {before} {at} {end} alone =
-    let none : end + 0 ≡ end = omega arith in
-    record {
-      more =
-          [];
-      few = omega arith;
-      ends = alone.ends;
-      wrote = rw (none, append-nil text) alone;
-    }

@@ -3,9 +3,10 @@
 -- In order: a search goes on where no stop is (`pass`, `pass_all`), and ends where one is (`stops`); the
 -- bytes up to there and behind it.
 -- Assumes nothing.
-use Rattle.basics.proofs.Prelude.{◌≡◌, refl, ap, true, not, List, [], ◌∷◌, none, some, length, get_or, take}
+use Rattle.basics.proofs.Prelude.{◌≡◌, refl, ap, true, not, List, [], ◌∷◌, length, get_or, take}
 use Rattle.basics.proofs.Prelude.{drop, ℕ, zero, suc, ◌+◌, ◌≤◌, ◌<◌, not-suc-le-zero, arith, eqb, eqb-false}
 use Rattle.basics.proofs.Prelude.{eq-eqb, ne_eqb, not-true}
+use Rattle.std.specs.Prelude.{Some, None}
 use Prim.Native.Nat.{suc-le-suc}
 use native.Mathlib.Nat.{le_of_suc-le-suc}
 use lib.ListN.{length-take}
@@ -62,20 +63,15 @@ up_to_take stop (byte ∷ text) =
 pub up_to_short : (stop : ℕ) (text : List ℕ) → length (up_to stop text) ≤ length text
 up_to_short stop text = omega (arith, simp length-take at (ap length (up_to_take stop text)))
 
--- a search that came to the text's end
-pub at_end : (stop : ℕ) (text : List ℕ) (i : ℕ) → i ≤ length (up_to stop text) → length text ≤ i
-    → i ≡ length (up_to stop text)
-at_end stop text i before h = omega (arith, up_to_short stop text)
-
 pub behind_some : (stop : ℕ) (text : List ℕ) → length (up_to stop text) < length text
-    → behind stop text ≡ some (drop (suc (length (up_to stop text))) text)
+    → behind stop text ≡ Some (drop (suc (length (up_to stop text))) text)
 unfolding up_to behind
 behind_some stop [] h = absurd (not-suc-le-zero h)
 behind_some stop (byte ∷ text) h =
     by_test (eqb byte stop) (λ t. rw t refl)
     (λ t. rw t (behind_some stop text (le_of_suc-le-suc (rw t at h))))
 
-pub behind_none : (stop : ℕ) (text : List ℕ) → length text ≤ length (up_to stop text) → behind stop text ≡ none
+pub behind_none : (stop : ℕ) (text : List ℕ) → length text ≤ length (up_to stop text) → behind stop text ≡ None
 unfolding up_to behind
 behind_none stop [] h = refl
 behind_none stop (byte ∷ text) h =

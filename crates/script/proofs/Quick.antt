@@ -5,14 +5,15 @@
 -- Assumes nothing.
 use Rattle.basics.proofs.Prelude.{◌≡◌, refl, ap, ◌∙◌, false, List, ◌∷◌, length, get_or, drop, ℕ, ◌+◌, ◌-◌, ◌≤◌}
 use Rattle.basics.proofs.Prelude.{arith, eqb, le-leb}
+use Rattle.std.specs.Prelude.{Option, Some}
 use Rattle.register.specs.declared.Step.TheVariants.{K, D}
-use Rattle.script.specs.declared.next.Quick.{Quick}
+use Rattle.script.specs.declared.next.Found.{Found}
 use Rattle.script.specs.declared.parse.Line.{Line}
 use Rattle.script.specs.declared.parse.Line.TheVariants.{Do}
 use Rattle.script.specs.Lines.{up_to, part, line_end, newline}
 use Rattle.script.specs.Grammar.{number_then, numbers_then, number_line, number_after}
 use Rattle.script.specs.Grammar.{message_after, arguments_of, line_of}
-use Rattle.script.specs.Next.{found_at, rest_at, Short, IsLie, IsQuick}
+use Rattle.script.specs.Next.{found_at, rest_at, Short, Lie}
 use Rattle.script.proofs.Found.{line_is}
 use Rattle.script.proofs.Rest.{then_number, then_ends, last_number_lem, last_ends, last_few}
 use Rattle.script.proofs.Short.{one_byte}
@@ -40,7 +41,7 @@ module _
         ) in
         rw (bytes, differs) refl
 
-    found : eqb letter newline ≡ false → (end : ℕ) (told : Line) → line_end text next ≡ end → end ≤ next + 25
+    found : eqb letter newline ≡ false → (end : ℕ) (told : Option Line) → line_end text next ≡ end → end ≤ next + 25
         → arguments_of letter rest ≡ told → found_at text at ≡ record { end = end; line = told }
     unfolding line_of
     found differs end told e few is =
@@ -64,17 +65,16 @@ module _
           (omega (arith, last_few second))
           (rw e (says ∙ then_number first (number_after byte) ∙ rw (last_number_lem second) refl))
 
-      pub found_k : letter ≡ 75 → found_at text at ≡ record { end = last - 1; line = Do (K k d) }
+      pub found_k : letter ≡ 75 → found_at text at ≡ record { end = last - 1; line = Some (Do (K k d)) }
       unfolding arguments_of numbers_then
       found_k e = found_two 75 e refl refl
 
-      pub found_d : letter ≡ 68 → found_at text at ≡ record { end = last - 1; line = Do (D k d) }
+      pub found_d : letter ≡ 68 → found_at text at ≡ record { end = last - 1; line = Some (Do (D k d)) }
       unfolding arguments_of numbers_then
       found_d e = found_two 68 e refl refl
 
-    pub found_l : letter ≡ 76 → (answer : Quick) → IsLie answer text k next → IsQuick answer text at
+    pub found_l : letter ≡ 76 → (answer : Found) → Lie text k next answer → found_at text at ≡ answer
     unfolding arguments_of numbers_then
-    found_l e (Quick.Is step end) lie =
-        found (rw e refl) end (Do step) lie.ends lie.few
+    found_l e answer lie =
+        found (rw e refl) answer.end answer.line lie.ends lie.few
         (rw e (then_number first (λ k rest. number_then rest (message_after k)) ∙ lie.says))
-    found_l e Quick.No lie = tt

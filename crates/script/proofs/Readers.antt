@@ -2,27 +2,17 @@
 --
 -- A reader answers a value or that there is none; the definition of a line goes by the same cases.
 -- Assumes nothing.
-use Rattle.basics.proofs.Prelude.{◌≡◌, refl, sym, ap, ◌∙◌, subst, List, Option, some, length, take, drop}
+use Rattle.basics.proofs.Prelude.{◌≡◌, refl, sym, ap, ◌∙◌, subst, List, length, take, drop}
 use Rattle.basics.proofs.Prelude.{length-drop, ℕ, zero, suc, ◌+◌, ◌-◌, ◌≤◌, ◌<◌, le_refl, not-suc-le-zero}
 use Rattle.basics.proofs.Prelude.{add-one, arith}
+use Rattle.std.specs.Prelude.{Option, Some, None}
 use Rattle.script.specs.declared.parse.Line.{Line}
-use Rattle.script.specs.declared.parse.Line.TheVariants.{Unread}
-use Rattle.script.specs.declared.parse.Number.{Number}
-use Rattle.script.specs.declared.parse.Number.TheVariants as number
 use Rattle.script.specs.declared.parse.First.{First}
-use Rattle.script.specs.declared.parse.First.TheVariants as first
 use Rattle.script.specs.Numbers.{number_in}
 use Rattle.script.specs.Lines.{up_to, behind}
-use Rattle.script.specs.Grammar.{number_is, on_number, on_first, number_then, numbers_then, Cut}
+use Rattle.script.specs.Grammar.{◌>>=◌, number_then, numbers_then, Cut}
 use Rattle.script.proofs.Places.{up_to_take, behind_some, behind_none}
 use lib.Seq.{take_all, drop-drop}
-
--- what a reader answered is what it read by the definition
-pub read : {A : Type 0} (is : A → Option ℕ) (line : ℕ → Line) (told : Option ℕ) {answer : A}
-    → is answer ≡ told → {variant : A} → answer ≡ variant
-    → on_number (is variant) line ≡ on_number told line
-read is line told means e =
-    ap (λ x. on_number (is x) line) (sym e) ∙ ap (λ (number : Option ℕ). on_number number line) means
 
 -- the text from a place on, as a part of the slice
 pub rest_is : (text : List ℕ) (at : ℕ) → take (length text - at) (drop at text) ≡ drop at text
@@ -32,7 +22,7 @@ rest_is text at =
 -- ---- the numbers before the last argument
 
 -- one is read, and the others behind it
-one_ahead : (numbers earliest earlier later : ℕ) (text : List ℕ) (line : ℕ → ℕ → ℕ → List ℕ → Line)
+one_ahead : (numbers earliest earlier later : ℕ) (text : List ℕ) (line : ℕ → ℕ → ℕ → List ℕ → Option Line)
     → 0 < numbers
     → number_then text (λ value rest. numbers_then (numbers - 1) earlier later value rest line)
     ≡ numbers_then numbers earliest earlier later text line
@@ -44,41 +34,42 @@ one_ahead (suc n) earliest earlier later text line h =
 
 -- what was read at a place
 module _
-    (text : List ℕ) (at : ℕ) {answer : First} (cut : Cut answer (take (length text - at) (drop at text)))
+    (text : List ℕ) (at : ℕ) {answer : Option First} (cut : Cut answer (take (length text - at) (drop at text)))
   where
-    there : (variant : First) → answer ≡ variant → Cut variant (drop at text)
-    there variant is = subst (λ (told : First). Cut told (drop at text)) is (rw (rest_is text at) at cut)
+    there : (variant : Option First) → answer ≡ variant → Cut variant (drop at text)
+    there variant is = subst (λ (told : Option First). Cut told (drop at text)) is (rw (rest_is text at) at cut)
 
-    pub starts_within : (value next : ℕ) → answer ≡ first.Is value next → at ≤ length text
-        → at + next ≤ length text
-    starts_within value next is h =
-        let inside : next ≤ length (drop at text) = (there (first.Is value next) is).within in
+    pub starts_within : (first : First) → answer ≡ Some first → at ≤ length text
+        → at + first.next ≤ length text
+    starts_within first is h =
+        let inside : first.next ≤ length (drop at text) = (there (Some first) is).within in
         omega (arith, length-drop at text)
 
     -- of the numbers that make the line, some are left
     module _
-        (numbers earliest earlier later : ℕ) (line : ℕ → ℕ → ℕ → List ℕ → Line) (whole : Line)
+        (numbers earliest earlier later : ℕ) (line : ℕ → ℕ → ℕ → List ℕ → Option Line) (whole : Option Line)
         (makes : numbers_then numbers earliest earlier later (drop at text) line ≡ whole) (left : 0 < numbers)
       where
-        abbrev others : ℕ → List ℕ → Line
+        abbrev others : ℕ → List ℕ → Option Line
         others value rest = numbers_then (numbers - 1) earlier later value rest line
 
-        read_as : (variant : First) → answer ≡ variant → on_first variant (drop at text) others ≡ whole
+        read_as : (variant : Option First) → answer ≡ variant
+            → (variant >>= λ first. others first.value (drop first.next (drop at text))) ≡ whole
         read_as variant is =
             (there variant is).means others
             ∙ one_ahead numbers earliest earlier later (drop at text) line left ∙ makes
 
-        pub none_read : answer ≡ first.No → Unread ≡ whole
-        none_read is = read_as first.No is
+        pub none_read : answer ≡ None → None ≡ whole
+        none_read is = read_as None is
 
-        pub one_read : (value next : ℕ) → answer ≡ first.Is value next
-            → numbers_then (numbers - 1) earlier later value (drop (at + next) text) line ≡ whole
-        one_read value next is =
-            ap (others value) (sym (drop-drop next at text)) ∙ read_as (first.Is value next) is
+        pub one_read : (first : First) → answer ≡ Some first
+            → numbers_then (numbers - 1) earlier later first.value (drop (at + first.next) text) line ≡ whole
+        one_read first is =
+            ap (others first.value) (sym (drop-drop first.next at text)) ∙ read_as (Some first) is
 
 -- none is left
-pub all_read : (text : List ℕ) (at numbers earliest earlier later : ℕ) (line : ℕ → ℕ → ℕ → List ℕ → Line)
-    (whole last : Line) → numbers_then numbers earliest earlier later (drop at text) line ≡ whole → numbers ≤ 0
+pub all_read : (text : List ℕ) (at numbers earliest earlier later : ℕ) (line : ℕ → ℕ → ℕ → List ℕ → Option Line)
+    (whole last : Option Line) → numbers_then numbers earliest earlier later (drop at text) line ≡ whole → numbers ≤ 0
     → last ≡ line earliest earlier later (take (length text - at) (drop at text)) → last ≡ whole
 unfolding numbers_then
 all_read text at numbers earliest earlier later line whole last makes none is =
@@ -88,23 +79,23 @@ all_read text at numbers earliest earlier later line whole last makes none is =
 -- the first word of a text ends at a place
 module _ (text : List ℕ) (end : ℕ) (ends : end ≡ length (up_to 32 text)) where
   -- at the text's end: there is no blank
-  pub cut_none : length text ≤ end → Cut first.No text
+  pub cut_none : length text ≤ end → Cut None text
   cut_none h = record { within = omega arith; means = λ line. rw (behind_none 32 text (omega arith)) refl }
 
   module _
-      (inside : end < length text) (answer : Number) (means : number_is answer ≡ number_in (take end text))
+      (inside : end < length text) (answer : Option ℕ) (means : answer ≡ number_in (take end text))
     where
       -- behind the blank stands the rest, and the number is that of the first word
-      split : (line : ℕ → List ℕ → Line)
-          → number_then text line ≡ on_number (number_is answer) (λ value. line value (drop (end + 1) text))
+      split : (line : ℕ → List ℕ → Option Line)
+          → number_then text line ≡ (answer >>= λ value. line value (drop (end + 1) text))
       split line =
           let word : take end text ≡ up_to 32 text = rw ends (up_to_take 32 text) in
-          let rest : behind 32 text ≡ some (drop (end + 1) text) =
+          let rest : behind 32 text ≡ Some (drop (end + 1) text) =
           rw (ends, add-one) (behind_some 32 text (omega arith)) in
           rw (rest, ← word, ← means) refl
 
-      pub cut_at : (value : ℕ) → answer ≡ number.Is value → Cut (first.Is value (end + 1)) text
+      pub cut_at : (value : ℕ) → answer ≡ Some value → Cut (Some (record { value = value; next = end + 1 })) text
       cut_at value is = record { within = omega arith; means = λ line. sym (split line ∙ rw is refl) }
 
-      pub cut_no_number : answer ≡ number.No → Cut first.No text
+      pub cut_no_number : answer ≡ None → Cut None text
       cut_no_number is = record { within = omega arith; means = λ line. sym (split line ∙ rw is refl) }

@@ -5,14 +5,13 @@
 -- there (`then_number`), and it ends where a newline stands behind a last number or a message.
 -- Assumes nothing.
 use Rattle.basics.proofs.Prelude.{◌≡◌, refl, ap, ◌∙◌, Bool, true, false, ◌&&◌, List, [], ◌∷◌, ◌++◌}
-use Rattle.basics.proofs.Prelude.{append-nil, some, length, get_or, drop, length-append, ℕ, ◌+◌, ◌-◌, ◌≤◌, ◌<◌}
+use Rattle.basics.proofs.Prelude.{append-nil, length, get_or, drop, length-append, ℕ, ◌+◌, ◌-◌, ◌≤◌, ◌<◌}
 use Rattle.basics.proofs.Prelude.{arith, eqb, leb, eq-eqb, ne_eqb}
+use Rattle.std.specs.Prelude.{Option, Some, None}
 use lib.ListN.{take-append-drop}
 use lib.Seq.{drop-drop}
-use Rattle.basics.proofs.Cases.{by_test, by_option, both, true_or_false, clash}
-use Rattle.register.specs.declared.Step.{Step}
+use Rattle.basics.proofs.Cases.{by_test, both, true_or_false, clash}
 use Rattle.script.specs.declared.parse.Line.{Line}
-use Rattle.script.specs.declared.parse.Line.TheVariants.{Do}
 use Rattle.script.specs.Numbers.{is_digit, is_hex_digit, all_bytes, number_in, hex_in, message_digits}
 use Rattle.script.specs.Lines.{up_to, behind, part, line_end, newline}
 use Rattle.script.specs.Grammar.{number_then, message_after}
@@ -48,7 +47,7 @@ module _ (test : ℕ → Bool) (stop : ℕ) (mark : test stop ≡ false) where
 
 -- ---- a number and what stands behind it
 
-number_digits : (word : List ℕ) (value : ℕ) → number_in word ≡ some value → all_bytes is_digit word ≡ true
+number_digits : (word : List ℕ) (value : ℕ) → number_in word ≡ Some value → all_bytes is_digit word ≡ true
 unfolding number_in
 number_digits word value e =
     by_test (leb 1 (length word) && leb (length word) 7 && all_bytes is_digit word)
@@ -63,13 +62,13 @@ module _ {text : List ℕ} {at value next : ℕ} (short : Short text at 32 value
   unfolding up_to
   rest_is = rw short.bytes (past is_digit newline refl short.word (32 ∷ drop next text) digits)
 
-  pub then_number : (line : ℕ → List ℕ → Line)
+  pub then_number : (line : ℕ → List ℕ → Option Line)
       → number_then (rest_at text at) line ≡ line value (rest_at text next)
   unfolding behind
   then_number line =
       let word : up_to 32 (rest_at text at) ≡ short.word =
       ap (up_to 32) rest_is ∙ up_to_mark is_digit 32 refl short.word (rest_at text next) digits in
-      let rest : behind 32 (rest_at text at) ≡ some (rest_at text next) =
+      let rest : behind 32 (rest_at text at) ≡ Some (rest_at text next) =
       ap (behind 32) rest_is ∙ behind_past is_digit 32 refl short.word (32 ∷ rest_at text next) digits in
       rw (rest, word, short.number) refl
 
@@ -83,7 +82,7 @@ module _ {text : List ℕ} {at value last : ℕ} (short : Short text at newline 
       rw short.bytes (up_to_mark is_digit newline refl short.word (drop last text)
       (number_digits short.word value short.number))
 
-  pub last_number_lem : number_in (rest_at text at) ≡ some value
+  pub last_number_lem : number_in (rest_at text at) ≡ Some value
   last_number_lem = ap number_in last_is ∙ short.number
 
   pub last_ends : line_end text at ≡ last - 1
@@ -94,19 +93,24 @@ module _ {text : List ℕ} {at value last : ℕ} (short : Short text at newline 
 
 -- ---- a message
 
+-- by what a reader read
+by_read : {A : Type 0} (told : Option ℕ) → (told ≡ None → A) → ((value : ℕ) → told ≡ Some value → A) → A
+by_read None none read = none refl
+by_read (Some value) none read = read value refl
+
 module _
     (text : List ℕ)
     (k d at : ℕ)
-    (step : Step) (room : at + message_digits < length text)
+    (line : Line) (room : at + message_digits < length text)
     (mark : get_or text (at + message_digits) 0 ≡ newline)
-    (is : message_after k d (part text at (at + message_digits)) ≡ Do step)
+    (is : message_after k d (part text at (at + message_digits)) ≡ Some line)
   where
     abbrev word : List ℕ
     word = part text at (at + message_digits)
 
     hexadecimal : (length word ≡ message_digits) × (all_bytes is_hex_digit word ≡ true)
     hexadecimal =
-        by_option (hex_in message_digits word) (λ e. let q = rw e at is in clash cc)
+        by_read (hex_in message_digits word) (λ e. let q = rw e at is in clash cc)
         (λ value e. let h = hex_value_lem message_digits word value e in (h.0, h.2))
 
     message_is : rest_at text at ≡ word
@@ -128,7 +132,8 @@ module _
     message_ends : line_end text at ≡ at + message_digits
     message_ends = ap (λ (n : ℕ). at + n) (ap length message_is ∙ hexadecimal.0)
 
-    pub lie_is : {start : ℕ} → Short text start 32 d at → Lie text k start step (at + message_digits)
+    pub lie_is : {start : ℕ} → Short text start 32 d at
+        → Lie text k start (record { end = at + message_digits; line = Some line })
     lie_is first =
         record {
           ends = then_ends first ∙ message_ends;

@@ -6,9 +6,10 @@
 -- at most 7 below 10 ^ 7 (`count_few`). No zero stands before a number: its first digit counts
 -- (`count_exact`).
 -- Assumes nothing.
-use Rattle.basics.proofs.Prelude.{◌≡◌, refl, ap, ◌∙◌, Bool, true, false, some, length, ℕ, zero, suc, ◌+◌, ◌-◌}
+use Rattle.basics.proofs.Prelude.{◌≡◌, refl, ap, ◌∙◌, Bool, true, false, length, ℕ, zero, suc, ◌+◌, ◌-◌}
 use Rattle.basics.proofs.Prelude.{◌*◌, ◌/◌, ◌%◌, ◌^◌, ◌≤◌, ◌<◌, zero-add, arith, ltb, eq-eqb, le-leb, lt-leb}
 use Rattle.basics.proofs.Prelude.{ltb-true, ltb-false, lt-ltb}
+use Rattle.std.specs.Prelude.{Some}
 use native.Mathlib.Nat.{pow-zero, pow-suc, pow-succ', mod-lt, mod-eq_of_lt, zero-mul, add-mul}
 use native.Mathlib.Nat.{mul_assoc, add_assoc, lt_of_lt_of_le, mul-pos}
 use lib.Arith.{mod-mul}
@@ -110,7 +111,7 @@ count_exact (suc n) value h =
 -- ---- the laws
 
 -- a number of at most 7 digits, printed, reads back
-pub number_back : (value : ℕ) → value < 10 ^ 7 → number_in (decimal value) ≡ some value
+pub number_back : (value : ℕ) → value < 10 ^ 7 → number_in (decimal value) ≡ Some value
 unfolding number_in
 number_back value h =
     let n : ℕ = digit_count 19 value in
@@ -125,7 +126,7 @@ number_back value h =
     refl
 
 -- n hexadecimal digits of a number that they hold
-pub hex_back : (n value : ℕ) → value < 16 ^ n → hex_in n (digits_of 16 n value) ≡ some value
+pub hex_back : (n value : ℕ) → value < 16 ^ n → hex_in n (digits_of 16 n value) ≡ Some value
 unfolding hex_in
 hex_back n value h =
     rw (
@@ -135,5 +136,5 @@ hex_back n value h =
     )
     refl
 
-pub entry_back : (value : ℕ) → value < 2 ^ 40 → hex_in entry_digits (hex_entry value) ≡ some value
+pub entry_back : (value : ℕ) → value < 2 ^ 40 → hex_in entry_digits (hex_entry value) ≡ Some value
 entry_back value h = hex_back entry_digits value h

@@ -1,20 +1,19 @@
 -- One or two digits with a mark behind them, read at a place.
 --
--- In order: the number of one or two digits; the word, the mark and the place behind it; what the reader
--- answered.
+-- In order: the number of one or two digits; the word, the mark and the place behind it; where that
+-- place is.
 -- Assumes nothing.
-use Rattle.basics.proofs.Prelude.{◌≡◌, refl, sym, ap, ◌∙◌, Bool, true, false, List, ◌∷◌, ◌++◌, some, length}
+use Rattle.basics.proofs.Prelude.{◌≡◌, refl, sym, ap, ◌∙◌, Bool, true, false, List, ◌∷◌, ◌++◌, length}
 use Rattle.basics.proofs.Prelude.{get_or, drop, ℕ, ◌+◌, ◌≤◌, ◌<◌, add-one, arith}
+use Rattle.std.specs.Prelude.{Some}
 use lib.Seq.{drop-cons}
 use mir.Val.{bool_byte}
 use Rattle.basics.proofs.Cases.{by_test}
-use Rattle.script.specs.declared.parse.First.{First}
-use Rattle.script.specs.declared.parse.First.TheVariants as first
 use Rattle.script.specs.Numbers.{is_digit, all_bytes, number_in}
-use Rattle.script.specs.Next.{short_word, short_value, Short, IsShort}
+use Rattle.script.specs.Next.{short_word, short_value, Short}
 
 word_number : (byte second : ℕ) → is_digit byte ≡ true
-    → number_in (short_word byte second) ≡ some (short_value byte second)
+    → number_in (short_word byte second) ≡ Some (short_value byte second)
 unfolding number_in all_bytes
 word_number byte second e = by_test (is_digit second) (λ two. rw (two, e, two) refl) (λ two. rw (two, e) refl)
 
@@ -68,20 +67,13 @@ module _
         record {
           word = short_word byte second;
           few = omega arith;
-          number = word_number byte second digit ∙ ap some (sym is_value);
+          number = word_number byte second digit ∙ ap Some (sym is_value);
           bytes = word_bytes two e is;
           behind = omega arith;
         }
 
--- ---- what the reader answered
-
-pub short_of : (text : List ℕ) (at mark : ℕ) (answer : First) → IsShort answer text at mark → (value next : ℕ)
-    → answer ≡ first.Is value next → Short text at mark value next
-short_of text at mark answer short value next e = rw e at short
+-- ---- where that place is
 
 module _ {text : List ℕ} {at mark value next : ℕ} (short : Short text at mark value next) where
-  pub next_some : 1 ≤ next
-  next_some = omega (arith, short.behind)
-
   pub next_most : next ≤ at + 3
   next_most = omega (arith, short.behind, short.few)

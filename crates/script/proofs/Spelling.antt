@@ -3,11 +3,12 @@
 -- Why: what stands behind a digit is below the digit's weight (`digits_below`), so dividing by the weight
 -- leaves the digit, and each digit is that of its value (`digit_of_value`).
 -- Assumes nothing.
-use Rattle.basics.proofs.Prelude.{◌≡◌, refl, true, List, [], ◌∷◌, some, length, ℕ, ◌+◌, ◌-◌, ◌*◌, ◌/◌, ◌%◌}
+use Rattle.basics.proofs.Prelude.{◌≡◌, refl, true, List, [], ◌∷◌, length, ℕ, ◌+◌, ◌-◌, ◌*◌, ◌/◌, ◌%◌}
 use Rattle.basics.proofs.Prelude.{◌^◌, arith, lt-ltb, le-ltb}
 use lib.Arith.{digits_div, digits_mod}
 use Rattle.basics.proofs.Cases.{by_test, both}
 use Rattle.basics.specs.Digits.{hex_digit}
+use Rattle.std.specs.Prelude.{Some}
 use Rattle.script.specs.Numbers.{is_digit, is_hex_digit, hex_value, all_bytes, value_from, hex_in}
 use Rattle.script.specs.Numbers.{digits_of}
 use Rattle.script.proofs.Halves.{value_behind, digits_below, hex_value_lem}
@@ -40,7 +41,7 @@ digits_back number (byte ∷ text) e =
     cc (digit, digit_of_value byte parts.0, digits_back (number * 16 + hex_value byte) text parts.1)
 
 -- n hexadecimal digits that are a number are its digits
-pub hex_spelt : (n : ℕ) (text : List ℕ) (value : ℕ) → hex_in n text ≡ some value → digits_of 16 n value ≡ text
+pub hex_spelt : (n : ℕ) (text : List ℕ) (value : ℕ) → hex_in n text ≡ Some value → digits_of 16 n value ≡ text
 hex_spelt n text value e =
     let is = hex_value_lem n text value e in
     rw (← is.1, ← is.0) (digits_back 0 text is.2)

@@ -4,8 +4,7 @@
 -- lines of a text; the start of a line that is kept while the rest is read.
 -- Assumes nothing.
 use Prim.Native.Char.{code}
-use Rattle.std.specs.Prelude.{ℕ, ◌+◌, ◌-◌, Bool, true, false, cond, List, [], ◌∷◌, eqb, length, take, drop}
-use Rattle.std.proofs.Math.Option.{Option, none, some}
+use Rattle.std.specs.Prelude.{ℕ, ◌+◌, ◌-◌, Bool, true, false, cond, List, [], ◌∷◌, eqb, length, take, drop, Option, Some, None}
 
 -- the bytes before the first stop, and those behind it, if there is one
 unfoldable pub up_to : ℕ → List ℕ → List ℕ
@@ -13,8 +12,8 @@ up_to stop [] = []
 up_to stop (byte ∷ rest) = cond (eqb byte stop) [] (byte ∷ up_to stop rest)
 
 unfoldable pub behind : ℕ → List ℕ → Option (List ℕ)
-behind stop [] = none
-behind stop (byte ∷ rest) = cond (eqb byte stop) (some rest) (behind stop rest)
+behind stop [] = None
+behind stop (byte ∷ rest) = cond (eqb byte stop) (Some rest) (behind stop rest)
 
 -- the byte that ends a line
 abbrev pub newline : ℕ

@@ -3,8 +3,7 @@
 -- In order: digits and their values; the value of a text; the text of a value.
 -- Assumes nothing.
 use Prim.Native.Char.{code}
-use Rattle.std.specs.Prelude.{ℕ, zero, suc, ◌+◌, ◌-◌, ◌*◌, ◌/◌, ◌%◌, ◌^◌, Bool, true, cond, ◌&&◌, ◌||◌, List, [], ◌∷◌, leb, ltb, eqb, length}
-use Rattle.std.proofs.Math.Option.{Option, none, some}
+use Rattle.std.specs.Prelude.{ℕ, zero, suc, ◌+◌, ◌-◌, ◌*◌, ◌/◌, ◌%◌, ◌^◌, Bool, true, cond, ◌&&◌, ◌||◌, List, [], ◌∷◌, leb, ltb, eqb, length, Option, Some, None}
 use Rattle.basics.specs.Digits.{hex_digit}
 use Rattle.message.specs.Layout.{message_bytes}
 use Rattle.message.specs.Pair.{entry_bits}
@@ -40,12 +39,12 @@ value_from digit base value (byte ∷ rest) = value_from digit base (value * bas
 unfoldable pub number_in : List ℕ → Option ℕ
 number_in text =
     cond (leb 1 (length text) && leb (length text) 7 && all_bytes is_digit text)
-    (some (value_from digit_value 10 0 text)) none
+    (Some (value_from digit_value 10 0 text)) None
 
 -- n hexadecimal digits
 unfoldable pub hex_in : ℕ → List ℕ → Option ℕ
 hex_in n text =
-    cond (eqb (length text) n && all_bytes is_hex_digit text) (some (value_from hex_value 16 0 text)) none
+    cond (eqb (length text) n && all_bytes is_hex_digit text) (Some (value_from hex_value 16 0 text)) None
 
 -- the last n digits of a value to a base, the highest first
 unfoldable pub digits_of : ℕ → ℕ → ℕ → List ℕ

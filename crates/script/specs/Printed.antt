@@ -3,12 +3,12 @@
 -- In order: a pair; the words and what they add; the line; the line in a buffer.
 -- Assumes nothing.
 use Prim.Native.Char.{code}
-use Rattle.std.specs.Prelude.{ℕ, ◌+◌, ◌≡◌, cond, List, [], ◌∷◌, ◌++◌, leb, length}
+use Rattle.std.specs.Prelude.{ℕ, ◌+◌, ◌≡◌, cond, List, [], ◌∷◌, ◌++◌, leb, length, Ok, Err}
 use Rattle.message.specs.declared.Pair.{Pair}
 use Rattle.message.specs.Pair.{counter, client, entry}
 use Rattle.refusal.specs.Numbers.{number_of}
-use Rattle.register.specs.declared.Answer.{Answer}
-use Rattle.register.specs.declared.Answer.TheVariants.{Went, Read, Wrote, Spent, Refused}
+use Rattle.register.specs.declared.Answer.TheVariants.{Went, Read, Wrote, Spent}
+use Rattle.register.specs.World.{StepAnswer}
 use Rattle.script.specs.declared.print.Output.{Output}
 use Rattle.script.specs.declared.print.Output.TheVariants.{Set, Unread, Answered}
 use Rattle.script.specs.Spelt.{spelt}
@@ -25,18 +25,18 @@ abbrev pub pair_text : Pair → List ℕ
 pair_text pair = spaced (counter pair).0 ++ spaced (client pair) ++ code " " ∷ hex_entry (entry pair).0
 
 -- the word of an answer, WENT, READ, WROTE, SPENT or REFUSED, and what it adds
-abbrev pub answer_text : Answer → List ℕ
-answer_text Went = spelt "WENT"
-answer_text (Read pair) = spelt "READ" ++ pair_text pair
-answer_text (Wrote pair) = spelt "WROTE" ++ pair_text pair
-answer_text Spent = spelt "SPENT"
-answer_text (Refused refusal) = spelt "REFUSED" ++ spaced (number_of refusal)
+abbrev pub answer_text : StepAnswer → List ℕ
+answer_text (Ok Went) = spelt "WENT"
+answer_text (Ok (Read pair)) = spelt "READ" ++ pair_text pair
+answer_text (Ok (Wrote pair)) = spelt "WROTE" ++ pair_text pair
+answer_text (Ok Spent) = spelt "SPENT"
+answer_text (Err refusal) = spelt "REFUSED" ++ spaced (number_of refusal)
 
 -- a word and a pair, and an answer behind a blank, with the line's end
 abbrev pub pair_line : List ℕ → Pair → List ℕ
 pair_line word pair = word ++ pair_text pair ++ newline ∷ []
 
-abbrev pub answer_line : Answer → List ℕ
+abbrev pub answer_line : StepAnswer → List ℕ
 answer_line answer = code " " ∷ answer_text answer ++ newline ∷ []
 
 -- SET, UNREAD or an answer

@@ -1,8 +1,8 @@
 // The next line of a text: where it ends, and what it says. The commonest, K, D and L with short numbers, are
 // read at once.
-ghost use Rattle.std.specs.Prelude.{◌≡◌, ◌+◌, ◌≤◌, true, length};
+ghost use Rattle.std.specs.Prelude.{◌≡◌, ◌+◌, ◌≤◌, true, length, IfSome};
 ghost use Rattle.script.specs.Numbers.{is_digit};
-ghost use Rattle.script.specs.Next.{found_at, short_value, IsShort, IsLie, IsQuick};
+ghost use Rattle.script.specs.Next.{found_at, short_value, Short, Lie};
 
 use crate::lines::{NEWLINE, place_of};
 use crate::parse::{First, Line, MESSAGE_DIGITS, is_digit, message_after, parse};
@@ -15,17 +15,11 @@ const QUICK: usize = 8;
 #[derive(Clone, Copy)]
 pub struct Found {
     pub end: usize,
-    pub line: Line,
-}
-
-// A step and where its line ends, or that the line has to be read by `parse`.
-#[derive(Clone, Copy)]
-enum Quick {
-    Is(Step, usize),
-    No,
+    pub line: Option<Line>,
 }
 
 // The number of a digit and, if the byte behind it is one too, that digit.
+#[tactic(auto, unfolding(crate::specs::Numbers::value_from))]
 fn short_value(first: u8, second: u8) -> u32
     requires { is_digit first ≡ true }
     ensures { result ≡ short_value first second }
@@ -39,88 +33,91 @@ fn short_value(first: u8, second: u8) -> u32
 }
 
 // A number of one or two digits with a stop behind it, and where the text behind the stop begins.
-fn short_at(text: &[u8], at: usize, stop: u8) -> First
+#[tactic(auto, using(crate::proofs::Short::short_is))]
+fn short_at(text: &[u8], at: usize, stop: u8) -> Option<First>
     requires { at + 3 ≤ length text.now }
-    ensures { IsShort result text.now at stop }
+    ensures { IfSome result (λ first. Short text.now at stop first.value first.next) }
 {
     let first = text[at];
     let second = text[at + 1];
     if !is_digit(first) {
-        return First::No;
+        return None;
     }
     let end = at + 1 + is_digit(second) as usize;
     if text[end] != stop {
-        return First::No;
+        return None;
     }
-    First::Is(short_value(first, second), end + 1)
+    Some(First {
+        value: short_value(first, second),
+        next: end + 1,
+    })
 }
 
 // The rest of an L line, behind its server: a short number and a message.
-fn quick_lie(text: &[u8], k: u32, at: usize) -> Quick
+fn quick_lie(text: &[u8], k: u32, at: usize) -> Option<Found>
     requires { at + 3 ≤ length text.now }
-    ensures { IsLie result text.now k at }
+    ensures { IfSome result (Lie text.now k at) }
 {
-    let First::Is(d, next) = short_at(text, at, b' ') else {
-        return Quick::No;
-    };
-    if text.len() - next <= MESSAGE_DIGITS {
-        return Quick::No;
+    let client = short_at(text, at, b' ')?;
+    if text.len() - client.next <= MESSAGE_DIGITS {
+        return None;
     }
-    let end = next + MESSAGE_DIGITS;
+    let end = client.next + MESSAGE_DIGITS;
     if text[end] != NEWLINE {
-        return Quick::No;
+        return None;
     }
-    match message_after(k, d, &text[next..end]) {
-        Line::Do(step) => Quick::Is(step, end),
-        _ => Quick::No,
-    }
+    let line = message_after(k, client.value, &text[client.next..end])?;
+    Some(Found {
+        end: end,
+        line: Some(line),
+    })
 }
 
-// K, D or L with short numbers. The letter is looked at first, so that other lines cost little here.
-fn quick_step(text: &[u8], at: usize) -> Quick
+// K, D or L with short numbers; another line has to be read by `parse`. The letter is looked at first, so that
+// other lines cost little here.
+#[tactic(auto, using(crate::proofs::Quick::found_k, crate::proofs::Quick::found_d))]
+fn quick_step(text: &[u8], at: usize) -> Option<Found>
     requires { at + 8 ≤ length text.now }
-    ensures { IsQuick result text.now at }
+    ensures { IfSome result (λ found. found ≡ found_at text.now at) }
 {
     if text[at + 1] != b' ' {
-        return Quick::No;
+        return None;
     }
     let letter = text[at];
     if letter != b'K' && letter != b'D' && letter != b'L' {
-        return Quick::No;
+        return None;
     }
-    let First::Is(first, next) = short_at(text, at + 2, b' ') else {
-        return Quick::No;
-    };
+    let first = short_at(text, at + 2, b' ')?;
     if letter == b'L' {
-        return quick_lie(text, first, next);
+        return quick_lie(text, first.value, first.next);
     }
-    let First::Is(second, last) = short_at(text, next, NEWLINE) else {
-        return Quick::No;
-    };
-    let end = last - 1;
-    if letter == b'K' {
-        Quick::Is(Step::K(first, second), end)
+    let second = short_at(text, first.next, NEWLINE)?;
+    let end = second.next - 1;
+    let step = if letter == b'K' {
+        Step::K(first.value, second.value)
     } else {
-        Quick::Is(Step::D(first, second), end)
-    }
+        Step::D(first.value, second.value)
+    };
+    Some(Found {
+        end: end,
+        line: Some(Line::Do(step)),
+    })
 }
 
 // What stands in a text from a place on: where that line ends, or the text does, and what it says.
+#[tactic(auto, using(crate::proofs::Found::ends_within, crate::proofs::Found::none_found))]
 pub fn next(text: &[u8], at: usize) -> Found
     ensures { result ≡ found_at text.now at }
 {
     if text.len() <= at {
         return Found {
             end: at,
-            line: Line::Unread,
+            line: None,
         };
     }
     if QUICK <= text.len() - at {
-        if let Quick::Is(step, end) = quick_step(text, at) {
-            return Found {
-                end: end,
-                line: Line::Do(step),
-            };
+        if let Some(found) = quick_step(text, at) {
+            return found;
         }
     }
     let end = at + place_of(NEWLINE, &text[at..]);

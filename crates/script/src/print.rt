@@ -1,8 +1,8 @@
 // The line that is printed for a line of the script. Each function writes a text into a lent buffer and
 // answers where it ends.
+// No `impl Display`: a formatter appends to a writer, but `put_numeral` also writes up to five bytes behind its text.
 ghost use Rattle.std.specs.Prelude.{◌≡◌, ◌+◌, ◌/◌, ◌%◌, ◌≤◌, ◌<◌, length, set};
 ghost use Rattle.basics.specs.Digits.{hex_digit};
-ghost use Rattle.register.specs.declared.Answer.TheVariants.{Refused};
 ghost use Rattle.script.specs.Numbers.{digits_of, digit_count, decimal};
 ghost use Rattle.script.specs.Numerals.{next_number, numeral_of};
 ghost use Rattle.script.specs.Printed.{spaced, pair_text, pair_line, answer_line};
@@ -20,7 +20,7 @@ use register::Answer;
 pub enum Output {
     Set,
     Unread,
-    Answered(Answer),
+    Answered(Result<Answer, Refusal>),
 }
 
 // No printed line is longer.
@@ -36,6 +36,7 @@ fn digit_count(value: u64) -> usize
 {
     let mut count = 1;
     let mut power: u64 = 10;
+    // No `for`: it goes by the powers.
     while power <= value {
         count += 1;
         if count == 20 {
@@ -52,9 +53,7 @@ fn put_digits(out: &mut [u8], at: usize, count: usize, value: u64) -> usize
     ensures { Written (digits_of 16 count value) out.old at result out.new }
 {
     let mut rest = value;
-    let mut i = count;
-    while 0 < i {
-        i -= 1;
+    for i in (0..count).rev() {
         out[at + i] = hex_digit(rest % 16);
         rest = rest / 16;
     }
@@ -79,6 +78,7 @@ fn put_decimal(out: &mut [u8], at: usize, value: u64) -> usize
     let count = digit_count(value);
     let mut rest = value;
     let mut i = count;
+    // No `for`: the place goes down by two, and one digit may be left.
     while 1 < i {
         i -= 2;
         put_two(out, at + i, (rest % 100) as u8);
@@ -90,16 +90,16 @@ fn put_decimal(out: &mut [u8], at: usize, value: u64) -> usize
     at + count
 }
 
+#[tactic(auto, using(std::proofs::lemmas::List::Edits::paste_more))]
 fn put_text(out: &mut [u8], at: usize, text: &[u8]) -> usize
     requires { at + length text.now ≤ length out.old }
     ensures { Written text.now out.old at result out.new }
 {
-    let mut i = 0;
-    while i < text.len() {
+    // With `copy_from_slice` the program takes 2 in 100 more instructions.
+    for i in 0..text.len() {
         out[at + i] = text[i];
-        i += 1;
     }
-    at + i
+    at + text.len()
 }
 
 fn put_spaced(out: &mut [u8], at: usize, value: u64) -> usize
@@ -114,7 +114,7 @@ fn put_pair(out: &mut [u8], at: usize, pair: Pair) -> usize
     requires { at + 53 ≤ length out.old }
     ensures { Written (pair_text pair) out.old at result out.new }
 {
-    let counter_end = put_spaced(out, at, message::counter_word(message::counter_of(pair)));
+    let counter_end = put_spaced(out, at, u64::from(message::counter_of(pair)));
     let client_end = put_spaced(out, counter_end, message::client_of(pair) as u64);
     let next = put_text(out, client_end, b" ");
     put_digits(out, next, ENTRY_DIGITS, message::entry_of(pair).0)
@@ -132,23 +132,23 @@ fn put_paired(out: &mut [u8], at: usize, word: &[u8], pair: Pair) -> usize
 
 fn put_refused(out: &mut [u8], at: usize, why: Refusal) -> usize
     requires { at + 30 ≤ length out.old }
-    ensures { Written (answer_line (Refused why)) out.old at result out.new }
+    ensures { Written (answer_line (Err why)) out.old at result out.new }
 {
     let word_end = put_text(out, at, b" REFUSED");
-    let number_end = put_spaced(out, word_end, refusal::number(why) as u64);
+    let number_end = put_spaced(out, word_end, u8::from(why) as u64);
     put_text(out, number_end, b"\n")
 }
 
-fn put_answer(out: &mut [u8], at: usize, answer: Answer) -> usize
+fn put_answer(out: &mut [u8], at: usize, answer: Result<Answer, Refusal>) -> usize
     requires { at + longest_output ≤ length out.old }
     ensures { Written (answer_line answer) out.old at result out.new }
 {
     match answer {
-        Answer::Went => put_text(out, at, b" WENT\n"),
-        Answer::Read(pair) => put_paired(out, at, b" READ", pair),
-        Answer::Wrote(pair) => put_paired(out, at, b" WROTE", pair),
-        Answer::Spent => put_text(out, at, b" SPENT\n"),
-        Answer::Refused(why) => put_refused(out, at, why),
+        Ok(Answer::Went) => put_text(out, at, b" WENT\n"),
+        Ok(Answer::Read(pair)) => put_paired(out, at, b" READ", pair),
+        Ok(Answer::Wrote(pair)) => put_paired(out, at, b" WROTE", pair),
+        Ok(Answer::Spent) => put_text(out, at, b" SPENT\n"),
+        Err(why) => put_refused(out, at, why),
     }
 }
 

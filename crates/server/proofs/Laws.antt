@@ -7,17 +7,18 @@
 -- Assumes nothing.
 use Rattle.basics.proofs.Prelude.{◌≡◌, refl, ap, ◌∙◌, true, List, ℕ, ◌≤◌, le_refl, arith, leb, ltb, leb-true}
 use Rattle.basics.proofs.Prelude.{leb-false, ltb-true}
+use Rattle.std.specs.Prelude.{Ok, Err}
 use Rattle.basics.proofs.Cases.{by_test}
 use Rattle.register.proofs.Vocabulary.{Message, GetInfo, Info, Done, WriteInfo, Fwd, WriteAck, Pair, Unpacked}
-use Rattle.register.proofs.Vocabulary.{Good, unpack_of, goes_up, goes, stamp, stored, next_server, most_clients}
-use Rattle.message.specs.declared.Unpacked.TheVariants.{Refused}
+use Rattle.register.proofs.Vocabulary.{unpack_of, goes_up, goes, stamp, stored, next_server, most_clients}
 use Rattle.register.specs.Server as model
 use Rattle.server.specs.declared.Served.{Served}
 use Rattle.server.specs.declared.Server.{Server}
 use Rattle.server.specs.State as state
 use Rattle.server.specs.State.{sound}
 use Rattle.server.specs.Memory.{loaded, numbers_of, view, store, is_sound}
-use Rattle.server.specs.Serving.{sent_by, After, after_of, served_of, served_in, messages}
+use Rattle.server.specs.Serving.{sent_by, After, after_of, served_of, served_in}
+use Rattle.server.specs.Serving as serving
 use Rattle.server.specs.Serving.{became, bytes_served}
 use Rattle.server.proofs.Memory.{store_sound}
 use Rattle.server.proofs.Views as views
@@ -35,11 +36,11 @@ view_after server d message h low top =
 -- the same in memory, given what is served by value and the numbers stored
 pub served_in_lem : (memory : List ℕ) (d : ℕ) (message : Message) (given : Served) (numbers : List ℕ)
     → after_of d given ≡ served_of (loaded memory) d message → numbers ≡ numbers_of given.server
-    → became (messages given.sends (sent_by d given.sends)) numbers ≡ served_in memory d message
+    → became (Ok (serving.given given.sends (sent_by d given.sends))) numbers ≡ served_in memory d message
 unfolding view store
 served_in_lem memory d message given numbers e f =
     let next = f ∙ ap (λ (q : After). numbers_of q.server) e in
-    λ i. record { result = messages (e i).answer (e i).sends; memory = next i }
+    λ i. record { result = Ok (serving.given (e i).answer (e i).sends); memory = next i }
 
 stored_stamp : (old new : Pair) → stamp old ≤ stamp (stored old new)
 unfolding stored
@@ -66,9 +67,9 @@ module _ (P : List ℕ → Type 0) (memory : List ℕ) (d : ℕ) (bytes : List �
   by_message : is_sound memory ≡ true → 1 ≤ d → d ≤ most_clients → (unpacked : Unpacked)
       → unpack_of bytes ≡ unpacked → P (bytes_served memory d bytes).memory
   unfolding goes
-  by_message h low top (Refused why) e = rw (malformed memory d bytes h low top (ap goes_up e)) same
-  by_message h low top (Good message) e =
-      by_test (goes_up (Good message))
+  by_message h low top (Err why) e = rw (malformed memory d bytes h low top (ap goes_up e)) same
+  by_message h low top (Ok message) e =
+      by_test (goes_up (Ok message))
       (λ good. rw (served memory d bytes h low top message e good) (next message))
       (λ bad. rw (malformed memory d bytes h low top (ap goes_up e ∙ bad)) same)
 

@@ -4,21 +4,18 @@
 -- lowest first; bytes served.
 -- Assumes nothing.
 use Rattle.std.specs.Prelude.{ℕ, not, List, [], ◌∷◌, ◌++◌}
-use Rattle.std.proofs.Math.Option.{Option, none, some}
+use Rattle.std.specs.Prelude.{Option, None, Some, Result, Ok, Err}
 use Rattle.basics.specs.BitSets.{contains}
 use Rattle.basics.specs.Tests.{is_up_to}
 use Rattle.refusal.specs.declared.Refusal.{Refusal}
 use Rattle.refusal.specs.Ladder.{Rung, ◌whenever◌, lowest}
 use Rattle.message.specs.declared.Message.{Message}
 use Rattle.message.specs.declared.Message.TheVariants.{GetInfo, Info, Done, WriteInfo, Fwd, WriteAck}
-use Rattle.message.specs.declared.Unpacked.{Unpacked}
-use Rattle.message.specs.declared.Unpacked.TheVariants.{Good, Refused}
+use Rattle.message.specs.Layout.{Unpacked}
 use Rattle.message.specs.Layout.{unpack_of, goes_up}
 use Rattle.message.specs.Pair.{counter}
 use Rattle.register.specs.Server.{Sent, sent, forwards, next_server, server_sends}
 use Rattle.register.specs.Settings.{most_clients}
-use Rattle.server.specs.declared.Outcome.{Outcome}
-use Rattle.server.specs.declared.Outcome.TheVariants as outcome
 use Rattle.server.specs.declared.Sends.{Sends}
 use Rattle.server.specs.declared.Sends.TheVariants as sends
 use Rattle.server.specs.declared.Served.{Served}
@@ -62,29 +59,32 @@ served_of server d message =
       sends = server_sends (state.view server) d message;
     }
 
--- what serving gives: an answer with the messages that it stands for, or a refusal
-pub data Result : Type 0 where
-  messages : Sends → List Sent → Result
-  refusal : Refusal → Result
+-- what serving gives: an answer with the messages that it stands for
+pub record Given : Type 0 where
+  pub answer : Sends
+  pub messages : List Sent
 
--- and the memory after it
+abbrev pub given : Sends → List Sent → Given
+given answer messages = record { answer = answer; messages = messages }
+
+-- or a refusal; and the memory after it
 pub record Became : Type 0 where
-  pub result : Result
+  pub result : Result Given Refusal
   pub memory : List ℕ
 
-abbrev pub became : Result → List ℕ → Became
+abbrev pub became : Result Given Refusal → List ℕ → Became
 became result memory = record { result = result; memory = memory }
 
 -- a message of client d served, in memory: the model's next server, and what the model's server sends
 abbrev pub served_in : List ℕ → ℕ → Message → Became
 served_in memory d message =
-    became (messages (answer_of (loaded memory) message) (server_sends (view memory) d message))
+    became (Ok (given (answer_of (loaded memory) message) (server_sends (view memory) d message)))
     (store (next_server (view memory) d message))
 
--- the result that the code's outcome stands for
-unfoldable pub result_of : ℕ → Outcome → Result
-result_of d (outcome.Sent answer) = messages answer (sent_by d answer)
-result_of d (outcome.Refused why) = refusal why
+-- what the code's answer stands for
+unfoldable pub result_of : ℕ → Result Sends Refusal → Result Given Refusal
+result_of d (Ok answer) = Ok (given answer (sent_by d answer))
+result_of d (Err why) = Err why
 
 -- 3 unsound memory; 4 a sender that is not 1 to 6; 9 not a message, or a reply
 abbrev pub ladder : List ℕ → ℕ → List ℕ → List Rung
@@ -97,9 +97,9 @@ ladder memory d bytes =
 -- 01's answer: the messages sent, or refused 3, 'spoiled', 4, 'nobody there', or 9, 'misprint'; a refusal
 -- leaves the memory as it was
 abbrev pub decided : List ℕ → ℕ → Option Refusal → Unpacked → Became
-decided memory d (some why) unpacked = became (refusal why) memory
-decided memory d none (Good message) = served_in memory d message
-decided memory d none (Refused why) = became (refusal why) memory
+decided memory d (Some why) unpacked = became (Err why) memory
+decided memory d None (Ok message) = served_in memory d message
+decided memory d None (Err why) = became (Err why) memory
 
 -- bytes of sender d served, or refused
 unfoldable pub bytes_served : List ℕ → ℕ → List ℕ → Became

@@ -8,10 +8,10 @@ ghost use Rattle.register.specs.Server.{stored};
 ghost use Rattle.register.specs.Settings.{most_clients};
 ghost use Rattle.server.specs.Memory.{server_length, loaded, numbers_of, is_sound};
 ghost use Rattle.server.specs.State.{sound};
-ghost use Rattle.server.specs.Serving.{sent_by, after_of, served_of, served_in, messages};
+ghost use Rattle.server.specs.Serving.{sent_by, after_of, served_of, served_in, given};
 ghost use Rattle.server.specs.Serving.{result_of, became, bytes_served};
 
-use message::{Message, Pair, ReadNumber, Unpacked};
+use message::{Message, Pair, ReadNumber};
 use refusal::Refusal;
 
 // One pair, and the clients that read: bit d - 1 is client d.
@@ -35,13 +35,6 @@ pub enum Sends {
 pub struct Served {
     pub server: Server,
     pub sends: Sends,
-}
-
-// What serving bytes answers.
-#[derive(Clone, Copy)]
-pub enum Outcome {
-    Sent(Sends),
-    Refused(Refusal),
 }
 
 // A server in memory is two numbers: the pair, and the readers.
@@ -81,11 +74,15 @@ pub fn store(memory: &mut [u64], server: Server)
 }
 
 // The pair of the higher timestamp; the old one where both are the same.
+#[tactic(auto, unfolding(register::specs::Server::stored))]
 fn higher(old: Pair, new: Pair) -> Pair
     ensures { result ≡ stored old new }
 {
-    let is_later = message::is_earlier(old, new);
-    if is_later { new } else { old }
+    if message::stamp_of(old) < message::stamp_of(new) {
+        new
+    } else {
+        old
+    }
 }
 
 // GET_INFO: client d reads now, and gets INFO with its tag and the pair.
@@ -171,7 +168,7 @@ fn is_sound(memory: &[u64]) -> bool
 // Serves a message of client d, in memory.
 fn serve_message(d: u8, message: Message, memory: &mut [u64]) -> Sends
     requires { (is_sound memory.old ≡ true) × (1 ≤ d) × (d ≤ most_clients) }
-    ensures { became (messages result (sent_by d result)) memory.new
+    ensures { became (Ok (given result (sent_by d result))) memory.new
         ≡ served_in memory.old d message }
 {
     let served = after(load(memory), d, message);
@@ -182,21 +179,21 @@ fn serve_message(d: u8, message: Message, memory: &mut [u64]) -> Sends
 
 // Serves the bytes that sender d sent to the server in memory. Refuses (3, 4, 9, the lowest first) unsound
 // memory, a sender that is not 1 to 6, and bytes that are no message or a reply; the memory stays as it was.
-pub fn serve(d: u32, bytes: &[u8], memory: &mut [u64]) -> Outcome
+pub fn serve(d: u32, bytes: &[u8], memory: &mut [u64]) -> Result<Sends, Refusal>
     ensures { became (result_of d result) memory.new
         ≡ bytes_served memory.old d bytes.now }
 {
     if !is_sound(memory) {
-        return Outcome::Refused(Refusal::Unsound);
+        return Err(Refusal::Unsound);
     }
     if d < 1 || MOST_CLIENTS < d {
-        return Outcome::Refused(Refusal::NoSuchProcess);
+        return Err(Refusal::NoSuchProcess);
     }
-    let Unpacked::Good(message) = message::unpack(bytes) else {
-        return Outcome::Refused(Refusal::Malformed);
+    let Ok(message) = message::unpack(bytes) else {
+        return Err(Refusal::Malformed);
     };
     if message::is_reply(message) {
-        return Outcome::Refused(Refusal::Malformed);
+        return Err(Refusal::Malformed);
     }
-    Outcome::Sent(serve_message(d as u8, message, memory))
+    Ok(serve_message(d as u8, message, memory))
 }

@@ -2,53 +2,42 @@
 -- A reader of the public contracts needs none of it.
 -- Assumes nothing.
 use Rattle.std.specs.Prelude.{ℕ, ◌+◌, ◌*◌, ◌/◌, ◌%◌}
-use Rattle.refusal.specs.Numbers.{number_of}
-use Rattle.calendar.specs.declared.DayNumber.{DayNumber}
+use Rattle.calendar.specs.declared.Date.{Date}
 use Rattle.calendar.specs.Calendar.{day_number}
+use Rattle.calendar.specs.Order.{date}
 use Rattle.sheets.specs.declared.dates.Digests.{Digests}
-use Rattle.sheets.specs.Digest.{mixed, in_turn}
+use Rattle.sheets.specs.Digest.{mixed, answer_in, in_turn}
 use Rattle.sheets.specs.Licences.{with_renewals, with_end}
 use Rattle.sheets.specs.Sums.{with_sums}
 
 -- an entry that ends on a date, with copies that change from date to date
-abbrev pub entry_of : ℕ → ℕ → ℕ → ℕ → ℕ
-entry_of year month day state = ((year * 16 + month) * 32 + day) * 524288 + (month * 4000 + day) * 8 + state
+abbrev pub entry_of : Date → ℕ → ℕ
+entry_of end state =
+    ((end.year * 16 + end.month) * 32 + end.day) * 524288 + (end.month * 4000 + end.day) * 8 + state
 
-abbrev pub number_in : DayNumber → ℕ → ℕ
-number_in (DayNumber.Day number) digest = mixed number (mixed 0 digest)
-number_in (DayNumber.Refused why) digest = mixed (number_of why) digest
-
-unfoldable pub with_number : ℕ → ℕ → ℕ → ℕ → ℕ
-with_number year month day digest = number_in (day_number year month day) digest
+unfoldable pub with_number : Date → ℕ → ℕ
+with_number on digest = answer_in mixed (day_number on.year on.month on.day) digest
 
 -- all but the day number, for one entry
-unfoldable pub with_state : ℕ → ℕ → ℕ → ℕ → Digests → Digests
-with_state year month day state digests =
-    let given = entry_of year month day state in
-    record {
-      numbers = digests.numbers;
+unfoldable pub with_state : Date → ℕ → Digests → Digests
+with_state end state digests =
+    let given = entry_of end state in
+    record digests {
       renewals = with_renewals given digests.renewals;
-      verdicts = with_end given year month day digests.verdicts;
+      verdicts = with_end given end digests.verdicts;
       sums = with_sums given digests.sums;
     }
 
 -- entries of the states 0 to 4
-abbrev pub with_states : ℕ → ℕ → ℕ → Digests → Digests
-with_states year month day digests = in_turn (with_state year month day) 5 digests
+abbrev pub with_states : Date → Digests → Digests
+with_states end digests = in_turn (with_state end) 5 digests
 
-abbrev pub with_date : ℕ → ℕ → ℕ → Digests → Digests
-with_date year month day digests =
-    let next = with_states year month day digests in
-    record {
-      numbers = with_number year month day digests.numbers;
-      renewals = next.renewals;
-      verdicts = next.verdicts;
-      sums = next.sums;
-    }
+abbrev pub with_date : Date → Digests → Digests
+with_date end digests = record (with_states end digests) { numbers = with_number end digests.numbers }
 
 -- the i-th pattern: months 0 to 15, days 0 to 31
 abbrev pub with_pattern : ℕ → ℕ → Digests → Digests
-with_pattern year i = with_date year (i / 32) (i % 32)
+with_pattern year i = with_date (date year (i / 32) (i % 32))
 
 abbrev pub no_digests : Digests
 no_digests =

@@ -5,20 +5,20 @@
 -- bytes.
 -- A reader of the public contracts needs none of it.
 -- Assumes nothing.
-use Rattle.std.specs.Prelude.{ℕ, ◌+◌, ◌-◌, ◌*◌, ◌/◌, ◌%◌, ◌^◌, List, [], ◌∷◌, cond, eqb, length, get_or, take, replicate}
+use Rattle.std.specs.Prelude.{ℕ, ◌+◌, ◌-◌, ◌*◌, ◌/◌, ◌%◌, ◌^◌}
+use Rattle.std.specs.Prelude.{List, [], ◌∷◌, cond, eqb, get_or, take, replicate}
+use Rattle.std.specs.List.{fold}
 use Rattle.std.proofs.lemmas.List.Edits.{sets}
 use Rattle.basics.specs.Bytes.{big_endian}
-use Rattle.refusal.specs.Numbers.{number_of}
 use Rattle.message.specs.declared.Message.{Message}
 use Rattle.message.specs.declared.Message.TheVariants.{GetInfo, Info, Done, WriteInfo, Fwd, WriteAck}
-use Rattle.message.specs.declared.Packed.{Packed}
 use Rattle.message.specs.declared.Pair.{Pair}
-use Rattle.message.specs.declared.Unpacked.{Unpacked}
 use Rattle.message.specs.declared.Words.{Words}
-use Rattle.message.specs.Pair.{client_bits, entry_bits, pair_bits, client_at, counter_at, counter, client, entry}
+use Rattle.message.specs.Pair.{client_bits, entry_bits, pair_bits, client_at, counter_at}
+use Rattle.message.specs.Pair.{counter, client, entry}
 use Rattle.message.specs.Layout.{tag_bits, last_read, last_counter, message_bytes, words_number, unpack_of}
 use Rattle.message.specs.Packing.{pack_answer, pack_leaves}
-use Rattle.sheets.specs.Digest.{mixed, in_turn}
+use Rattle.sheets.specs.Digest.{mixed, answer_in, in_turn}
 
 abbrev pub with_pair : Pair → ℕ → ℕ
 with_pair pair digest = mixed (entry pair).0 (mixed (client pair) (mixed (counter pair).0 digest))
@@ -32,24 +32,17 @@ with_message (WriteInfo pair) digest = with_pair pair (mixed 4 digest)
 with_message (Fwd pair) digest = with_pair pair (mixed 5 digest)
 with_message (WriteAck counter) digest = mixed counter.0 (mixed 6 digest)
 
-abbrev pub unpacked_in : Unpacked → ℕ → ℕ
-unpacked_in (Unpacked.Good message) digest = with_message message (mixed 0 digest)
-unpacked_in (Unpacked.Refused why) digest = mixed (number_of why) digest
-
 unfoldable pub with_unpacked : List ℕ → ℕ → ℕ
-with_unpacked bytes digest = unpacked_in (unpack_of bytes) digest
+with_unpacked bytes digest = answer_in with_message (unpack_of bytes) digest
 
 unfoldable pub with_bytes : List ℕ → ℕ → ℕ
-with_bytes bytes digest = in_turn (λ (i : ℕ). mixed (get_or bytes i 0)) (length bytes) digest
-
-abbrev pub answer_in : Packed → ℕ → ℕ
-answer_in Packed.Done digest = mixed 0 digest
-answer_in (Packed.Refused why) digest = mixed (number_of why) digest
+with_bytes bytes digest = fold (λ (before byte : ℕ). mixed byte before) digest bytes
 
 -- what packing answers, and all that the buffer holds afterwards
 unfoldable pub with_packed : Message → List ℕ → ℕ → ℕ
 with_packed message bytes digest =
-    with_bytes (pack_leaves message bytes) (answer_in (pack_answer message bytes) digest)
+    let answered = answer_in (λ (packed : Unit {0}) (after : ℕ). after) (pack_answer message bytes) digest in
+    with_bytes (pack_leaves message bytes) answered
 
 -- ten, eleven and twelve bytes that begin with a number's
 abbrev pub with_lengths : Words → ℕ → ℕ
@@ -102,4 +95,5 @@ pair_at i =
     get_or (0 ∷ 1 ∷ (2 ^ entry_bits - 1) ∷ 2 ^ client_at ∷ 2 ^ counter_at ∷ (2 ^ pair_bits - 1) ∷ []) i 0
 
 abbrev pub pack_digest : ℕ → ℕ
-pack_digest kind = in_turn (λ (i : ℕ). with_buffers (sample_of kind (number_at (i / 6)) (pair_at (i % 6)))) 30 0
+pack_digest kind =
+    in_turn (λ (i : ℕ). with_buffers (sample_of kind (number_at (i / 6)) (pair_at (i % 6)))) 30 0

@@ -4,13 +4,9 @@
 -- In order: entries; days; messages; what counts, and what a set keeps; all of them.
 -- Assumes nothing.
 use Rattle.std.specs.Prelude.{◌≡◌, ℕ, true, false, cond, List, [], ◌∷◌, map, leb, negsuc, get_or}
-use Rattle.std.proofs.Math.Option.{none, some}
+use Rattle.std.specs.Prelude.{None, Some, Ok}
 use Rattle.calendar.specs.Calendar.{day_number}
-use Rattle.calendar.specs.declared.DayNumber.TheVariants.{Day}
-use Rattle.licence.specs.declared.Joined.{Joined}
 use Rattle.licence.specs.declared.Kind.TheVariants.{Nothing}
-use Rattle.licence.specs.declared.Renewal.{Renewal}
-use Rattle.licence.specs.declared.DaysLeft.{DaysLeft}
 use Rattle.licence.specs.declared.Verdict.TheVariants.{Pulp}
 use Rattle.licence.specs.Entry.{joined, joined_of, kind_of, ending}
 use Rattle.licence.specs.Renewal.{renewed_of}
@@ -26,24 +22,24 @@ use Rattle.register.specs.Client.{Client, counts, set_limit}
 -- entries and renewals
 pub record Entries : Type 0 where
   -- 29 February 2024, 40 copies, open is 7E82E80141
-  pub packed : joined_of (ending 2024 2 29) ≡ Joined.Entry 0x7E82E80141
+  pub packed : joined_of (ending 2024 2 29) ≡ Ok 0x7E82E80141
   -- 7E92E80141 (2025) is no entry
   pub other_year : kind_of 0x7E92E80141 ≡ Nothing
   -- it renewed by 1 ends 28 February 2025; by 4, 29 February 2028
-  pub renewed_by_1 : renewed_of 0x7E82E80141 1 ≡ Renewal.Entry (joined (ending 2025 2 28))
-  pub renewed_by_4 : renewed_of 0x7E82E80141 4 ≡ Renewal.Entry (joined (ending 2028 2 29))
+  pub renewed_by_1 : renewed_of 0x7E82E80141 1 ≡ Ok (joined (ending 2025 2 28))
+  pub renewed_by_4 : renewed_of 0x7E82E80141 4 ≡ Ok (joined (ending 2028 2 29))
   -- 28 February 2027 renewed by 1 ends on 29 February 2028; 28 February 2028 on 28 February 2029 (02, C-12)
-  pub last_renewed : renewed_of (joined (ending 2027 2 28)) 1 ≡ Renewal.Entry (joined (ending 2028 2 29))
-  pub not_last_renewed : renewed_of (joined (ending 2028 2 28)) 1 ≡ Renewal.Entry (joined (ending 2029 2 28))
+  pub last_renewed : renewed_of (joined (ending 2027 2 28)) 1 ≡ Ok (joined (ending 2028 2 29))
+  pub not_last_renewed : renewed_of (joined (ending 2028 2 28)) 1 ≡ Ok (joined (ending 2029 2 28))
 
 -- day numbers, days left, verdicts
 pub record Days : Type 0 where
   -- 29 February 2024 is day 45,350; 31 December 2199 is day 109,573
-  pub leap_day : day_number 2024 2 29 ≡ Day 45350
-  pub last_day : day_number 2199 12 31 ≡ Day 109573
+  pub leap_day : day_number 2024 2 29 ≡ Ok 45350
+  pub last_day : day_number 2199 12 31 ≡ Ok 109573
   -- ending 29 February 2024, on 1 March 2024 days left are −1: pulp
-  pub left_after : days_left 0x7E82E80141 2024 3 1 ≡ DaysLeft.Days (negsuc 0)
-  pub verdict_after : verdict_of 0x7E82E80141 2024 3 1 ≡ Pulp
+  pub left_after : days_left 0x7E82E80141 2024 3 1 ≡ Ok (negsuc 0)
+  pub verdict_after : verdict_of 0x7E82E80141 2024 3 1 ≡ Ok Pulp
 
 -- messages
 pub record Messages : Type 0 where
@@ -65,7 +61,7 @@ noting first second third many =
     record {
       phase = Reading;
       reads = record { 0 = 1 };
-      noted = λ k. get_or (none ∷ some (stamp first) ∷ some (stamp second) ∷ some (stamp third) ∷ []) k none;
+      noted = λ k. get_or (None ∷ Some (stamp first) ∷ Some (stamp second) ∷ Some (stamp third) ∷ []) k None;
       sets = λ k. cond (leb k many) (pairs (1 ∷ [])) [];
       acks = λ k. false;
     }

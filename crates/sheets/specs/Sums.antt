@@ -4,18 +4,18 @@
 -- In order: an answer as a number; one pair of lengths; all of them.
 -- A reader of the public contracts needs none of it.
 -- Assumes nothing.
-use Rattle.std.specs.Prelude.{ℕ, ◌+◌, ◌-◌, cond, eqb}
+use Rattle.std.specs.Prelude.{ℕ, ◌+◌, ◌-◌, cond, eqb, Result, Ok, Err}
+use Rattle.refusal.specs.declared.Refusal.{Refusal}
 use Rattle.refusal.specs.Numbers.{number_of}
-use Rattle.licence.specs.declared.Renewal.{Renewal}
 use Rattle.licence.specs.Renewal.{most_years, renewed_of}
 use Rattle.licence.specs.Sum.{renewed_twice}
 use Rattle.sheets.specs.declared.sums.Sums.{Sums}
 use Rattle.sheets.specs.Digest.{mixed, in_turn}
 
 -- the entry, which is above every refusal's number, or the refusal's
-abbrev pub answer_number : Renewal → ℕ
-answer_number (Renewal.Entry renewed) = renewed
-answer_number (Renewal.Refused why) = number_of why
+abbrev pub answer_number : Result ℕ Refusal → ℕ
+answer_number (Ok renewed) = renewed
+answer_number (Err why) = number_of why
 
 -- 0 where two numbers are the same
 abbrev pub difference : ℕ → ℕ → ℕ

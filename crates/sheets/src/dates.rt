@@ -1,12 +1,13 @@
 // Digests of a year over every pattern of month and day that an entry can hold, real dates or not.
 ghost use Rattle.std.specs.Prelude.{◌≡◌, ◌≤◌, ◌<◌};
+ghost use Rattle.sheets.specs.Licences.{HasNeighbours};
 ghost use Rattle.sheets.specs.Dates.{entry_of, with_number, with_state, with_states, with_date};
 ghost use Rattle.sheets.specs.Dates.{year_digests};
 
-use crate::digest::mix;
-use crate::licences::{with_end, with_renewals};
+use crate::digest::{mix, with_answer};
+use crate::licences::{date, with_end, with_renewals};
 use crate::sums::{Sums, with_sums};
-use calendar::DayNumber;
+use calendar::Date;
 
 // States 1 to 3, and one too low and one too high.
 const STATES: u8 = 5;
@@ -15,7 +16,7 @@ const STATES: u8 = 5;
 const PATTERNS: u16 = 512;
 
 // A year's digests: day numbers, renewals, days left with verdicts, two renewals beside one by the sum.
-#[derive(Clone, Copy)]
+#[derive(Clone, Copy, Default)]
 pub struct Digests {
     pub numbers: u64,
     pub renewals: u64,
@@ -24,90 +25,67 @@ pub struct Digests {
 }
 
 // An entry that ends on a date, with copies that change from date to date.
-fn entry(year: u16, month: u8, day: u8, state: u8) -> u64
-    ensures { result ≡ entry_of year month day state }
+fn entry(end: Date, state: u8) -> u64
+    ensures { result ≡ entry_of end state }
 {
-    let end = ((year as u64) * 16 + month as u64) * 32 + day as u64;
-    let copies = (month as u64) * 4000 + day as u64;
-    end * 524288 + copies * 8 + state as u64
+    let year = u64::from(end.year);
+    let month = u64::from(end.month);
+    let day = u64::from(end.day);
+    ((year * 16 + month) * 32 + day) * 524288 + (month * 4000 + day) * 8 + u64::from(state)
 }
 
 #[tactic(auto, unfolding(crate::specs::Dates::with_number))]
-fn with_number(digest: u64, year: u16, month: u8, day: u8) -> u64
-    ensures { result ≡ with_number year month day digest }
+fn with_number(digest: u64, on: Date) -> u64
+    ensures { result ≡ with_number on digest }
 {
-    match calendar::day_number(year, month, day) {
-        DayNumber::Day(number) => mix(mix(digest, 0), number as u64),
-        DayNumber::Refused(why) => mix(digest, refusal::number(why) as u64),
-    }
+    with_answer(
+        digest,
+        calendar::day_number(on),
+        |before, number| mix(before, u64::from(number)),
+    )
 }
 
 // All but the day number, for one entry.
 #[tactic(auto, unfolding(crate::specs::Dates::with_state))]
-fn with_state(digests: Digests, year: u16, month: u8, day: u8, state: u8) -> Digests
-    requires le_year { 1 ≤ year }
-    requires year_bound { year < 65535 }
-    requires month_bound { month < 16 }
-    requires day_bound { day < 32 }
-    ensures { result ≡ with_state year month day state digests }
+fn with_state(digests: Digests, end: Date, state: u8) -> Digests
+    requires { HasNeighbours end }
+    ensures { result ≡ with_state end state digests }
 {
-    let given = entry(year, month, day, state);
+    let given = entry(end, state);
     Digests {
-        numbers: digests.numbers,
         renewals: with_renewals(digests.renewals, given),
-        verdicts: with_end(digests.verdicts, given, year, month, day),
+        verdicts: with_end(digests.verdicts, given, end),
         sums: with_sums(digests.sums, given),
+        ..digests
     }
 }
 
-#[tactic(auto, using(crate::proofs::Turns::no_turn, crate::proofs::Turns::one_more))]
-fn with_states(start: Digests, year: u16, month: u8, day: u8) -> Digests
-    requires le_year { 1 ≤ year }
-    requires year_bound { year < 65535 }
-    requires month_bound { month < 16 }
-    requires day_bound { day < 32 }
-    ensures { result ≡ with_states year month day start }
+#[tactic(auto, unfolding(crate::specs::Digest::in_turn))]
+fn with_states(digests: Digests, end: Date) -> Digests
+    requires { HasNeighbours end }
+    ensures { result ≡ with_states end digests }
 {
-    let mut digests = start;
-    let mut state: u8 = 0;
-    while state < STATES {
-        digests = with_state(digests, year, month, day, state);
-        state += 1;
+    (0..STATES).fold(digests, |before, state| with_state(before, end, state))
+}
+
+fn with_date(digests: Digests, end: Date) -> Digests
+    requires { HasNeighbours end }
+    ensures { result ≡ with_date end digests }
+{
+    Digests {
+        numbers: with_number(digests.numbers, end),
+        ..with_states(digests, end)
     }
-    digests
 }
 
-fn with_date(digests: Digests, year: u16, month: u8, day: u8) -> Digests
-    requires le_year { 1 ≤ year }
-    requires year_bound { year < 65535 }
-    requires month_bound { month < 16 }
-    requires day_bound { day < 32 }
-    ensures { result ≡ with_date year month day digests }
-{
-    let mut next = with_states(digests, year, month, day);
-    next.numbers = with_number(digests.numbers, year, month, day);
-    next
-}
-
-#[tactic(auto, using(crate::proofs::Turns::no_turn, crate::proofs::Turns::one_more))]
+#[tactic(auto, unfolding(crate::specs::Digest::in_turn))]
 pub fn of_year(year: u16) -> Digests
     requires le_year { 1 ≤ year }
     requires year_bound { year < 65535 }
     ensures { result ≡ year_digests year }
 {
-    let mut digests = Digests {
-        numbers: 0,
-        renewals: 0,
-        verdicts: 0,
-        sums: Sums {
-            twice: 0,
-            differing: 0,
-        },
-    };
-    let mut i: u16 = 0;
-    while i < PATTERNS {
-        digests = with_date(digests, year, (i / 32) as u8, (i % 32) as u8);
-        i += 1;
-    }
-    digests
+    (0..PATTERNS).fold(
+        Digests::default(),
+        |before, i| with_date(before, date(year, (i / 32) as u8, (i % 32) as u8)),
+    )
 }

@@ -45,19 +45,15 @@ fn print_kind(rt: &impl Print, kind: u64) -> io::Result<()>
 }
 
 fn print_years(rt: &impl Print) -> io::Result<()> {
-    let mut year = FIRST_YEAR;
-    while year < END_YEAR {
+    for year in FIRST_YEAR..END_YEAR {
         print_line(rt, year, dates::of_year(year))?;
-        year += 1;
     }
     Ok(())
 }
 
 fn print_kinds(rt: &impl Print) -> io::Result<()> {
-    let mut kind: u64 = 0;
-    while kind < KINDS {
+    for kind in 0..KINDS {
         print_kind(rt, kind)?;
-        kind += 1;
     }
     Ok(())
 }

@@ -6,8 +6,8 @@ ghost use Rattle.sheets.specs.Messages.{with_pair, with_message, with_bytes, wit
 ghost use Rattle.sheets.specs.Messages.{with_lengths, edge_of, pattern_of, kind_digest};
 ghost use Rattle.sheets.specs.Messages.{sample_of, with_buffers, pack_digest};
 
-use crate::digest::mix;
-use message::{MESSAGE_BYTES, Message, Packed, Pair, Unpacked, Words};
+use crate::digest::{mix, with_answer};
+use message::{MESSAGE_BYTES, Message, Pair, Words};
 
 // The highest of each width.
 const HIGHEST_TAG: u64 = (1 << message::TAG_BITS) - 1;
@@ -51,8 +51,8 @@ fn with_pair(digest: u64, pair: Pair) -> u64
     let entry = message::entry_of(pair);
     mix(
         mix(
-            mix(digest, message::counter_word(counter)),
-            message::client_of(pair) as u64,
+            mix(digest, u64::from(counter)),
+            u64::from(message::client_of(pair)),
         ),
         entry.0,
     )
@@ -63,12 +63,12 @@ fn with_message(digest: u64, message: Message) -> u64
     ensures { result ≡ with_message message digest }
 {
     match message {
-        Message::GetInfo(tag) => mix(mix(digest, 1), message::read_word(tag)),
-        Message::Info(tag, pair) => with_pair(mix(mix(digest, 2), message::read_word(tag)), pair),
+        Message::GetInfo(tag) => mix(mix(digest, 1), u64::from(tag)),
+        Message::Info(tag, pair) => with_pair(mix(mix(digest, 2), u64::from(tag)), pair),
         Message::Done => mix(digest, 3),
         Message::WriteInfo(pair) => with_pair(mix(digest, 4), pair),
         Message::Fwd(pair) => with_pair(mix(digest, 5), pair),
-        Message::WriteAck(counter) => mix(mix(digest, 6), message::counter_word(counter)),
+        Message::WriteAck(counter) => mix(mix(digest, 6), u64::from(counter)),
     }
 }
 
@@ -77,23 +77,16 @@ fn with_message(digest: u64, message: Message) -> u64
 fn with_unpacked(digest: u64, bytes: &[u8]) -> u64
     ensures { result ≡ with_unpacked bytes.now digest }
 {
-    match message::unpack(bytes) {
-        Unpacked::Good(message) => with_message(mix(digest, 0), message),
-        Unpacked::Refused(why) => mix(digest, refusal::number(why) as u64),
-    }
+    with_answer(digest, message::unpack(bytes), with_message)
 }
 
-#[tactic(auto, using(crate::proofs::Turns::no_turn, crate::proofs::Turns::one_more), unfolding(crate::specs::Messages::with_bytes))]
-fn with_bytes(start: u64, bytes: &[u8]) -> u64
-    ensures { result ≡ with_bytes bytes.now start }
+#[tactic(auto, unfolding(crate::specs::Messages::with_bytes))]
+fn with_bytes(digest: u64, bytes: &[u8]) -> u64
+    ensures { result ≡ with_bytes bytes.now digest }
 {
-    let mut digest = start;
-    let mut i: usize = 0;
-    while i < bytes.len() {
-        digest = mix(digest, basics::wide(bytes[i]));
-        i += 1;
-    }
-    digest
+    bytes
+        .iter()
+        .fold(digest, |before, byte| mix(before, u64::from(*byte)))
 }
 
 // What packing answers, and all that the buffer holds afterwards.
@@ -102,10 +95,8 @@ fn with_packed(digest: u64, message: Message, out: &mut [u8]) -> u64
     ensures value { result ≡ with_packed message out.old digest }
     ensures out_after { out.new ≡ pack_leaves message out.old }
 {
-    match message::pack(message, out) {
-        Packed::Done => with_bytes(mix(digest, 0), out),
-        Packed::Refused(why) => with_bytes(mix(digest, refusal::number(why) as u64), out),
-    }
+    let answer = message::pack(message, out);
+    with_bytes(with_answer(digest, answer, |before, _packed| before), out)
 }
 
 // Ten, eleven and twelve bytes that begin with a number's.
@@ -125,13 +116,11 @@ fn edge(highest: u64, i: u64) -> u64
     ensures value { result ≡ edge_of highest i }
     ensures upper_bound { result ≤ highest }
 {
-    if i == 0 {
-        return 0;
+    match i {
+        0 => 0,
+        1 => 1,
+        _ => highest,
     }
-    if i == 1 {
-        return 1;
-    }
-    highest
 }
 
 // The i-th pattern of a kind: each field at each of its edges.
@@ -150,18 +139,12 @@ fn pattern(kind: u64, i: u64) -> Words
 }
 
 // What the patterns of a kind are unpacked to.
-#[tactic(auto, using(crate::proofs::Turns::no_turn, crate::proofs::Turns::one_more))]
+#[tactic(auto, unfolding(crate::specs::Digest::in_turn))]
 pub fn of_kind(kind: u64) -> u64
     requires { kind < 2 ^ kind_bits }
     ensures { result ≡ kind_digest kind }
 {
-    let mut digest: u64 = 0;
-    let mut i: u64 = 0;
-    while i < PATTERNS {
-        digest = with_lengths(digest, pattern(kind, i));
-        i += 1;
-    }
-    digest
+    (0..PATTERNS).fold(0, |before, i| with_lengths(before, pattern(kind, i)))
 }
 
 // A message of a kind, 6 where there is no other.
@@ -170,40 +153,33 @@ fn sample(kind: u64, number: u32, pair: u64) -> Message
     ensures { result ≡ sample_of kind number pair }
 {
     match kind {
-        1 => Message::GetInfo(message::read_from(number as u64)),
-        2 => Message::Info(message::read_from(number as u64), Pair(pair)),
+        1 => Message::GetInfo(message::read_from(u64::from(number))),
+        2 => Message::Info(message::read_from(u64::from(number)), Pair(pair)),
         3 => Message::Done,
         4 => Message::WriteInfo(Pair(pair)),
         5 => Message::Fwd(Pair(pair)),
-        _ => Message::WriteAck(message::counter_from(number as u64)),
+        _ => Message::WriteAck(message::counter_from(u64::from(number))),
     }
 }
 
 // A message packed into buffers of 0 to 13 bytes.
-#[tactic(auto, using(crate::proofs::Turns::no_turn, crate::proofs::Turns::one_more), unfolding(crate::specs::Messages::with_buffers))]
-fn with_buffers(start: u64, message: Message) -> u64
-    ensures { result ≡ with_buffers message start }
+#[tactic(auto, unfolding(crate::specs::Digest::in_turn, crate::specs::Messages::with_buffers))]
+fn with_buffers(digest: u64, message: Message) -> u64
+    ensures { result ≡ with_buffers message digest }
 {
-    let mut digest = start;
-    let mut n: usize = 0;
-    while n < LENGTHS {
+    (0..LENGTHS).fold(digest, |before, n| {
         let mut space = [0xA5u8; MOST_BYTES];
-        digest = with_packed(digest, message, &mut space[..n]);
-        n += 1;
-    }
-    digest
+        with_packed(before, message, &mut space[..n])
+    })
 }
 
 // What messages of a kind are packed to.
-#[tactic(auto, using(crate::proofs::Turns::no_turn, crate::proofs::Turns::one_more))]
+#[tactic(auto, unfolding(crate::specs::Digest::in_turn))]
 pub fn packed_kind(kind: u64) -> u64
     ensures { result ≡ pack_digest kind }
 {
-    let mut digest: u64 = 0;
-    let mut i: usize = 0;
-    while i < SAMPLES {
-        digest = with_buffers(digest, sample(kind, TAGS[i / 6], PAIRS[i % 6]));
-        i += 1;
-    }
-    digest
+    (0..SAMPLES).fold(
+        0,
+        |before, i| with_buffers(before, sample(kind, TAGS[i / 6], PAIRS[i % 6])),
+    )
 }

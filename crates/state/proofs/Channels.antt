@@ -5,11 +5,12 @@
 -- (`place_is`), so the laws of the channels' memory hold entry by entry. All is for clients 1 to 6 and
 -- servers 1 to 13.
 -- Assumes nothing.
-use Rattle.register.proofs.Vocabulary.{update, Message, Good, well_formed, words_of, most_servers, capacity}
+use Rattle.register.proofs.Vocabulary.{update, Message, well_formed, words_of, most_servers, capacity}
 use Rattle.register.proofs.Vocabulary.{World}
 use Rattle.basics.proofs.Prelude.{◌≡◌, refl, ap, ◌∙◌, true, cond, ◌&&◌, List, [], ◌∷◌, ◌++◌, length, ℕ, suc}
 use Rattle.basics.proofs.Prelude.{◌+◌, ◌-◌, ◌*◌, ◌/◌, ◌%◌, ◌≤◌, ◌<◌, arith, eqb, ltb, eqb-true, eqb-false}
 use Rattle.basics.proofs.Prelude.{eq-eqb, ne_eqb, ltb-true, ltb-false, lt-ltb, le-ltb}
+use Rattle.std.specs.Prelude.{Ok}
 use Rattle.basics.proofs.Cases.{by_test}
 use Rattle.basics.proofs.UpTo.{back_one, same_place}
 use Rattle.message.proofs.RoundTrip.{of_words_of}
@@ -194,15 +195,15 @@ module _ (up down : Table) (d k : ℕ) (named : Inside d k) where
 
       -- the oldest read
       oldest_at : (c : ℕ) → c < channels → table_at up down c ≡ message ∷ rest → well_formed message ≡ true
-          → message_at (slots_of up down) c ≡ Good message
+          → message_at (slots_of up down) c ≡ Ok message
       unfolding slots_of
       oldest_at c less e well = rw (layout_oldest (table_at up down) fits c less message rest e)
           (of_words_of message well)
 
       pub up_oldest : up d k ≡ message ∷ rest → well_formed message ≡ true → message_at (slots_of up down) up_at
-          ≡ Good message
+          ≡ Ok message
       up_oldest e = oldest_at up_at up_inside (up_entry ∙ e)
 
       pub down_oldest : down d k ≡ message ∷ rest → well_formed message ≡ true
-          → message_at (slots_of up down) down_at ≡ Good message
+          → message_at (slots_of up down) down_at ≡ Ok message
       down_oldest e = oldest_at down_at down_inside (down_entry ∙ e)

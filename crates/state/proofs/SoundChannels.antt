@@ -6,8 +6,9 @@
 -- Assumes nothing.
 use Rattle.basics.proofs.Prelude.{◌≡◌, refl, ap, ◌∙◌, Bool, true, inl, inr, List, [], ◌∷◌, ℕ, ◌≤◌, ◌<◌}
 use Rattle.basics.proofs.Prelude.{le-leb, lt-leb}
+use Rattle.std.specs.Prelude.{Ok}
 use mathlib.Core.List.{map}
-use Rattle.register.proofs.Vocabulary.{Member, listed, all_pass, Message, Good, well_formed, goes, FromClient}
+use Rattle.register.proofs.Vocabulary.{Member, listed, all_pass, Message, well_formed, goes, FromClient}
 use Rattle.register.proofs.Vocabulary.{FromServer}
 use Rattle.basics.proofs.Cases.{both, both_of}
 use Rattle.channel.specs.Memory.{upward, channels, count_at}
@@ -34,13 +35,13 @@ member_all p (x ∷ xs) h =
 
 module _ (slots : List ℕ) (h : sound slots ≡ true) (i : ℕ) (inside : i < channels) where
   well_by : (Kind : Message → Type 0)
-      → ((message : Message) → well_formed message ≡ true → goes (is_down i) (Good message) ≡ true
+      → ((message : Message) → well_formed message ≡ true → goes (is_down i) (Ok message) ≡ true
       → Kind message)
       → WellChannel Kind (messages slots i)
   well_by Kind from =
       record {
         few = messages_fit slots h i inside;
-        kinds = λ message member. let both_pass = both (well_formed message) (goes (is_down i) (Good message))
+        kinds = λ message member. let both_pass = both (well_formed message) (goes (is_down i) (Ok message))
             (all_member (suits i) (messages slots i) (messages_suit slots h i inside) message member) in
             from message both_pass.0 both_pass.1;
       }

@@ -4,7 +4,7 @@
 -- The client's own test is of numbers in memory; here each is read as what it says of the client.
 -- Assumes nothing.
 use Rattle.basics.proofs.Prelude.{◌≡◌, refl, sym, ap, ◌∙◌, Bool, true, false, cond, not, ◌&&◌, ◌||◌, List, []}
-use Rattle.basics.proofs.Prelude.{none, some, get_or, drop, ℕ, zero, suc, ◌+◌, ◌*◌, ◌%◌, ◌^◌, ◌≤◌, ◌<◌, arith}
+use Rattle.basics.proofs.Prelude.{None, Some, get_or, drop, ℕ, zero, suc, ◌+◌, ◌*◌, ◌%◌, ◌^◌, ◌≤◌, ◌<◌, arith}
 use Rattle.basics.proofs.Prelude.{eqb, ltb, eqb-true, ltb-true}
 use mathlib.Core.Path.{fun_ext}
 use mathlib.Core.Bool.{and-false}
@@ -53,7 +53,7 @@ no_store Reading h = refl
 no_store (ReadingForWrite entry) h = refl
 no_store (Storing entry counter) h = absurd (h entry counter refl)
 
-note_some : (word stamp : ℕ) → note_of word ≡ some stamp → word ≡ suc stamp
+note_some : (word stamp : ℕ) → note_of word ≡ Some stamp → word ≡ suc stamp
 unfolding note_of
 note_some zero stamp e = clash (cc)
 note_some (suc word) stamp e = let z : word ≡ stamp = cc in ap suc z
@@ -112,11 +112,11 @@ module _ (settings : Settings) (i : ℕ) (memory : List ℕ) (h : is_client_soun
 
   -- ---- what the memory says of each server
 
-  noted : (k stamp : ℕ) → noted_in replies k ≡ some stamp → stamp < 2 ^ stamp_bits
+  noted : (k stamp : ℕ) → noted_in replies k ≡ Some stamp → stamp < 2 ^ stamp_bits
   unfolding noted_in
   noted zero stamp = λ e. clash (cc)
   noted (suc j) stamp =
-      pick (λ o. o ≡ some stamp → stamp < 2 ^ stamp_bits) (ltb j most_servers) (note_of (get_or replies j 0)) none
+      pick (λ o. o ≡ Some stamp → stamp < 2 ^ stamp_bits) (ltb j most_servers) (note_of (get_or replies j 0)) None
       (λ q e. let w = note_some (get_or replies j 0) stamp e in
       let top = most (reading j) (2 ^ stamp_bits) (get_or replies j 0)
       (replies_sound.part j (ltb-true j most_servers q)).noted in
@@ -126,11 +126,11 @@ module _ (settings : Settings) (i : ℕ) (memory : List ℕ) (h : is_client_soun
   not_read : (j : ℕ) → is_server S (suc j) && is_reading phase ≡ false → reading j ≡ false
   not_read j e = rw (server_place settings j) at e
 
-  noted_unused_lem : (k : ℕ) → is_server S k && is_reading phase ≡ false → noted_in replies k ≡ none
+  noted_unused_lem : (k : ℕ) → is_server S k && is_reading phase ≡ false → noted_in replies k ≡ None
   unfolding noted_in note_of
   noted_unused_lem zero e = refl
   noted_unused_lem (suc j) e =
-      pick (λ o. o ≡ none) (ltb j most_servers) (note_of (get_or replies j 0)) none
+      pick (λ o. o ≡ None) (ltb j most_servers) (note_of (get_or replies j 0)) None
       (λ q. rw (zero_unless (reading j) _ _ (not_read j e)
       (replies_sound.part j (ltb-true j most_servers q)).noted))
       (λ q. refl)
@@ -207,7 +207,7 @@ module _ (settings : Settings) (i : ℕ) (memory : List ℕ) (h : is_client_soun
       ≡ false = λ k. rw (idle_now, and-false (is_server S k)) in
       let apart : (entry : Entry) (counter : WriteCounter) → phase ≡ Storing entry counter → ⊥ =
       λ entry counter same. let q : Idle ≡ Storing entry counter = sym idle_now ∙ same in clash (cc) in
-      let notes : noted_in replies ≡ (λ (k : ℕ). none) = fun_ext (λ k. noted_unused_lem k (quiet k)) in
+      let notes : noted_in replies ≡ (λ (k : ℕ). None) = fun_ext (λ k. noted_unused_lem k (quiet k)) in
       let pairs : set_in replies ≡ (λ (k : ℕ). []) = fun_ext (λ k. sets_unused_lem k (quiet k)) in
       let acks : ack_in replies ≡ (λ (k : ℕ). false) = fun_ext (acks_idle_lem apart) in
       let zero_reads : get_or memory reads_at 0 % 2 ^ 32 ≡ 0 = small_reads ∙ (at_rest e).0 in

@@ -6,7 +6,7 @@
 -- again.
 -- Assumes nothing.
 use Rattle.basics.proofs.Prelude.{◌≡◌, refl, sym, ap, ◌∙◌, Bool, true, false, not, List, [], ◌++◌}
-use Rattle.basics.proofs.Prelude.{append_assoc, append-nil, Option, none, some, length, get_or, length-append}
+use Rattle.basics.proofs.Prelude.{append_assoc, append-nil, Option, None, Some, length, get_or, length-append}
 use Rattle.basics.proofs.Prelude.{ℕ, suc, ◌+◌, ◌*◌, ◌/◌, ◌%◌, ◌^◌, ◌≤◌, ◌<◌, arith, eqb, ltb}
 use Rattle.basics.proofs.Prelude.{ltb-false, lt-ltb}
 use native.Mathlib.Nat.{add_assoc}
@@ -46,14 +46,14 @@ sound_phase (Storing entry counter) h =
 -- what it holds is of servers 1 to 13, and no set is longer than its place
 pub record Placed (client : Client) : Type 0 where
   pub few : (k : ℕ) → length (client.sets k) ≤ set_limit
-  pub noted : (k : ℕ) → is_up_to most_servers k ≡ false → client.noted k ≡ none
+  pub noted : (k : ℕ) → is_up_to most_servers k ≡ false → client.noted k ≡ None
   pub sets : (k : ℕ) → is_up_to most_servers k ≡ false → client.sets k ≡ []
   pub acks : (k : ℕ) → is_up_to most_servers k ≡ false → client.acks k ≡ false
 
 note_found : (note : Option ℕ) → note_of (note_word note) ≡ note
 unfolding note_of note_word
-note_found none = refl
-note_found (some stamp) = refl
+note_found None = refl
+note_found (Some stamp) = refl
 
 ack_found : (b : Bool) → not (eqb (bool_byte b) 0) ≡ b
 ack_found true = refl

@@ -4,7 +4,7 @@
 -- the server or the phase has no use for it. Each number of the four rows is one of these.
 -- Assumes nothing.
 use Rattle.basics.proofs.Prelude.{◌≡◌, refl, sym, ap, ◌∙◌, Bool, true, false, cond, ◌&&◌, List, ◌++◌, Option}
-use Rattle.basics.proofs.Prelude.{none, some, length, ℕ, zero, suc, ◌*◌, ◌/◌, ◌%◌, ◌^◌, ◌≤◌, ◌<◌, arith, ltb}
+use Rattle.basics.proofs.Prelude.{None, Some, length, ℕ, zero, suc, ◌*◌, ◌/◌, ◌%◌, ◌^◌, ◌≤◌, ◌<◌, arith, ltb}
 use Rattle.basics.proofs.Prelude.{ltb-true, ltb-false}
 use lib.ListN.{get_or-eq_default}
 use mir.Val.{bool_byte}
@@ -32,11 +32,11 @@ not_storing : (phase : Phase) → stores phase ≡ false → (entry : Entry) (co
 unfolding stores
 not_storing phase h entry counter q = true_or_false true refl (ap stores (sym q) ∙ h)
 
-note_most : (note : Option ℕ) → ((stamp : ℕ) → note ≡ some stamp → stamp < 2 ^ stamp_bits)
+note_most : (note : Option ℕ) → ((stamp : ℕ) → note ≡ Some stamp → stamp < 2 ^ stamp_bits)
     → note_word note ≤ 2 ^ stamp_bits
 unfolding note_word
-note_most none h = omega arith
-note_most (some stamp) h = h stamp refl
+note_most None h = omega arith
+note_most (Some stamp) h = h stamp refl
 
 past_last : (l : List Pair) (k : ℕ) → length l ≤ k → pair_word l k ≡ 0
 past_last l k h = pair_word_lem l k ∙ ap (λ (p : Pair). p.0) (get_or-eq_default l initial {n = k} h)

@@ -1,36 +1,18 @@
--- What the tests of soundness stand on: a bit of a set; what the code finds of a number or of a channel; who
--- is there, by places; allowed settings have at most six clients; the lengths.
+-- What the tests of soundness stand on: who is there, by places; allowed settings have at most six clients;
+-- the lengths.
 -- Assumes nothing.
-use Rattle.basics.proofs.Prelude.{◌≡◌, refl, Bool, true, false, not, ◌&&◌, List, Option, none, some}
-use Rattle.basics.proofs.Prelude.{length, ℕ, suc, ◌*◌, ◌%◌, ◌^◌, ◌≤◌, arith, ltb}
-use Rattle.basics.proofs.Prelude.{eqb-true, ne_eqb, le-leb}
-use native.Mathlib.Nat.{mod-eq_of_lt}
-use lib.Pow.{pow_mono}
+use Rattle.basics.proofs.Prelude.{◌≡◌, refl, true, false, not, ◌&&◌, List, Option, None, Some}
+use Rattle.basics.proofs.Prelude.{length, ℕ, suc, ◌^◌, ◌≤◌, arith, ltb}
+use Rattle.basics.proofs.Prelude.{eqb-true, le-leb}
 use Rattle.register.proofs.Vocabulary.{contains, Refusal, most_servers, most_clients, is_server, is_honest}
 use Rattle.register.proofs.Vocabulary.{setup_refusal}
 use Rattle.basics.proofs.Cases.{both, true_or_false}
 use Rattle.basics.proofs.Tests.{each}
 use Rattle.register.proofs.Bounds.{bounds}
-use Rattle.channel.specs.Memory.{slots_length, count_at}
+use Rattle.channel.specs.Memory.{slots_length}
 use Rattle.state.specs.declared.Settings.{Settings}
 use Rattle.state.specs.State.{settings_of, servers_length, clients_length}
-use Rattle.state.specs.Sound.{is_none, are_allowed, length_tests, are_long, empty_or}
-
--- a bit of the code does not wrap
-pub bit_is : (n : ℕ) → n ≤ most_clients → 1 * 2 ^ n % 2 ^ 64 ≡ 2 ^ n
-bit_is n h =
-    let top : 2 ^ n ≤ 64 = pow_mono {i = n} {j = most_clients} h in
-    let e : 1 * 2 ^ n ≡ 2 ^ n = omega arith in
-    rw e (mod-eq_of_lt {n = 2 ^ n} {m = 2 ^ 64} (omega arith))
-
--- channel c, whose count the code finds as n, at the place that it finds
-module _ (slots : List ℕ) {n place c : ℕ} (count : n ≡ count_at slots place) (at : place ≡ c)
-    (used : Bool) where
-  pub empty_channel : n ≡ 0 → true ≡ empty_or used slots c
-  empty_channel h = rw (← at, ← count, h)
-
-  pub used_channel : {r : Bool} → (n ≡ 0 → ⊥) → r ≡ used → r ≡ empty_or used slots c
-  used_channel h e = rw (← at, ← count, ne_eqb n 0 h) e
+use Rattle.state.specs.Sound.{is_none, are_allowed, length_tests, are_long}
 
 module _ (settings : Settings) (j : ℕ) where
   pub server_place : is_server (settings_of settings) (suc j) ≡ ltb j settings.n
@@ -44,9 +26,9 @@ module _ (settings : Settings) (j : ℕ) where
 
 -- ---- allowed settings
 
-pub none_is : (refusal : Option Refusal) → is_none refusal ≡ true → refusal ≡ none
-none_is none h = refl
-none_is (some why) h = absurd (true_or_false false h refl)
+pub none_is : (refusal : Option Refusal) → is_none refusal ≡ true → refusal ≡ None
+none_is None h = refl
+none_is (Some why) h = absurd (true_or_false false h refl)
 
 pub few_clients_lem : (settings : Settings) → are_allowed settings ≡ true → settings.clients ≤ most_clients
 unfolding are_allowed settings_of

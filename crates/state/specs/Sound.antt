@@ -4,7 +4,7 @@
 -- state.
 -- Assumes nothing.
 use Rattle.std.specs.Prelude.{ℕ, suc, ◌+◌, ◌^◌, Bool, true, false, cond, not, ◌&&◌, ◌||◌, List, [], ◌∷◌, eqb, leb, ltb, length, get_or}
-use Rattle.std.proofs.Math.Option.{Option, none, some}
+use Rattle.std.specs.Prelude.{Option, None, Some}
 use Rattle.basics.specs.Tests.{all_pass, all_below}
 use Rattle.basics.specs.BitSets.{contains}
 use Rattle.refusal.specs.declared.Refusal.{Refusal}
@@ -22,8 +22,8 @@ use Rattle.state.specs.State.{stopped_in, client_at, up_index, down_index}
 -- ---- the settings
 
 abbrev pub is_none : Option Refusal → Bool
-is_none none = true
-is_none (some r) = false
+is_none None = true
+is_none (Some r) = false
 
 -- 'its settings are allowed': a setup takes them, and no bit beyond the 13 marks is set
 unfoldable pub are_allowed : Settings → Bool

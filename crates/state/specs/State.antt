@@ -13,7 +13,7 @@ use Rattle.basics.specs.Tables.{tabled, part_at, put_part}
 use Rattle.basics.specs.BitSets.{contains, set_of}
 use Rattle.basics.specs.Tests.{is_up_to}
 use Rattle.message.specs.declared.Message.{Message}
-use Rattle.message.specs.declared.Unpacked.{Unpacked}
+use Rattle.message.specs.Layout.{Unpacked}
 use Rattle.message.specs.declared.Words.{Words}
 use Rattle.message.specs.Layout.{message_bytes, message_of, words_number, head_bits}
 use Rattle.register.specs.declared.Step.{Step}

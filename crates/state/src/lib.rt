@@ -66,7 +66,7 @@ pub fn down(i: usize, j: usize) -> usize
     requires { (i < most_clients) × (j < most_servers) }
     ensures { result ≡ state.down_index i j }
 {
-    channel::UPWARD + (i * SERVERS + j)
+    channel::UPWARD + up(i, j)
 }
 
 // Whether the one at place i is in a set that is given as bits.

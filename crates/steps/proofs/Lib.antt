@@ -9,7 +9,6 @@ pub mod Takes
 pub mod Stops
 pub mod Lies
 pub mod MemoryIsModel
-pub mod Named
 pub mod Rungs
 pub mod Making
 pub mod Lent

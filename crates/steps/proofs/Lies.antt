@@ -3,7 +3,7 @@
 -- Words whose bytes unpack to a message are its words, so the channel gets that message; a stopped client's
 -- channel drops it.
 -- Assumes nothing.
-use Rattle.register.proofs.Vocabulary.{spelt, contains, Refusal, Message, Unpacked, Good, Words, unpack_of}
+use Rattle.register.proofs.Vocabulary.{spelt, contains, Refusal, Message, Unpacked, Words, unpack_of}
 use Rattle.register.proofs.Vocabulary.{words, words_of, goes, formats, is_server, is_client, capacity, L}
 use Rattle.register.proofs.Vocabulary.{has_room, ladder, accepted, World, lies, apply, answer_of, next_servers}
 use Rattle.register.proofs.Vocabulary.{next_clients, next_stopped, next_up, next_down, leaves_up, leaves_down}
@@ -12,9 +12,9 @@ use Rattle.register.specs.declared.Answer.TheVariants.{Went}
 use Rattle.basics.proofs.Prelude.{◌≡◌, refl, sym, ap, ◌∙◌, Bool, true, false, cond, not, ◌&&◌, ◌||◌, List, []}
 use Rattle.basics.proofs.Prelude.{◌∷◌, ◌++◌, length, ℕ, ◌+◌, ◌-◌, ◌<◌, arith, eqb, leb, eqb-true, leb-true}
 use Rattle.basics.proofs.Prelude.{not-false}
+use Rattle.std.specs.Prelude.{Ok, Err}
 use Rattle.basics.proofs.Cases.{by_test, true_or_false}
 use Rattle.refusal.proofs.Ladders.{done, same}
-use Rattle.message.specs.declared.Unpacked.TheVariants.{Refused}
 use Rattle.message.proofs.RoundTrip.{packing_spells, pack_unpack}
 use Rattle.register.specs.declared.Step.TheVariants as code
 use Rattle.register.proofs.Dropping.{nothing_put}
@@ -30,17 +30,17 @@ use Rattle.steps.proofs.Modelled.{outcome_of, memory_at, model_at, step_law}
 use Rattle.steps.proofs.Rooms.{WellStored, up_short, down_short, stopped_same, inside, count_down}
 
 -- the words of a message's bytes are its words
-words_are : (given : Words) (message : Message) → unpack_of (bytes_in given) ≡ Good message
+words_are : (given : Words) (message : Message) → unpack_of (bytes_in given) ≡ Ok message
     → words (spelt 0 (bytes_in given)) ≡ words_of message
 unfolding words_of
 words_are given message unpacks =
     ap (λ (s : List ℕ). words (spelt 0 s)) (sym (pack_unpack (bytes_in given) message unpacks).packing)
     ∙ ap words (packing_spells message)
 
-by_unpacked : {A : Type 0} (found : Unpacked) → ((why : Refusal) → found ≡ Refused why → A)
-    → ((message : Message) → found ≡ Good message → A) → A
-by_unpacked (Refused why) f g = f why refl
-by_unpacked (Good message) f g = g message refl
+by_unpacked : {A : Type 0} (found : Unpacked) → ((why : Refusal) → found ≡ Err why → A)
+    → ((message : Message) → found ≡ Ok message → A) → A
+by_unpacked (Err why) f g = f why refl
+by_unpacked (Ok message) f g = g message refl
 
 -- ---- one channel, by cases on the tests: `to-client`, it is the client's; `of-server`, it is the
 -- server's; `stopped`, the client has stopped
@@ -69,7 +69,7 @@ module _ (settings : Settings) (world : World) (good : WellStored settings world
     unfolding has_room
     room_is = rw (stopped_same settings world good d, count_down settings world good d k client server)
 
-    module _ (message : Message) (unpacks : unpack_of (bytes_in given) ≡ Good message)
+    module _ (message : Message) (unpacks : unpack_of (bytes_in given) ≡ Ok message)
         (room : world.stopped d || has_room (world.down d k) 1 ≡ true) where
       abbrev at : ℕ
       at = down_index (d - 1) (k - 1)
@@ -107,7 +107,7 @@ module _ (settings : Settings) (world : World) (good : WellStored settings world
           ≡ outcome_of (settings_of settings) world (lies k d message)
       unfolding answer_of apply next_stopped next_servers next_clients store_stopped store_servers store_clients
       lies_law =
-          λ i. after Went (store_servers world) (store_clients world) (slots_after i)
+          λ i. after (Ok Went) (store_servers world) (store_clients world) (slots_after i)
 
     pub lie_law : memory_at settings world (code.L k d given) ≡ model_at settings world (code.L k d given)
     unfolding in_memory lie_step step_of ladder accepted settings_of goes store_clients

@@ -3,16 +3,16 @@
 -- Assumes nothing.
 use Rattle.basics.proofs.Prelude.{◌≡◌, ap, sym, ◌∙◌, List, ℕ}
 use Rattle.register.proofs.Vocabulary.{Entry, Words}
-use Rattle.register.specs.declared.Answer.{Answer}
 use Rattle.register.specs.declared.Step.{Step}
 use Rattle.register.specs.declared.Step.TheVariants.{R, W, K, D, C, L}
+use Rattle.register.specs.World.{StepAnswer}
 use Rattle.state.specs.declared.Settings.{Settings}
 use Rattle.state.specs.State.{stopped_in}
 use Rattle.steps.specs.After.{After, after}
 use Rattle.steps.specs.InMemory.{result, on_servers, on_clients, placed, on_slots, read_step, write_step}
 use Rattle.steps.specs.InMemory.{serve_step, take_step, stop_step, lie_step, in_memory}
 
-module _ (settings : Settings) (servers clients slots : List ℕ) (asked : Step) (answer : Answer)
+module _ (settings : Settings) (servers clients slots : List ℕ) (asked : Step) (answer : StepAnswer)
     (own slots' : List ℕ) where
   known : (kind : Step) (left : After) → asked ≡ kind → left ≡ in_memory settings servers clients slots kind
       → left ≡ in_memory settings servers clients slots asked

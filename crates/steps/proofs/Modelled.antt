@@ -3,18 +3,18 @@
 --
 -- `step_law` leaves for each step that the two ladders agree, and what its event does to the memory.
 -- Assumes nothing.
-use Rattle.basics.proofs.Prelude.{◌≡◌, refl, sym, ap, ◌∙◌, subst, List, Option, none, some, ℕ}
+use Rattle.basics.proofs.Prelude.{◌≡◌, refl, sym, ap, ◌∙◌, subst, List, Option, None, Some, ℕ}
+use Rattle.std.specs.Prelude.{Err}
 use Rattle.register.proofs.Vocabulary.{Refusal, Rung, lowest, formats, Settings, Step, Formats, ladder}
 use Rattle.register.proofs.Vocabulary.{refusal_of, accepted, event_of, World, Event, refuses, apply, answer_of}
 use Rattle.register.proofs.Vocabulary.{next_servers, next_clients, next_stopped, next_up, next_down, leaves_up}
 use Rattle.register.proofs.Vocabulary.{leaves_down, puts_up, puts_down}
-use Rattle.register.specs.declared.Answer.{Answer}
-use Rattle.register.specs.declared.Answer.TheVariants.{Refused}
 use Rattle.refusal.proofs.Ladders.{NoneApplies, none_applies, Alike, lowest_same}
 use Rattle.register.specs.declared.Step as step
 use Rattle.register.specs.Steps.{decided}
 use Rattle.register.proofs.Dropping.{nothing_put}
 use Rattle.register.proofs.Enabled.{Enabled, enabled}
+use Rattle.register.specs.World.{StepAnswer}
 use Rattle.state.specs.declared.Settings as code
 use Rattle.state.specs.State.{settings_of, step_of, store_servers, store_clients, store_slots}
 use Rattle.steps.specs.After.{After, after, unless}
@@ -53,19 +53,19 @@ module _ (S : Settings) (world : World) where
       }
 
 module _ (S : Settings) (F : Formats) (world : World) where
-  pub refused : (why : Refusal) → on world (after (Refused why)) ≡ outcome_of S world (refuses why)
+  pub refused : (why : Refusal) → on world (after (Err why)) ≡ outcome_of S world (refuses why)
   unfolding answer_of
-  refused why = ap (λ (other : World). on other (after (Refused why))) (sym (nothing S world why))
+  refused why = ap (λ (other : World). on other (after (Err why))) (sym (nothing S world why))
 
   -- what a step gives, A, has its answer, the slots and, if it changes one, the servers or the clients: `put`
   -- adds what it leaves, and `kept` is a refusal, with the memory as it was
-  module _ {A : Type 0} (put : A → After) (kept : Answer → A)
-      (same : (answer : Answer) → put (kept answer) ≡ on world (after answer)) where
+  module _ {A : Type 0} (put : A → After) (kept : StepAnswer → A)
+      (same : (answer : StepAnswer) → put (kept answer) ≡ on world (after answer)) where
     decides : (refusal : Option Refusal) (given : A) (event : Event)
-        → (refusal ≡ none → put given ≡ outcome_of S world event)
+        → (refusal ≡ None → put given ≡ outcome_of S world event)
         → put (unless refusal kept given) ≡ outcome_of S world (decided S F refusal event)
-    decides none given event h = h refl
-    decides (some why) given event h = same (Refused why) ∙ refused why
+    decides None given event h = h refl
+    decides (Some why) given event h = same (Err why) ∙ refused why
 
     pub step_law : (asked : Step) (rungs : List Rung) (given : A) → Alike rungs (ladder S F world asked)
         → (NoneApplies (ladder S F world asked) → Enabled S F world (accepted S F world asked)

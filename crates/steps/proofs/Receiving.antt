@@ -4,11 +4,12 @@
 -- that it does not take leaves the client and sends nothing: there is room for nothing, and a sound memory is
 -- that of what it shows, so that only the message goes (`off_gives`).
 -- Assumes nothing.
-use Rattle.register.proofs.Vocabulary.{contains, Message, WriteAck, WriteCounter, Unpacked, Good}
+use Rattle.register.proofs.Vocabulary.{contains, Message, WriteAck, WriteCounter, Unpacked}
 use Rattle.register.proofs.Vocabulary.{counted, enough, capacity, most_clients, most_servers}
-use Rattle.register.specs.declared.Answer.TheVariants.{Went, Refused}
+use Rattle.register.specs.declared.Answer.TheVariants.{Went}
 use Rattle.basics.proofs.Prelude.{◌≡◌, refl, sym, ap, ◌∙◌, subst, Bool, true, false, ◌||◌, List, length, ℕ}
 use Rattle.basics.proofs.Prelude.{suc, ◌+◌, ◌-◌, ◌≤◌, ◌<◌, arith, leb, leb-true, le-leb}
+use Rattle.std.specs.Prelude.{Ok, Err}
 use Rattle.basics.proofs.Cases.{by_test}
 use Rattle.basics.proofs.Tests.{below, below_of}
 use Rattle.refusal.specs.declared.Refusal.TheVariants.{FullChannel}
@@ -116,7 +117,7 @@ module _ (settings : Settings) (clients slots : List ℕ) (d k : ℕ) where
       → taken_for settings.n settings.f d (shown settings clients slots d) k found
       ≡ model.sends_nothing (shown settings clients slots d)
       → (slots₁ : List ℕ) (from : ℕ) → from ≡ down_index (d - 1) (k - 1) → slots₁ ≡ removed slots from
-      → result Went clients slots₁ ≡ take_oldest settings clients slots d k
+      → result (Ok Went) clients slots₁ ≡ take_oldest settings clients slots d k
   unfolding send_up
   off_gives few fit low high sound found first goes slots₁ from place off =
       let own : put_client clients (d - 1) (client.store (shown settings clients slots d)) ≡ clients =
@@ -124,27 +125,27 @@ module _ (settings : Settings) (clients slots : List ℕ) (d k : ℕ) where
       ∙ same_back (client_start (d - 1)) client_length clients in
       let room : room_up settings slots (d - 1) 0 ≡ true = room_silent settings slots (d - 1) few fit
       (omega arith) in
-      rw (first, goes, room) (λ i. result Went (sym own i) ((off ∙ ap (removed slots) place) i))
+      rw (first, goes, room) (λ i. result (Ok Went) (sym own i) ((off ∙ ap (removed slots) place) i))
 
-  module _ (message : Message) (first : reply_at slots d k ≡ Good message) (fits : Bool)
+  module _ (message : Message) (first : reply_at slots d k ≡ Ok message) (fits : Bool)
       (room : fits ≡ room_up settings slots (d - 1)
       (length (taken_of d settings.n settings.f (client_at clients (d - 1)) k message).sends)) where
-    pub take_refused : fits ≡ false → result (Refused FullChannel) clients slots
+    pub take_refused : fits ≡ false → result (Err FullChannel) clients slots
         ≡ take_oldest settings clients slots d k
     take_refused full = rw (first, sym room ∙ full)
 
     -- the message taken, off channel `from`, with what client and channels are then
     pub take_gives : fits ≡ true → (made : Outcome) (memory clients' slots₁ slots₂ : List ℕ) (from : ℕ)
         → from ≡ down_index (d - 1) (k - 1)
-        → outcome.after made memory
+        → outcome.after (Ok made) memory
         ≡ taken_of d settings.n settings.f (client_at clients (d - 1)) k message
         → clients' ≡ put_client clients (d - 1) memory → slots₁ ≡ removed slots from
         → slots₂ ≡ send_up settings slots₁ (d - 1) (messages_of made.sends)
-        → result made.answer clients' slots₂ ≡ take_oldest settings clients slots d k
+        → result (Ok made.answer) clients' slots₂ ≡ take_oldest settings clients slots d k
     take_gives enough made memory clients' slots₁ slots₂ from place gives put off sent =
         let off_down : slots₁ ≡ removed slots (down_index (d - 1) (k - 1)) = off ∙ ap (removed slots) place in
         rw (first, sym room ∙ enough)
-        ((λ i. result made.answer (put i)
+        ((λ i. result (Ok made.answer) (put i)
         ((sent ∙ ap (λ (q : List ℕ). send_up settings q (d - 1) (messages_of made.sends)) off_down) i))
         ∙ ap (λ (a : outcome.After). result a.answer (put_client clients (d - 1) a.memory)
         (send_up settings (removed slots (down_index (d - 1) (k - 1))) (d - 1) a.sends)) gives)

@@ -5,12 +5,12 @@
 -- waits (10). The premises are what the code's calls and tests say, so that `search` finds them at any place.
 -- A test by `if !` is `rung` of `client`.
 -- Assumes nothing.
-use Rattle.basics.proofs.Prelude.{◌≡◌, sym, ap, ◌∙◌, Bool, true, false, not, ◌&&◌, List, Option, some, ℕ}
+use Rattle.basics.proofs.Prelude.{◌≡◌, sym, ap, ◌∙◌, Bool, true, false, not, ◌&&◌, List, Option, Some, ℕ}
 use Rattle.basics.proofs.Prelude.{◌-◌, ◌≤◌, arith, eqb, eq-eqb, ne_eqb}
+use Rattle.std.specs.Prelude.{Err}
 use Rattle.register.proofs.Vocabulary.{contains, Refusal, Rung, lowest, Words, unpack_of, goes_down, is_client}
 use Rattle.register.proofs.Vocabulary.{is_server}
-use Rattle.register.specs.declared.Answer.{Answer}
-use Rattle.register.specs.declared.Answer.TheVariants.{Refused}
+use Rattle.register.specs.World.{StepAnswer}
 use Rattle.refusal.proofs.Ladders.{Climbs, climbs}
 use Rattle.channel.specs.Memory.{count_at}
 use Rattle.state.specs.declared.Settings.{Settings}
@@ -44,14 +44,14 @@ module _ (slots : List ℕ) (n place channel : ℕ) (count : n ≡ count_at slot
 -- ---- a step
 
 -- what a step keeps where a rung applies
-refused : {A : Type 0} (kept : Answer → A) (given : A) (rungs : List Rung) (why : Refusal)
-    → Climbs rungs (some why) → kept (Refused why) ≡ unless (lowest rungs) kept given
+refused : {A : Type 0} (kept : StepAnswer → A) (given : A) (rungs : List Rung) (why : Refusal)
+    → Climbs rungs (Some why) → kept (Err why) ≡ unless (lowest rungs) kept given
 refused kept given rungs why climbed = ap (λ (o : Option Refusal). unless o kept given) (climbs rungs climbed)
 
 -- K
 module _ (settings : Settings) (stopped : ℕ) (servers slots : List ℕ) (k d : ℕ) where
-  pub serve_refused : (why : Refusal) → Climbs (serve_rungs settings stopped servers slots k d) (some why)
-      → result (Refused why) servers slots ≡ serve_step settings stopped servers slots k d
+  pub serve_refused : (why : Refusal) → Climbs (serve_rungs settings stopped servers slots k d) (Some why)
+      → result (Err why) servers slots ≡ serve_step settings stopped servers slots k d
   unfolding serve_step
   serve_refused =
       refused (keeping servers slots) (served settings stopped servers slots k d)
@@ -66,8 +66,8 @@ module _ (settings : Settings) (stopped : ℕ) (servers slots : List ℕ) (k d :
 
 -- D
 module _ (settings : Settings) (clients slots : List ℕ) (d k : ℕ) where
-  pub take_refused : (why : Refusal) → Climbs (take_rungs settings clients slots d k) (some why)
-      → result (Refused why) clients slots ≡ take_step settings clients slots d k
+  pub take_refused : (why : Refusal) → Climbs (take_rungs settings clients slots d k) (Some why)
+      → result (Err why) clients slots ≡ take_step settings clients slots d k
   unfolding take_step
   take_refused =
       refused (keeping clients slots) (take_result settings clients slots d k)
@@ -82,8 +82,8 @@ module _ (settings : Settings) (clients slots : List ℕ) (d k : ℕ) where
 
 -- C
 module _ (settings : Settings) (clients slots : List ℕ) (d : ℕ) where
-  pub stop_refused : (why : Refusal) → Climbs (stop_rungs settings clients slots d) (some why)
-      → result (Refused why) clients slots ≡ stop_step settings clients slots d
+  pub stop_refused : (why : Refusal) → Climbs (stop_rungs settings clients slots d) (Some why)
+      → result (Err why) clients slots ≡ stop_step settings clients slots d
   unfolding stop_step
   stop_refused =
       refused (keeping clients slots) (stop_result settings clients slots d)
@@ -97,8 +97,8 @@ module _ (settings : Settings) (clients slots : List ℕ) (d : ℕ) where
 
 -- L
 module _ (settings : Settings) (stopped : ℕ) (slots : List ℕ) (k d : ℕ) (words : Words) where
-  pub lie_refused : (why : Refusal) → Climbs (lie_rungs settings stopped slots k d words) (some why)
-      → placed (Refused why) slots ≡ lie_step settings stopped slots k d words
+  pub lie_refused : (why : Refusal) → Climbs (lie_rungs settings stopped slots k d words) (Some why)
+      → placed (Err why) slots ≡ lie_step settings stopped slots k d words
   unfolding lie_step
   lie_refused =
       refused (λ answer. placed answer slots) (lied stopped slots k d words)

@@ -3,7 +3,7 @@
 -- The message in the first slot is the oldest of the channel, the stored server sends for it what the server
 -- sends, and the room that the ladder tests is where it is put.
 -- Assumes nothing.
-use Rattle.register.proofs.Vocabulary.{contains, Message, Good, formats, Sent, next_server, server_sends}
+use Rattle.register.proofs.Vocabulary.{contains, Message, formats, Sent, next_server, server_sends}
 use Rattle.register.proofs.Vocabulary.{sent_to, is_server, is_client, capacity, K, is_empty, oldest, ladder}
 use Rattle.register.proofs.Vocabulary.{accepted, World, serves, apply, answer_of, next_servers, next_clients}
 use Rattle.register.proofs.Vocabulary.{next_stopped, next_up, next_down, leaves_up, leaves_down, puts_up, puts_down}
@@ -11,6 +11,7 @@ use Rattle.register.proofs.Vocabulary.{FromClient}
 use Rattle.register.specs.declared.Answer.TheVariants.{Went}
 use Rattle.basics.proofs.Prelude.{◌≡◌, refl, sym, ap, ◌∙◌, Bool, true, false, cond, not, List, [], ◌∷◌, ◌++◌}
 use Rattle.basics.proofs.Prelude.{length, ℕ, ◌-◌, ◌≤◌, arith, eqb}
+use Rattle.std.specs.Prelude.{Ok}
 use Rattle.basics.proofs.Cases.{by_list, true_or_false}
 use Rattle.refusal.proofs.Ladders.{done, same}
 use Rattle.register.specs.declared.Step.TheVariants as code
@@ -54,7 +55,7 @@ module _ (settings : Settings) (world : World) (good : WellStored settings world
       kind : FromClient message
       kind = oldest_kind FromClient (world.up d k) message rest waits (good.well.up d k)
 
-      request_is : request_at (store_slots world) k d ≡ Good message
+      request_is : request_at (store_slots world) k d ≡ Ok message
       request_is =
           rw (store_slots_lem world)
           (up_oldest world.up world.down d k (inside settings world good d k client server)
@@ -130,7 +131,7 @@ module _ (settings : Settings) (world : World) (good : WellStored settings world
           ≡ outcome_of (settings_of settings) world (serves k d message rest)
       unfolding answer_of apply next_stopped next_clients store_stopped store_clients
       serves_law =
-          λ i. after Went (servers_after i) (store_clients world) (slots_after i)
+          λ i. after (Ok Went) (servers_after i) (store_clients world) (slots_after i)
 
     pub serve_law : memory_at settings world (code.K k d) ≡ model_at settings world (code.K k d)
     unfolding in_memory serve_step step_of ladder accepted settings_of is_empty store_clients

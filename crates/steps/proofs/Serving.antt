@@ -7,10 +7,10 @@
 -- Assumes nothing.
 use Rattle.basics.proofs.Prelude.{◌≡◌, sym, ap, ◌∙◌, subst, Bool, true, false, List, [], ℕ, suc, ◌-◌, ◌≤◌}
 use Rattle.basics.proofs.Prelude.{arith}
-use Rattle.register.proofs.Vocabulary.{Refusal, Message, Good, server_sends, most_clients, most_servers}
-use Rattle.register.specs.declared.Answer.TheVariants.{Went, Refused}
+use Rattle.std.specs.Prelude.{Ok, Err}
+use Rattle.register.proofs.Vocabulary.{Refusal, Message, server_sends, most_clients, most_servers}
+use Rattle.register.specs.declared.Answer.TheVariants.{Went}
 use Rattle.refusal.specs.declared.Refusal.TheVariants.{FullChannel}
-use Rattle.message.specs.declared.Unpacked.TheVariants as unpacked
 use Rattle.channel.specs.Memory.{removed}
 use Rattle.channel.specs.Sound.{CountsFit}
 use Rattle.server.specs.declared.Served.{Served}
@@ -30,8 +30,8 @@ module _ (settings : Settings) (stopped : ℕ) (servers slots : List ℕ) (k d :
   -- what is no message only goes off its channel
   pub drop_gives : 1 ≤ k → k ≤ most_servers → settings.clients ≤ most_clients → CountsFit slots
       → server.is_sound (server_at servers (k - 1)) ≡ true → (why : Refusal)
-      → request_at slots k d ≡ unpacked.Refused why → (slots₁ : List ℕ) (from : ℕ)
-      → from ≡ up_index (d - 1) (k - 1) → slots₁ ≡ removed slots from → result Went servers slots₁
+      → request_at slots k d ≡ Err why → (slots₁ : List ℕ) (from : ℕ)
+      → from ≡ up_index (d - 1) (k - 1) → slots₁ ≡ removed slots from → result (Ok Went) servers slots₁
       ≡ serve_oldest settings stopped servers slots k d
   unfolding send_down sent_by
   drop_gives first last few fit sound why none slots₁ from place off =
@@ -41,11 +41,11 @@ module _ (settings : Settings) (stopped : ℕ) (servers slots : List ℕ) (k d :
       ∙ same_back (server_start (k - 1)) server_length servers in
       let room : room_down settings stopped slots (k - 1) [] ≡ true = room_none settings stopped slots d
       (k - 1) (omega arith) few fit in
-      rw (none, room) (λ i. result Went (sym own i) ((off ∙ ap (removed slots) place) i))
+      rw (none, room) (λ i. result (Ok Went) (sym own i) ((off ∙ ap (removed slots) place) i))
 
   -- a message, the oldest of its channel, is served; `slots₁` are those after the reply
   module _ (message : Message) (made : Served) (fits : Bool) (slots₁ : List ℕ) (low : 1 ≤ d)
-      (first : request_at slots k d ≡ Good message)
+      (first : request_at slots k d ≡ Ok message)
       (makes : after_of d made ≡ served_of (server.loaded (server_at servers (k - 1))) d message)
       (reply : Delivered settings stopped slots (d - 1) (k - 1)
       (sent_by (suc (d - 1)) made.sends) fits slots₁) where
@@ -58,17 +58,17 @@ module _ (settings : Settings) (stopped : ℕ) (servers slots : List ℕ) (k d :
         (subst (λ (n : ℕ). Delivered settings stopped slots (d - 1) (k - 1)
         (sent_by n made.sends) fits slots₁) same reply)
 
-    pub serve_refused : fits ≡ false → result (Refused FullChannel) servers slots₁
+    pub serve_refused : fits ≡ false → result (Err FullChannel) servers slots₁
         ≡ serve_oldest settings stopped servers slots k d
     serve_refused full =
         rw (first, sym reply_is.0 ∙ full)
-        (ap (result (Refused FullChannel) servers) (rw full at reply_is.1))
+        (ap (result (Err FullChannel) servers) (rw full at reply_is.1))
 
     pub serve_gives : fits ≡ true → (servers' : List ℕ) → servers' ≡ put_server servers (k - 1)
         (server.numbers_of made.server)
-        → result Went servers' slots₁ ≡ serve_oldest settings stopped servers slots k d
+        → result (Ok Went) servers' slots₁ ≡ serve_oldest settings stopped servers slots k d
     unfolding server.view server.store
     serve_gives enough servers' e =
         let stored = e ∙ ap (λ (y : After). put_server servers (k - 1) (server.numbers_of y.server)) makes in
         let sent = rw enough at reply_is.1 in
-        rw (first, sym reply_is.0 ∙ enough) (λ i. result Went (stored i) (sent i))
+        rw (first, sym reply_is.0 ∙ enough) (λ i. result (Ok Went) (stored i) (sent i))

@@ -3,8 +3,9 @@
 -- A client that starts is idle, so it holds nothing of any server and its replies are zeros before and after:
 -- only the head of its memory changes. GET_INFO goes on its channels in the room that the ladder has tested.
 -- Assumes nothing.
-use Rattle.basics.proofs.Prelude.{◌≡◌, refl, sym, ap, ◌∙◌, true, false, not, ◌&&◌, List, [], ◌∷◌, ◌++◌, none}
+use Rattle.basics.proofs.Prelude.{◌≡◌, refl, sym, ap, ◌∙◌, true, false, not, ◌&&◌, List, [], ◌∷◌, ◌++◌, None}
 use Rattle.basics.proofs.Prelude.{ℕ, ◌-◌, ◌≤◌, arith, leb}
+use Rattle.std.specs.Prelude.{Ok}
 use mathlib.Core.Path.{fun_ext}
 use Rattle.basics.proofs.Cases.{true_or_false}
 use Rattle.basics.proofs.UpTo.{and-false}
@@ -60,7 +61,7 @@ pub idle_empty : (S : model.Settings) (F : Formats) (client : Client) → WellCl
 idle_empty S F client well idle =
     let unused : (k : ℕ) → is_server S k && is_reading client.phase ≡ false =
     λ k. and-false (is_server S k) (is_reading client.phase) (not_reading client.phase idle) in
-    let noted : client.noted ≡ (λ k. none) = fun_ext (λ k. well.noted_unused k (unused k)) in
+    let noted : client.noted ≡ (λ k. None) = fun_ext (λ k. well.noted_unused k (unused k)) in
     let sets : client.sets ≡ (λ k. []) = fun_ext (λ k. well.sets_unused k (unused k)) in
     let acks : client.acks ≡ (λ k. false) = fun_ext
     (λ k. well.acks_idle (not_storing client.phase idle) k) in
@@ -135,10 +136,10 @@ module _ (settings : Settings) (world : World) (good : WellStored settings world
           ≡ outcome_of (settings_of settings) world (begins d phase)
       unfolding answer_of apply next_servers store_servers next_read
       begins_law =
-          ap (λ (x : Client). after Went (store_servers world)
+          ap (λ (x : Client). after (Ok Went) (store_servers world)
           (with_head (client_at (store_clients world) (d - 1)) (next_read x))
           (send_up settings (store_slots world) (d - 1) (GetInfo (next_read x) ∷ []))) shown_is
-          ∙ (λ i. after Went (store_servers world) (clients_after i) (slots_after i))
+          ∙ (λ i. after (Ok Went) (store_servers world) (clients_after i) (slots_after i))
 
     busy_is : on world (λ s. is_busy settings) d ≡ not (is_idle (world.clients d).phase)
     busy_is = ap (λ (x : Client). not (is_idle x.phase)) shown_is
@@ -154,7 +155,7 @@ module _ (settings : Settings) (world : World) (good : WellStored settings world
         (R d) (on world (λ s. read_rungs settings) d) (on world (λ s. begun settings) d Reading)
         (same refl (λ e. same (stopped_same settings world good d) (λ e. same busy_is (λ e. same exhausted_is
         (λ e. same (ap not (room_up_is settings world good d client 2)) (λ e. done))))))
-        (λ none en. begins_law Reading en)
+        (λ None en. begins_law Reading en)
 
     pub write_law : (entry : Entry) → memory_at settings world (code.W d entry) ≡ model_at settings world
         (code.W d entry)
@@ -167,4 +168,4 @@ module _ (settings : Settings) (world : World) (good : WellStored settings world
         (same refl (λ q. same (stopped_same settings world good d) (λ q. same busy_is (λ q. same refl
         (λ q. same exhausted_is
         (λ q. same (ap not (room_up_is settings world good d client 3)) (λ q. done)))))))
-        (λ none en. begins_law (ReadingForWrite entry) en)
+        (λ None en. begins_law (ReadingForWrite entry) en)

@@ -5,6 +5,7 @@
 -- Assumes nothing.
 use Rattle.basics.proofs.Prelude.{◌≡◌, refl, sym, ap, ◌∙◌, Bool, true, false, cond, ◌&&◌, ◌||◌, List, [], ℕ}
 use Rattle.basics.proofs.Prelude.{◌-◌, eqb}
+use Rattle.std.specs.Prelude.{Ok}
 use Rattle.basics.proofs.UpTo.{and-false}
 use mathlib.Core.Path.{fun_ext}
 use Rattle.register.proofs.Vocabulary.{update, contains, set_of, is_up_to, Message, formats, is_server, is_client}
@@ -79,4 +80,4 @@ module _ (settings : Settings) (world : World) (good : WellStored settings world
         (C d) (stop_rungs settings (store_clients world) (store_slots world) d)
         (stop_result settings (store_clients world) (store_slots world) d)
         (same refl (λ e. same (stopped_same settings world good d) (λ e. done)))
-        (λ none en. λ i. after Went (store_servers world) (clients_after i) (slots_after i))
+        (λ none en. λ i. after (Ok Went) (store_servers world) (clients_after i) (slots_after i))

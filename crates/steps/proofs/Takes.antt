@@ -6,9 +6,10 @@
 -- Assumes nothing.
 use Rattle.basics.proofs.Prelude.{◌≡◌, refl, sym, ap, ◌∙◌, true, false, not, List, ◌∷◌, length, ℕ, ◌-◌, ◌≤◌}
 use Rattle.basics.proofs.Prelude.{le_refl, arith, eqb}
+use Rattle.std.specs.Prelude.{Ok}
 use Rattle.basics.proofs.Cases.{by_list, true_or_false}
 use Rattle.refusal.proofs.Ladders.{done, same}
-use Rattle.register.proofs.Vocabulary.{Message, Good, Response, formats, is_server, is_client, capacity, D}
+use Rattle.register.proofs.Vocabulary.{Message, Response, formats, is_server, is_client, capacity, D}
 use Rattle.register.proofs.Vocabulary.{is_empty, oldest, ladder, accepted, World, takes, response_of}
 use Rattle.register.proofs.Vocabulary.{apply, answer_of, next_servers, next_clients, next_stopped, next_up}
 use Rattle.register.proofs.Vocabulary.{next_down, leaves_up, leaves_down, puts_up, puts_down, FromServer}
@@ -48,7 +49,7 @@ module _ (settings : Settings) (world : World) (good : WellStored settings world
     -- ---- the message that waits
 
     module _ (message : Message) (rest : List Message) (waits : world.down d k ≡ message ∷ rest) where
-      message_is : reply_at (store_slots world) d k ≡ Good message
+      message_is : reply_at (store_slots world) d k ≡ Ok message
       message_is =
           rw (store_slots_lem world)
           (down_oldest world.up world.down d k (inside settings world good d k client server)
@@ -115,10 +116,10 @@ module _ (settings : Settings) (world : World) (good : WellStored settings world
       unfolding answer_of apply next_servers store_servers
       takes_law =
           ap (λ (x : Response). on_clients (store_servers world)
-          (result x.answer (put_client (store_clients world) (d - 1) (store x.client))
+          (result (Ok x.answer) (put_client (store_clients world) (d - 1) (store x.client))
           (send_up settings (removed (store_slots world) (down_index (d - 1) (k - 1))) (d - 1) x.sends)))
           (took_is message rest en.channel)
-          ∙ (λ i. after taker.answer (store_servers world) (clients_after i) (slots_after i))
+          ∙ (λ i. after (Ok taker.answer) (store_servers world) (clients_after i) (slots_after i))
 
     pub take_law : memory_at settings world (code.D d k) ≡ model_at settings world (code.D d k)
     unfolding in_memory take_step step_of ladder accepted is_empty store_clients

@@ -7,6 +7,7 @@
 -- on memory here.
 -- Assumes nothing.
 use Rattle.std.specs.Prelude.{ℕ, zero, suc, ◌+◌, ◌-◌, Bool, false, cond, not, ◌&&◌, ◌||◌, List, [], ◌∷◌, ◌≡◌, leb, eqb, length}
+use Rattle.std.specs.Prelude.{Ok, Err}
 use Rattle.basics.specs.Bytes.{spelt}
 use Rattle.basics.specs.Tests.{all_below}
 use Rattle.basics.specs.BitSets.{contains, set_of}
@@ -16,12 +17,9 @@ use Rattle.message.specs.declared.Entry.{Entry}
 use Rattle.message.specs.declared.Message.{Message}
 use Rattle.message.specs.declared.Message.TheVariants.{GetInfo}
 use Rattle.message.specs.declared.ReadNumber.{ReadNumber}
-use Rattle.message.specs.declared.Unpacked.{Unpacked}
-use Rattle.message.specs.declared.Unpacked.TheVariants as unpacked
-use Rattle.message.specs.declared.Unpacked.TheVariants.{Good}
+use Rattle.message.specs.Layout.{Unpacked}
 use Rattle.message.specs.declared.Words.{Words}
 use Rattle.message.specs.Layout.{unpack_of, words, words_of, last_read, goes_down}
-use Rattle.register.specs.declared.Answer.{Answer}
 use Rattle.register.specs.declared.Answer.TheVariants.{Went}
 use Rattle.register.specs.declared.Phase.{Phase}
 use Rattle.register.specs.declared.Phase.TheVariants.{Reading, ReadingForWrite}
@@ -31,6 +29,7 @@ use Rattle.register.specs.Client as model
 use Rattle.register.specs.Ladders.{read_ladder, write_ladder, serve_ladder, take_ladder, stop_ladder, lie_ladder}
 use Rattle.register.specs.Server.{Server, Sent, sent_to, next_server, server_sends}
 use Rattle.register.specs.Settings.{is_client, is_server, most_clients, capacity}
+use Rattle.register.specs.World.{StepAnswer}
 use Rattle.channel.specs.Memory.{count_at, put_on, removed, cleared}
 use Rattle.server.specs.Memory as server
 use Rattle.client.specs.Memory as client
@@ -100,15 +99,15 @@ emptied slots i (suc j) = cleared (emptied slots i j) (down_index i j)
 
 -- a step changes one of the arrays, its own, and the slots: K the servers; R, W, D and C the clients
 pub record Result : Type 0 where
-  pub answer : Answer
+  pub answer : StepAnswer
   pub own : List ℕ
   pub slots : List ℕ
 
-abbrev pub result : Answer → List ℕ → List ℕ → Result
+abbrev pub result : StepAnswer → List ℕ → List ℕ → Result
 result answer own slots = record { answer = answer; own = own; slots = slots }
 
 -- both arrays as they were
-abbrev pub keeping : List ℕ → List ℕ → Answer → Result
+abbrev pub keeping : List ℕ → List ℕ → StepAnswer → Result
 keeping own slots answer = result answer own slots
 
 abbrev pub on_servers : List ℕ → Result → After
@@ -130,7 +129,7 @@ module _ (settings : Settings) (clients slots : List ℕ) where
   -- the next read number and the phase are stored, and GET_INFO goes on every channel
   abbrev pub begun : ℕ → Phase → Result
   begun d phase =
-      result Went
+      result (Ok Went)
       (put_client clients (d - 1)
       (client.stored (client_at clients (d - 1))
       (record { number = d; n = settings.n; f = settings.f; phase = phase; reads = next_of d })))
@@ -188,12 +187,12 @@ request_at slots k d = message_at slots (up_index (d - 1) (k - 1))
 
 -- the server after it, and what it sends; what is no message is dropped
 abbrev pub served_by : Server → ℕ → Unpacked → Server
-served_by held d (Good message) = next_server held d message
-served_by held d (unpacked.Refused why) = held
+served_by held d (Ok message) = next_server held d message
+served_by held d (Err why) = held
 
 abbrev pub sent_for : Server → ℕ → Unpacked → List Sent
-sent_for held d (Good message) = server_sends held d message
-sent_for held d (unpacked.Refused why) = []
+sent_for held d (Ok message) = server_sends held d message
+sent_for held d (Err why) = []
 
 module _ (settings : Settings) (stopped : ℕ) (servers slots : List ℕ) where
   -- the server as its memory shows it
@@ -205,7 +204,7 @@ module _ (settings : Settings) (stopped : ℕ) (servers slots : List ℕ) where
 
   abbrev pub served : ℕ → ℕ → Result
   served k d =
-      result Went
+      result (Ok Went)
       (put_server servers (k - 1) (server.store (served_by (server_shown k) d (request_at slots k d))))
       (send_down stopped (removed slots (up_index (d - 1) (k - 1))) (k - 1) (replied k d))
 
@@ -234,8 +233,8 @@ reply_at slots d k = message_at slots (down_index (d - 1) (k - 1))
 
 -- what the client makes of it, with n servers, of which f may be faulty; what is no message is dropped
 abbrev pub taken_for : ℕ → ℕ → ℕ → model.Client → ℕ → Unpacked → model.Response
-taken_for n f d held k (Good message) = model.client_takes n f d held k message
-taken_for n f d held k (unpacked.Refused why) = model.sends_nothing held
+taken_for n f d held k (Ok message) = model.client_takes n f d held k message
+taken_for n f d held k (Err why) = model.sends_nothing held
 
 module _ (settings : Settings) (clients slots : List ℕ) where
   abbrev pub oldest_taken : ℕ → ℕ → model.Response
@@ -244,7 +243,7 @@ module _ (settings : Settings) (clients slots : List ℕ) where
 
   abbrev pub take_result : ℕ → ℕ → Result
   take_result d k =
-      result (oldest_taken d k).answer (put_client clients (d - 1) (client.store (oldest_taken d k).client))
+      result (Ok (oldest_taken d k).answer) (put_client clients (d - 1) (client.store (oldest_taken d k).client))
       (send_up settings (removed slots (down_index (d - 1) (k - 1))) (d - 1) (oldest_taken d k).sends)
 
   -- once 4, 6 and 10 are not refused
@@ -268,7 +267,7 @@ module _ (settings : Settings) (clients slots : List ℕ) where
 
   abbrev pub stop_result : ℕ → Result
   stop_result d =
-      result Went (put_stopped clients
+      result (Ok Went) (put_stopped clients
       (set_of (λ other. eqb d other || contains (state.stopped_in clients) other) most_clients))
       (emptied slots (d - 1) settings.n)
 
@@ -282,16 +281,16 @@ module _ (settings : Settings) (clients slots : List ℕ) where
 
 -- its answer, and the slots after it
 pub record Placed : Type 0 where
-  pub answer : Answer
+  pub answer : StepAnswer
   pub slots : List ℕ
 
-abbrev pub placed : Answer → List ℕ → Placed
+abbrev pub placed : StepAnswer → List ℕ → Placed
 placed answer slots = record { answer = answer; slots = slots }
 
 module _ (stopped : ℕ) (slots : List ℕ) where
   -- the words of its bytes are put; to a stopped client they are dropped
   abbrev pub lied : ℕ → ℕ → Words → Placed
-  lied k d given = placed Went
+  lied k d given = placed (Ok Went)
       (cond (contains stopped d) slots
       (put_on slots (down_index (d - 1) (k - 1)) (words (spelt 0 (bytes_in given)))))
 

@@ -9,7 +9,7 @@ ghost use Rattle.server.specs.Memory as server_memory;
 ghost use Rattle.client.specs.Memory as client_memory;
 ghost use Rattle.client.specs.Outcome.{taken_of};
 ghost use Rattle.client.specs.Sound.{is_sound_memory};
-ghost use Rattle.state.specs.State.{bytes_in, server_at, stopped_in, client_at, servers_length, clients_length};
+ghost use Rattle.state.specs.State.{bytes_in, server_at, stopped_in, client_at};
 ghost use Rattle.steps.specs.Ready.{OldestGoes, Ready, SpareEmpty};
 ghost use Rattle.steps.specs.InMemory as memory;
 
@@ -20,7 +20,7 @@ use crate::transport::{
 };
 use channel::Slots;
 use client::Client;
-use message::{Entry, Message, Unpacked, Words};
+use message::{Entry, Message, Words};
 use refusal::Refusal;
 use register::{Answer, Phase, Step};
 use state::{Clients, STOPPED, Servers, Settings, client_start, down, server_start, up};
@@ -43,23 +43,24 @@ fn begin(
     client: Client,
     phase: Phase,
     more: u64,
-    clients: &mut [u64],
+    clients: &mut Clients,
     slots: &mut Slots,
-) -> Answer
-    requires { (settings.n ≤ most_servers) × (length clients.old ≡ clients_length) × (1 ≤ d)
-        × (d ≤ most_clients) × (more ≤ capacity)
-        × (client ≡ client_memory.loaded d settings.n settings.f (client_at clients.old (d - 1)))
-        × CountsFit slots.old × SpareEmpty settings slots.old }
+) -> Result<Answer, Refusal>
+    requires few { (settings.n ≤ most_servers) × (1 ≤ d) × (d ≤ most_clients) × (more ≤ capacity) }
+    requires loaded { client
+        ≡ client_memory.loaded d settings.n settings.f (client_at clients.old (d - 1)) }
+    requires counts { CountsFit slots.old }
+    requires spare { SpareEmpty settings slots.old }
     ensures { memory.result result clients.new slots.new
         ≡ memory.begin_step settings clients.old slots.old d phase more }
 {
     let reads = client.reads;
     if message::is_last_read(reads) {
-        return Answer::Refused(Refusal::Exhausted);
+        return Err(Refusal::Exhausted);
     }
     let i = (d - 1) as usize;
     if !has_room_up(settings, slots, i, more) {
-        return Answer::Refused(Refusal::FullChannel);
+        return Err(Refusal::FullChannel);
     }
     let next = message::next_read(reads);
     broadcast(settings, slots, i, Message::GetInfo(next));
@@ -73,7 +74,7 @@ fn begin(
         reads: next,
     };
     client::store(&mut clients[at..end], begun);
-    Answer::Went
+    Ok(Answer::Went)
 }
 
 // A start in a phase, whose entry, if it has one, is a licence entry or not: 4, 6, 7, 8 and then those of
@@ -84,18 +85,18 @@ fn start(
     phase: Phase,
     is_entry: bool,
     more: u64,
-    clients: &mut [u64],
+    clients: &mut Clients,
     slots: &mut Slots,
-) -> Answer
-    requires { (settings.n ≤ most_servers) × (settings.clients ≤ most_clients)
-        × (length clients.old ≡ clients_length)
-        × (more ≤ capacity) × CountsFit slots.old × SpareEmpty settings slots.old }
+) -> Result<Answer, Refusal>
+    requires few { (settings.n ≤ most_servers) × (settings.clients ≤ most_clients) × (more ≤ capacity) }
+    requires counts { CountsFit slots.old }
+    requires spare { SpareEmpty settings slots.old }
     ensures { memory.result result clients.new slots.new
         ≡ memory.start_step settings clients.old slots.old d phase
         (not is_entry) more }
 {
     if !is_client(settings, d) {
-        return Answer::Refused(Refusal::NoSuchProcess);
+        return Err(Refusal::NoSuchProcess);
     }
     let at = client_start((d - 1) as usize);
     let end = at + client::LENGTH;
@@ -104,21 +105,26 @@ fn start(
     let old = client.phase;
     let is_busy = !client::is_idle(old);
     if has_stopped {
-        return Answer::Refused(Refusal::Stopped);
+        return Err(Refusal::Stopped);
     }
     if is_busy {
-        return Answer::Refused(Refusal::Busy);
+        return Err(Refusal::Busy);
     }
     if !is_entry {
-        return Answer::Refused(Refusal::NoEntry);
+        return Err(Refusal::NoEntry);
     }
     begin(settings, d, client, phase, more, clients, slots)
 }
 
-fn read(settings: Settings, d: u32, clients: &mut [u64], slots: &mut Slots) -> Answer
-    requires { (settings.n ≤ most_servers) × (settings.clients ≤ most_clients)
-        × (length clients.old ≡ clients_length)
-        × CountsFit slots.old × SpareEmpty settings slots.old }
+fn read(
+    settings: Settings,
+    d: u32,
+    clients: &mut Clients,
+    slots: &mut Slots,
+) -> Result<Answer, Refusal>
+    requires few { (settings.n ≤ most_servers) × (settings.clients ≤ most_clients) }
+    requires counts { CountsFit slots.old }
+    requires spare { SpareEmpty settings slots.old }
     ensures { memory.result result clients.new slots.new
         ≡ memory.read_step settings clients.old slots.old d }
 {
@@ -133,10 +139,16 @@ fn read(settings: Settings, d: u32, clients: &mut [u64], slots: &mut Slots) -> A
     )
 }
 
-fn write(settings: Settings, d: u32, entry: Entry, clients: &mut [u64], slots: &mut Slots) -> Answer
-    requires { (settings.n ≤ most_servers) × (settings.clients ≤ most_clients)
-        × (length clients.old ≡ clients_length)
-        × CountsFit slots.old × SpareEmpty settings slots.old }
+fn write(
+    settings: Settings,
+    d: u32,
+    entry: Entry,
+    clients: &mut Clients,
+    slots: &mut Slots,
+) -> Result<Answer, Refusal>
+    requires few { (settings.n ≤ most_servers) × (settings.clients ≤ most_clients) }
+    requires counts { CountsFit slots.old }
+    requires spare { SpareEmpty settings slots.old }
     ensures { memory.result result clients.new slots.new
         ≡ memory.write_step settings clients.old slots.old d entry }
 {
@@ -160,14 +172,14 @@ fn serve_message(
     k: u32,
     d: u32,
     message: Message,
-    servers: &mut [u64],
+    servers: &mut Servers,
     slots: &mut Slots,
-) -> Answer
-    requires { (settings.clients ≤ most_clients) × (1 ≤ d) × (d ≤ settings.clients) × (1 ≤ k)
-        × (k ≤ most_servers)
-        × (length servers.old ≡ servers_length)
-        × (server_memory.is_sound (server_at servers.old (k - 1)) ≡ true)
-        × (memory.request_at slots.old k d ≡ Unpacked.Good message) × CountsFit slots.old }
+) -> Result<Answer, Refusal>
+    requires few { (settings.clients ≤ most_clients) × (1 ≤ d) × (d ≤ settings.clients) × (1 ≤ k)
+        × (k ≤ most_servers) }
+    requires sound { server_memory.is_sound (server_at servers.old (k - 1)) ≡ true }
+    requires asked { memory.request_at slots.old k d ≡ Ok message }
+    requires counts { CountsFit slots.old }
     ensures { memory.result result servers.new slots.new
         ≡ memory.serve_oldest settings stopped servers.old slots.old k d }
 {
@@ -179,10 +191,10 @@ fn serve_message(
     let sends = served.sends;
     let next = served.server;
     if !deliver(settings, stopped, slots, i, j, sends) {
-        return Answer::Refused(Refusal::FullChannel);
+        return Err(Refusal::FullChannel);
     }
     server::store(&mut servers[at..end], next);
-    Answer::Went
+    Ok(Answer::Went)
 }
 
 // The server serves the oldest message. What is none is dropped.
@@ -191,21 +203,21 @@ fn serve_oldest(
     stopped: u64,
     k: u32,
     d: u32,
-    servers: &mut [u64],
+    servers: &mut Servers,
     slots: &mut Slots,
-) -> Answer
-    requires { (settings.clients ≤ most_clients) × (1 ≤ d) × (d ≤ settings.clients) × (1 ≤ k)
-        × (k ≤ most_servers)
-        × (length servers.old ≡ servers_length)
-        × (server_memory.is_sound (server_at servers.old (k - 1)) ≡ true)
-        × CountsFit slots.old × (goes false (memory.request_at slots.old k d) ≡ true) }
+) -> Result<Answer, Refusal>
+    requires few { (settings.clients ≤ most_clients) × (1 ≤ d) × (d ≤ settings.clients) × (1 ≤ k)
+        × (k ≤ most_servers) }
+    requires sound { server_memory.is_sound (server_at servers.old (k - 1)) ≡ true }
+    requires goes_up { goes false (memory.request_at slots.old k d) ≡ true }
+    requires counts { CountsFit slots.old }
     ensures { memory.result result servers.new slots.new
         ≡ memory.serve_oldest settings stopped servers.old slots.old k d }
 {
     let from = up((d - 1) as usize, (k - 1) as usize);
-    let Unpacked::Good(message) = oldest_request(slots, from) else {
+    let Ok(message) = oldest_request(slots, from) else {
         channel::remove(slots, from);
-        return Answer::Went;
+        return Ok(Answer::Went);
     };
     serve_message(settings, stopped, k, d, message, servers, slots)
 }
@@ -215,24 +227,24 @@ fn serve(
     stopped: u64,
     k: u32,
     d: u32,
-    servers: &mut [u64],
+    servers: &mut Servers,
     slots: &mut Slots,
-) -> Answer
-    requires { (settings.n ≤ most_servers) × (settings.clients ≤ most_clients)
-        × (length servers.old ≡ servers_length)
-        × ((j : ℕ) → j < most_servers → server_memory.is_sound (server_at servers.old j) ≡ true)
-        × CountsFit slots.old × OldestGoes slots.old }
+) -> Result<Answer, Refusal>
+    requires few { (settings.n ≤ most_servers) × (settings.clients ≤ most_clients) }
+    requires sound { (j : ℕ) → j < most_servers → server_memory.is_sound (server_at servers.old j) ≡ true }
+    requires counts { CountsFit slots.old }
+    requires ways { OldestGoes slots.old }
     ensures { memory.result result servers.new slots.new
         ≡ memory.serve_step settings stopped servers.old slots.old k d }
 {
     if !both_exist(settings, d, k) {
-        return Answer::Refused(Refusal::NoSuchProcess);
+        return Err(Refusal::NoSuchProcess);
     }
     if has(settings.faulty as u64, k) {
-        return Answer::Refused(Refusal::WrongRole);
+        return Err(Refusal::WrongRole);
     }
     if channel::count(slots, up((d - 1) as usize, (k - 1) as usize)) == 0 {
-        return Answer::Refused(Refusal::EmptyChannel);
+        return Err(Refusal::EmptyChannel);
     }
     serve_oldest(settings, stopped, k, d, servers, slots)
 }
@@ -250,11 +262,12 @@ fn has_room_for(
     message: Message,
     own: &[u64],
 ) -> bool
-    requires { (settings.n ≤ most_servers)
-        × (client ≡ client_memory.loaded client.number settings.n settings.f own.now)
-        × (is_sound_memory settings.n settings.f own.now ≡ true) × (1 ≤ client.number)
-        × (client.number ≤ most_clients)
-        × (1 ≤ k) × (k ≤ settings.n) × CountsFit slots.now × SpareEmpty settings slots.now }
+    requires few { (settings.n ≤ most_servers) × (1 ≤ client.number) × (client.number ≤ most_clients)
+        × (1 ≤ k) × (k ≤ settings.n) }
+    requires loaded { client ≡ client_memory.loaded client.number settings.n settings.f own.now }
+    requires sound { is_sound_memory settings.n settings.f own.now ≡ true }
+    requires counts { CountsFit slots.now }
+    requires spare { SpareEmpty settings slots.now }
     ensures { result ≡ memory.room_up settings slots.now (client.number - 1)
         (length (taken_of client.number settings.n settings.f own.now k message
         ).sends) }
@@ -281,16 +294,18 @@ fn take_message(
     client: Client,
     k: u32,
     message: Message,
-    clients: &mut [u64],
+    clients: &mut Clients,
     slots: &mut Slots,
-) -> Answer
-    requires { (settings.n ≤ most_servers) × (length clients.old ≡ clients_length)
-        × (1 ≤ client.number) × (client.number ≤ most_clients) × (1 ≤ k) × (k ≤ settings.n)
-        × (client ≡ client_memory.loaded client.number settings.n settings.f
-        (client_at clients.old (client.number - 1)))
-        × (is_sound_memory settings.n settings.f (client_at clients.old (client.number - 1)) ≡ true)
-        × (memory.reply_at slots.old client.number k ≡ Unpacked.Good message)
-        × CountsFit slots.old × SpareEmpty settings slots.old }
+) -> Result<Answer, Refusal>
+    requires few { (settings.n ≤ most_servers) × (1 ≤ client.number) × (client.number ≤ most_clients)
+        × (1 ≤ k) × (k ≤ settings.n) }
+    requires loaded { client ≡ client_memory.loaded client.number settings.n settings.f
+        (client_at clients.old (client.number - 1)) }
+    requires sound { is_sound_memory settings.n settings.f (client_at clients.old (client.number - 1))
+        ≡ true }
+    requires asked { memory.reply_at slots.old client.number k ≡ Ok message }
+    requires counts { CountsFit slots.old }
+    requires spare { SpareEmpty settings slots.old }
     ensures { memory.result result clients.new slots.new
         ≡ memory.take_oldest settings clients.old slots.old client.number k }
 {
@@ -298,60 +313,73 @@ fn take_message(
     let at = client_start(i);
     let end = at + client::LENGTH;
     if !has_room_for(settings, slots, client, k as u8, message, &clients[at..end]) {
-        return Answer::Refused(Refusal::FullChannel);
+        return Err(Refusal::FullChannel);
     }
     let outcome = client::take_message(client, k as u8, message, &mut clients[at..end]);
     channel::remove(slots, down(i, (k - 1) as usize));
     let sends = outcome.sends;
     send_up(settings, slots, i, sends);
-    outcome.answer
+    Ok(outcome.answer)
 }
 
 // The client takes the oldest message. What is none, or one that it does not take, is dropped, and nothing is
 // stored.
-fn take_oldest(settings: Settings, d: u32, k: u32, clients: &mut [u64], slots: &mut Slots) -> Answer
-    requires { (settings.n ≤ most_servers) × (length clients.old ≡ clients_length) × (1 ≤ d)
-        × (d ≤ most_clients) × (1 ≤ k)
-        × (k ≤ settings.n)
-        × (is_sound_memory settings.n settings.f (client_at clients.old (d - 1)) ≡ true)
-        × CountsFit slots.old × SpareEmpty settings slots.old
-        × (goes true (memory.reply_at slots.old d k) ≡ true) }
+fn take_oldest(
+    settings: Settings,
+    d: u32,
+    k: u32,
+    clients: &mut Clients,
+    slots: &mut Slots,
+) -> Result<Answer, Refusal>
+    requires few { (settings.n ≤ most_servers) × (1 ≤ d) × (d ≤ most_clients) × (1 ≤ k)
+        × (k ≤ settings.n) }
+    requires sound { is_sound_memory settings.n settings.f (client_at clients.old (d - 1)) ≡ true }
+    requires goes_down { goes true (memory.reply_at slots.old d k) ≡ true }
+    requires counts { CountsFit slots.old }
+    requires spare { SpareEmpty settings slots.old }
     ensures { memory.result result clients.new slots.new
         ≡ memory.take_oldest settings clients.old slots.old d k }
 {
     let i = (d - 1) as usize;
     let from = down(i, (k - 1) as usize);
-    let Unpacked::Good(message) = oldest_reply(slots, from) else {
+    let Ok(message) = oldest_reply(slots, from) else {
         channel::remove(slots, from);
-        return Answer::Went;
+        return Ok(Answer::Went);
     };
     let at = client_start(i);
     let end = at + client::LENGTH;
     let client = client::load(&clients[at..end], d as u8, settings.n, settings.f);
     if !client::is_taken(client, k as u8, message, &clients[at..end]) {
         channel::remove(slots, from);
-        return Answer::Went;
+        return Ok(Answer::Went);
     }
     take_message(settings, client, k, message, clients, slots)
 }
 
-fn take(settings: Settings, d: u32, k: u32, clients: &mut [u64], slots: &mut Slots) -> Answer
-    requires { (settings.n ≤ most_servers) × (settings.clients ≤ most_clients)
-        × (length clients.old ≡ clients_length)
-        × ((i : ℕ) → i < most_clients
-        → is_sound_memory settings.n settings.f (client_at clients.old i) ≡ true)
-        × CountsFit slots.old × SpareEmpty settings slots.old × OldestGoes slots.old }
+fn take(
+    settings: Settings,
+    d: u32,
+    k: u32,
+    clients: &mut Clients,
+    slots: &mut Slots,
+) -> Result<Answer, Refusal>
+    requires few { (settings.n ≤ most_servers) × (settings.clients ≤ most_clients) }
+    requires sound { (i : ℕ) → i < most_clients
+        → is_sound_memory settings.n settings.f (client_at clients.old i) ≡ true }
+    requires counts { CountsFit slots.old }
+    requires spare { SpareEmpty settings slots.old }
+    requires ways { OldestGoes slots.old }
     ensures { memory.result result clients.new slots.new
         ≡ memory.take_step settings clients.old slots.old d k }
 {
     if !both_exist(settings, d, k) {
-        return Answer::Refused(Refusal::NoSuchProcess);
+        return Err(Refusal::NoSuchProcess);
     }
     if has(clients[STOPPED], d) {
-        return Answer::Refused(Refusal::Stopped);
+        return Err(Refusal::Stopped);
     }
     if channel::count(slots, down((d - 1) as usize, (k - 1) as usize)) == 0 {
-        return Answer::Refused(Refusal::EmptyChannel);
+        return Err(Refusal::EmptyChannel);
     }
     take_oldest(settings, d, k, clients, slots)
 }
@@ -367,23 +395,27 @@ fn with_stopped(stopped: u64, d: u32) -> u64
     stopped | bit
 }
 
-fn stop(settings: Settings, d: u32, clients: &mut [u64], slots: &mut Slots) -> Answer
+fn stop(
+    settings: Settings,
+    d: u32,
+    clients: &mut Clients,
+    slots: &mut Slots,
+) -> Result<Answer, Refusal>
     requires { (settings.n ≤ most_servers) × (settings.clients ≤ most_clients)
-        × (length clients.old ≡ clients_length)
         × (stopped_in clients.old < 2 ^ most_clients) }
     ensures { memory.result result clients.new slots.new
         ≡ memory.stop_step settings clients.old slots.old d }
 {
     if !is_client(settings, d) {
-        return Answer::Refused(Refusal::NoSuchProcess);
+        return Err(Refusal::NoSuchProcess);
     }
     let stopped = clients[STOPPED];
     if has(stopped, d) {
-        return Answer::Refused(Refusal::Stopped);
+        return Err(Refusal::Stopped);
     }
     empty_down(settings, slots, (d - 1) as usize);
     clients[STOPPED] = with_stopped(stopped, d);
-    Answer::Went
+    Ok(Answer::Went)
 }
 
 // ---- L
@@ -392,42 +424,55 @@ fn stop(settings: Settings, d: u32, clients: &mut [u64], slots: &mut Slots) -> A
 fn is_reply(words: Words) -> bool
     ensures { result ≡ goes_down (unpack_of (bytes_in words)) }
 {
-    let Unpacked::Good(message) = message::of_words(words) else {
+    let Ok(message) = message::of_words(words) else {
         return false;
     };
     message::is_reply(message)
 }
 
 // The message goes on its channel, unless there is no room for it (12); to a stopped client it is dropped.
-fn lie_with(stopped: u64, k: u32, d: u32, words: Words, slots: &mut Slots) -> Answer
+fn lie_with(
+    stopped: u64,
+    k: u32,
+    d: u32,
+    words: Words,
+    slots: &mut Slots,
+) -> Result<Answer, Refusal>
     requires { (1 ≤ d) × (d ≤ most_clients) × (1 ≤ k) × (k ≤ most_servers) × (words.0 < 2 ^ head_bits) }
     ensures { memory.placed result slots.new
         ≡ memory.lie_with stopped slots.old k d words }
 {
     if has(stopped, d) {
-        return Answer::Went;
+        return Ok(Answer::Went);
     }
     let to = down((d - 1) as usize, (k - 1) as usize);
     if !has_room(slots, to, 1) {
-        return Answer::Refused(Refusal::FullChannel);
+        return Err(Refusal::FullChannel);
     }
     channel::put(slots, to, words);
-    Answer::Went
+    Ok(Answer::Went)
 }
 
-fn lie(settings: Settings, stopped: u64, k: u32, d: u32, words: Words, slots: &mut Slots) -> Answer
+fn lie(
+    settings: Settings,
+    stopped: u64,
+    k: u32,
+    d: u32,
+    words: Words,
+    slots: &mut Slots,
+) -> Result<Answer, Refusal>
     requires { (settings.n ≤ most_servers) × (settings.clients ≤ most_clients) }
     ensures { memory.placed result slots.new ≡ memory.lie_step settings stopped
         slots.old k d words }
 {
     if !both_exist(settings, d, k) {
-        return Answer::Refused(Refusal::NoSuchProcess);
+        return Err(Refusal::NoSuchProcess);
     }
     if !has(settings.faulty as u64, k) {
-        return Answer::Refused(Refusal::WrongRole);
+        return Err(Refusal::WrongRole);
     }
     if !is_reply(words) {
-        return Answer::Refused(Refusal::Malformed);
+        return Err(Refusal::Malformed);
     }
     lie_with(stopped, k, d, words, slots)
 }
@@ -441,7 +486,7 @@ pub fn make_step(
     servers: &mut Servers,
     clients: &mut Clients,
     slots: &mut Slots,
-) -> Answer
+) -> Result<Answer, Refusal>
     requires { Ready settings servers.old clients.old slots.old }
     ensures { memory.after result servers.new clients.new slots.new
         ≡ memory.in_memory settings servers.old clients.old slots.old step }

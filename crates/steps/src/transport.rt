@@ -14,7 +14,8 @@ ghost use Rattle.steps.specs.InMemory as memory;
 ghost use Rattle.steps.specs.Ready.{SpareEmpty};
 
 use channel::{CAPACITY, Slots};
-use message::{Message, Pair, Unpacked};
+use message::{Message, Pair};
+use refusal::Refusal;
 use server::Sends;
 use state::{CLIENTS, SERVERS, Settings, down, is_in, up};
 
@@ -42,10 +43,8 @@ pub fn has_room_up(settings: Settings, slots: &Slots, i: usize, more: u64) -> bo
     ensures { result ≡ memory.room_up settings slots.now i more }
 {
     let mut over: u64 = 0;
-    let mut j = 0;
-    while j < SERVERS {
-        over = over | (channel::count(slots, up(i, j)) + more + UNDER);
-        j += 1;
+    for j in 0..SERVERS {
+        over |= channel::count(slots, up(i, j)) + more + UNDER;
     }
     over < OVER
 }
@@ -57,13 +56,10 @@ pub fn broadcast(settings: Settings, slots: &mut Slots, i: usize, message: Messa
 {
     let words = message::words_of(message);
     let faulty = settings.faulty as u64;
-    let n = settings.n as usize;
-    let mut j = 0;
-    while j < n {
+    for j in 0..settings.n as usize {
         if !is_in(faulty, j) {
             channel::put(slots, up(i, j), words);
         }
-        j += 1;
     }
 }
 
@@ -96,14 +92,14 @@ pub fn send_up(settings: Settings, slots: &mut Slots, i: usize, sends: client::S
 }
 
 // What stands oldest on a channel to a server, and on one to a client: a message that goes that way.
-pub fn oldest_request(slots: &Slots, channel: usize) -> Unpacked
+pub fn oldest_request(slots: &Slots, channel: usize) -> Result<Message, Refusal>
     requires { (channel < channels) × (goes false (message_at slots.now channel) ≡ true) }
     ensures { result ≡ message_at slots.now channel }
 {
     message::request_of(channel::oldest(slots, channel))
 }
 
-pub fn oldest_reply(slots: &Slots, channel: usize) -> Unpacked
+pub fn oldest_reply(slots: &Slots, channel: usize) -> Result<Message, Refusal>
     requires { (channel < channels) × (goes true (message_at slots.now channel) ≡ true) }
     ensures { result ≡ message_at slots.now channel }
 {
@@ -144,12 +140,9 @@ fn all_have_room(
         → result ≡ memory.room_down settings stopped slots.now j
         (sent_by (suc i) (Sends.Forward set pair)) }
 {
-    let n = settings.clients as usize;
     let mut fits = true;
-    let mut to = 0;
-    while to < n {
-        fits = fits & has_room_from(stopped, slots, to, j, count_to(set, i, to));
-        to += 1;
+    for to in 0..settings.clients as usize {
+        fits &= has_room_from(stopped, slots, to, j, count_to(set, i, to));
     }
     fits
 }
@@ -171,12 +164,10 @@ fn forward(stopped: u64, slots: &mut Slots, j: usize, set: u8, pair: Pair)
     ensures { slots.new ≡ memory.send_down stopped slots.old j
         (forwards (contains set) pair most_clients) }
 {
-    let mut i = 0;
-    while i < CLIENTS {
+    for i in 0..CLIENTS {
         if is_in(set as u64, i) {
             send_one(stopped, slots, i, j, Message::Fwd(pair));
         }
-        i += 1;
     }
 }
 
@@ -261,10 +252,7 @@ pub fn empty_down(settings: Settings, slots: &mut Slots, i: usize)
     requires { (i < most_clients) × (settings.n ≤ most_servers) }
     ensures { slots.new ≡ memory.emptied slots.old i settings.n }
 {
-    let n = settings.n as usize;
-    let mut j = 0;
-    while j < n {
+    for j in 0..settings.n as usize {
         channel::clear(slots, down(i, j));
-        j += 1;
     }
 }

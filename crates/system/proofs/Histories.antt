@@ -7,6 +7,7 @@
 -- answers that the steps gave.
 -- Assumes nothing.
 use Rattle.basics.proofs.Prelude.{◌≡◌, refl, sym, ap, ◌∙◌, subst, true, List, [], ◌∷◌, get_or, ℕ, zero, suc}
+use Rattle.std.specs.Prelude.{Ok}
 use mathlib.Core.List.{map}
 use Rattle.register.specs.declared.Step.{Step}
 use Rattle.register.proofs.Vocabulary.{formats, world_at, World, new_world, apply, WellFormed}
@@ -23,7 +24,6 @@ use Rattle.state.proofs.StoredSound.{stored_state}
 use Rattle.state.proofs.Viewed.{view_stored}
 use Rattle.state.proofs.WellViewed.{well_view}
 use Rattle.steps.specs.After.{After}
-use Rattle.system.specs.declared.setup.Setup.TheVariants.{Set}
 use Rattle.system.specs.Along.{step_at, Memory, start_of, step_from, state_at, AlongSteps}
 use Rattle.system.specs.Setup.{setup_of, set_up_by}
 use Rattle.system.specs.Step.{stored_by, stepped}
@@ -118,7 +118,7 @@ module _ (settings : Settings) (allowed : Allowed settings) (start : Memory) (li
 -- ---- from an accepted setup on
 
 -- whatever the memory held before: states and answers along any list are the history's, and demand 3 holds
-pub along_steps : (f n count faulty : ℕ) (settings : Settings) → setup_of f n count faulty ≡ Set settings
+pub along_steps : (f n count faulty : ℕ) (settings : Settings) → setup_of f n count faulty ≡ Ok settings
     → (servers clients slots : List ℕ) (list : List Step)
     → AlongSteps settings (start_of (set_up_by (setup_of f n count faulty) servers clients slots)) list
 along_steps f n count faulty settings e servers clients slots list =

@@ -1,13 +1,12 @@
--- A sound state has what a step asks of it; so has the memory of a well-formed world.
+-- A sound state has what a step asks of it.
 --
 -- Why: soundness tests every client and every channel, of which those that are not used must be empty; and
 -- the servers are those of a stored world (`state`).
 -- Assumes nothing.
-use Rattle.basics.proofs.Prelude.{◌≡◌, sym, ap, ◌∙◌, subst, true, ◌&&◌, ◌||◌, List, get_or, ℕ, suc, ◌≤◌, ◌<◌}
+use Rattle.basics.proofs.Prelude.{◌≡◌, sym, ap, ◌∙◌, true, ◌&&◌, ◌||◌, List, get_or, ℕ, suc, ◌≤◌, ◌<◌}
 use Rattle.basics.proofs.Prelude.{eqb, ltb, eqb-true}
 use Rattle.basics.proofs.Cases.{by_test, both, true_or_false}
-use Rattle.register.proofs.Vocabulary.{formats, is_honest, most_servers, most_clients, World}
-use Rattle.register.proofs.Vocabulary.{WellFormed}
+use Rattle.register.proofs.Vocabulary.{is_honest, most_servers, most_clients}
 use Rattle.register.proofs.Bounds.{bounds}
 use Rattle.channel.specs.Memory.{count_at}
 use Rattle.channel.proofs.Messages.{counts_fit, oldest_goes}
@@ -16,14 +15,12 @@ use Rattle.server.proofs.Memory.{store_sound}
 use Rattle.client.specs.Sound.{is_sound_memory}
 use Rattle.state.specs.declared.Settings.{Settings}
 use Rattle.state.specs.Sound.{is_client_sound, uses_up, is_link_sound}
-use Rattle.state.specs.State.{settings_of, server_at, client_at, up_index, store_servers, store_clients, view}
+use Rattle.state.specs.State.{settings_of, server_at, client_at, up_index, view}
 use Rattle.state.proofs.Restored.{servers_back}
-use Rattle.state.proofs.SoundFacts.{Allowed, Facts, most_six}
+use Rattle.state.proofs.SoundFacts.{Facts, most_six}
 use Rattle.state.proofs.SoundServer.{below_six}
 use Rattle.state.proofs.StoredParts.{servers_are, server_there}
-use Rattle.state.proofs.StoredSound.{stored_facts}
 use Rattle.steps.specs.Ready.{Ready, SpareEmpty}
-use Rattle.system.specs.Stored.{Stored}
 use Rattle.client.specs.Memory.{reads_at, phase_at}
 
 module _ (settings : Settings) (servers clients slots : List ℕ)
@@ -74,16 +71,3 @@ module _ (settings : Settings) (servers clients slots : List ℕ)
         spare = spare_empty;
         ways = oldest_goes slots known.channels;
       }
-
--- ---- the memory of a well-formed world
-
-module _ (settings : Settings) (allowed : Allowed settings) (world : World)
-    (well : WellFormed (settings_of settings) formats world) where
-  pub ready_stored : (servers clients slots : List ℕ) → Stored world servers clients slots
-      → Ready settings servers clients slots
-  ready_stored servers clients slots stored =
-      ready settings servers clients slots
-      (subst (λ (z : List ℕ). Facts settings z clients slots) (sym stored.servers)
-      (subst (λ (z : List ℕ). Facts settings (store_servers world) z slots) (sym stored.clients)
-      (subst (λ (z : List ℕ). Facts settings (store_servers world) (store_clients world) z)
-      (sym stored.slots) (stored_facts settings allowed world well))))

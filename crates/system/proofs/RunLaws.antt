@@ -1,12 +1,11 @@
--- A run of a list of steps, by whichever function makes them: before each step its memory is ready for it,
--- and one step more is one turn more (`made_turn` where `make_step` of `steps` makes the step, which does not
--- test the state; `public_turn` where the public `step` does).
+-- A run of a list of steps, by whichever function makes them: before each step its memory is sound, and one step
+-- more is one turn more.
 --
 -- Why: the worlds of a history are well formed (`register`), so a step of one, stored, is the model's. Step
 -- i of the numbers in memory is step i of the history's list (`step_at_lem`), so what a turn leaves is the
 -- history's next world, and what it answers is the history's answer (`run_more`).
 -- Assumes nothing.
-use Rattle.basics.proofs.Prelude.{◌≡◌, refl, ap, ◌∙◌, List, get_or, ℕ, suc, ◌+◌, ◌<◌, add-one}
+use Rattle.basics.proofs.Prelude.{◌≡◌, true, refl, subst, ap, ◌∙◌, List, get_or, ℕ, suc, ◌+◌, ◌<◌, add-one}
 use Rattle.basics.proofs.Listed.{listed_get}
 use Rattle.register.specs.declared.Step.{Step}
 use Rattle.register.proofs.Vocabulary.{formats, world_at, answer_at, World, new_world, apply, answer_of}
@@ -18,14 +17,14 @@ use Rattle.register.proofs.Reachable.{well_formed_lem}
 use Rattle.state.specs.declared.Settings.{Settings}
 use Rattle.state.specs.State.{settings_of, step_of}
 use Rattle.state.proofs.SoundFacts.{Allowed}
-use Rattle.steps.specs.InMemory.{After, in_memory}
-use Rattle.steps.specs.Ready.{Ready}
+use Rattle.state.proofs.StoredSound.{stored_state}
+use Rattle.state.specs.Sound.{is_sound}
+use Rattle.steps.specs.After.{After}
 use Rattle.system.specs.Run.{step_in, steps_in, put_answer, answered, Run}
 use Rattle.system.specs.Step.{stored_by, stepped}
 use Rattle.system.specs.Stored.{Stored}
 use Rattle.system.proofs.Histories.{stored_stepped}
-use Rattle.system.proofs.ReadyLaws.{ready_stored}
-use Rattle.system.proofs.Turn.{event_in, is_stored}
+use Rattle.system.proofs.Turn.{event_in}
 
 module _ (settings : Settings) (list : List ℕ) (n : ℕ) (out : List ℕ) where
   -- before the first step nothing is written
@@ -70,22 +69,26 @@ module _ (settings : Settings) (list : List ℕ) (n : ℕ) (out : List ℕ) wher
       well : WellFormed S formats (at i)
       well = well_formed_lem S formats allowed.accepted lawful (steps_in list n) i
 
-      pub run_ready : Ready settings servers clients slots
-      run_ready = ready_stored settings allowed (at i) well servers clients slots run.stored
+      pub run_sound : is_sound settings servers clients slots ≡ true
+      run_sound =
+          let stored = run.stored in
+          (λ q. is_sound settings (stored.servers q) (stored.clients q) (stored.slots q))
+          ∙ stored_state settings allowed (at i) well
 
       module _ (asked : Step) (same : asked ≡ step_in list i) (given : After) (new : List ℕ)
           (written : new ≡ put_answer old i given.answer) where
-        pub made_turn : given ≡ in_memory settings servers clients slots asked
+        pub turn : given ≡ stepped settings servers clients slots asked
             → Run settings list out n (i + 1) given.servers given.clients given.slots new
-        made_turn is =
-            run_more given new written
-            (is_stored settings allowed.accepted (at i) well servers clients slots run.stored
-            (step_in list i) given (is ∙ ap (in_memory settings servers clients slots) same))
-
-        pub public_turn : given ≡ stepped settings servers clients slots asked
-            → Run settings list out n (i + 1) given.servers given.clients given.slots new
-        public_turn is =
+        turn is =
             let stored = run.stored in
             run_more given new written
             (is ∙ (λ q. stepped settings (stored.servers q) (stored.clients q) (stored.slots q) (same q))
             ∙ stored_stepped settings allowed (at i) well (step_in list i))
+
+-- after all steps, as many as there are
+pub run_whole : (settings : Settings) (list out : List ℕ) (n i many : ℕ) → i ≡ n → n ≡ many
+    → (servers clients slots written : List ℕ) → Run settings list out n i servers clients slots written
+    → Run settings list out many many servers clients slots written
+run_whole settings list out n i many last all servers clients slots written run =
+    subst (λ (k : ℕ). Run settings list out k k servers clients slots written) all
+    (subst (λ (k : ℕ). Run settings list out n k servers clients slots written) last run)

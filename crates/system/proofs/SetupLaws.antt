@@ -6,19 +6,19 @@
 -- Assumes nothing.
 use Rattle.register.proofs.Vocabulary.{contains, Refusal, most_servers, most_clients, most_faulty, setup_refusal}
 use Rattle.register.proofs.Vocabulary.{in_range, are_servers_in_range, least_servers, counted, new_world}
-use Rattle.basics.proofs.Prelude.{◌≡◌, refl, sym, ap, ◌∙◌, subst, true, false, List, Option, none, some, ℕ}
+use Rattle.basics.proofs.Prelude.{◌≡◌, refl, sym, ap, ◌∙◌, subst, true, false, List, Option, None, Some, ℕ}
 use Rattle.basics.proofs.Prelude.{◌&&◌}
 use Rattle.basics.proofs.Prelude.{◌^◌, ◌≤◌, ◌<◌, arith, leb, ltb, le-leb, lt-leb, ltb-true, lt-ltb, le-ltb}
+use Rattle.std.specs.Prelude.{Ok, Err, Result}
 use Rattle.basics.proofs.Cases.{by_test, clash}
 use Rattle.basics.proofs.UpTo.{and-false}
+use Rattle.refusal.specs.Ladder.{or_refused}
 use Rattle.refusal.specs.declared.Refusal.TheVariants.{BadSettings, TooManyFaulty}
 use Rattle.register.specs.Settings as register
 use Rattle.state.specs.declared.Settings.{Settings}
 use Rattle.state.specs.State.{settings_of}
 use Rattle.state.proofs.SoundFacts.{Allowed}
-use Rattle.system.specs.declared.setup.Setup.{Setup}
-use Rattle.system.specs.declared.setup.Setup.TheVariants.{Set, Refused}
-use Rattle.system.specs.Setup.{settings_by, unless_refused, setup_of, SetUp, set_up, set_up_by}
+use Rattle.system.specs.Setup.{settings_by, setup_of, SetUp, set_up, set_up_by}
 use Rattle.system.specs.Stored.{Stored}
 
 module _ (f n clients faulty : ℕ) where
@@ -26,26 +26,26 @@ module _ (f n clients faulty : ℕ) where
   abbrev S : register.Settings
   S = settings_of (settings_by f n clients faulty)
 
-  pub over_marks : 2 ^ most_servers ≤ faulty → setup_of f n clients faulty ≡ Refused BadSettings
+  pub over_marks : 2 ^ most_servers ≤ faulty → setup_of f n clients faulty ≡ Err BadSettings
   unfolding setup_of
   over_marks h = rw (le-ltb faulty (2 ^ most_servers) h)
 
   module _ (marks : faulty < 2 ^ most_servers) where
-    pub out_of_range : in_range S ≡ false → setup_of f n clients faulty ≡ Refused BadSettings
+    pub out_of_range : in_range S ≡ false → setup_of f n clients faulty ≡ Err BadSettings
     unfolding setup_of setup_refusal
     out_of_range e = rw (lt-ltb faulty (2 ^ most_servers) marks, e)
 
-    pub over_f : 255 < f → setup_of f n clients faulty ≡ Refused BadSettings
+    pub over_f : 255 < f → setup_of f n clients faulty ≡ Err BadSettings
     unfolding in_range settings_of
     over_f h = out_of_range (rw (lt-leb f most_faulty (omega arith)))
 
-    pub over_n : 255 < n → setup_of f n clients faulty ≡ Refused BadSettings
+    pub over_n : 255 < n → setup_of f n clients faulty ≡ Err BadSettings
     unfolding in_range settings_of
     over_n h =
         out_of_range (rw (and-false (leb f most_faulty && leb (least_servers f) n) (leb n most_servers)
         (lt-leb n most_servers (omega arith))))
 
-    pub over_clients : 255 < clients → setup_of f n clients faulty ≡ Refused BadSettings
+    pub over_clients : 255 < clients → setup_of f n clients faulty ≡ Err BadSettings
     unfolding in_range settings_of
     over_clients h =
         out_of_range
@@ -55,23 +55,23 @@ module _ (f n clients faulty : ℕ) where
 
     module _ (fine : in_range S ≡ true) where
       pub too_many : ltb f (counted (contains faulty) most_servers) ≡ true
-          → setup_of f n clients faulty ≡ Refused TooManyFaulty
+          → setup_of f n clients faulty ≡ Err TooManyFaulty
       unfolding setup_of setup_refusal settings_of
       too_many e = rw (lt-ltb faulty (2 ^ most_servers) marks, fine, e)
 
       pub is_set : ltb f (counted (contains faulty) most_servers) ≡ false
-          → setup_of f n clients faulty ≡ Set (settings_by f n clients faulty)
+          → setup_of f n clients faulty ≡ Ok (settings_by f n clients faulty)
       unfolding setup_of setup_refusal settings_of
       is_set e = rw (lt-ltb faulty (2 ^ most_servers) marks, fine, e)
 
 -- ---- a setup that is accepted
 
-by_refusal : (refusal : Option Refusal) (given settings : Settings) → unless_refused refusal given
-    ≡ Set settings → (refusal ≡ none) × (given ≡ settings)
-by_refusal none given settings h = (refl, (let e : given ≡ settings = cc in e))
-by_refusal (some why) given settings h = clash (cc)
+by_refusal : (refusal : Option Refusal) (given settings : Settings) → or_refused refusal given
+    ≡ Ok settings → (refusal ≡ None) × (given ≡ settings)
+by_refusal None given settings h = (refl, (let e : given ≡ settings = cc in e))
+by_refusal (Some why) given settings h = clash (cc)
 
-pub allowed_set : (f n clients faulty : ℕ) (settings : Settings) → setup_of f n clients faulty ≡ Set settings
+pub allowed_set : (f n clients faulty : ℕ) (settings : Settings) → setup_of f n clients faulty ≡ Ok settings
     → Allowed settings
 unfolding setup_of
 allowed_set f n clients faulty settings h =
@@ -84,28 +84,28 @@ allowed_set f n clients faulty settings h =
 -- ---- what `set_up` leaves
 
 -- the answer is the setup's
-answer_is : (wanted : Setup) (servers clients slots : List ℕ) → (set_up_by wanted servers clients slots).answer
-    ≡ wanted
+answer_is : (wanted : Result Settings Refusal) (servers clients slots : List ℕ)
+    → (set_up_by wanted servers clients slots).answer ≡ wanted
 unfolding set_up_by
-answer_is (Set settings) servers clients slots = refl
-answer_is (Refused why) servers clients slots = refl
+answer_is (Ok settings) servers clients slots = refl
+answer_is (Err why) servers clients slots = refl
 
-module _
-    (wanted : Setup) (servers clients slots : List ℕ) (answer : Setup) (servers' clients' slots' : List ℕ)
+module _ (wanted : Result Settings Refusal) (servers clients slots : List ℕ)
+    (answer : Result Settings Refusal) (servers' clients' slots' : List ℕ)
     (e : set_up answer servers' clients' slots' ≡ set_up_by wanted servers clients slots) where
   pub set_up_answer : answer ≡ wanted
   set_up_answer = ap (λ (z : SetUp). z.answer) e ∙ answer_is wanted servers clients slots
 
   -- where the answer is known
-  known : (told : Setup) → answer ≡ told → set_up answer servers' clients' slots'
+  known : (told : Result Settings Refusal) → answer ≡ told → set_up answer servers' clients' slots'
       ≡ set_up_by told servers clients slots
-  known told is = e ∙ ap (λ (z : Setup). set_up_by z servers clients slots) (sym set_up_answer ∙ is)
+  known told is = e ∙ ap (λ (z : Result Settings Refusal). set_up_by z servers clients slots) (sym set_up_answer ∙ is)
 
   -- accepted: the new world is stored
-  pub set_up_stored : (settings : Settings) → answer ≡ Set settings → Stored new_world servers' clients' slots'
+  pub set_up_stored : (settings : Settings) → answer ≡ Ok settings → Stored new_world servers' clients' slots'
   unfolding set_up_by
   set_up_stored settings is =
-      let left = known (Set settings) is in
+      let left = known (Ok settings) is in
       record {
         servers = ap (λ (z : SetUp). z.servers) left;
         clients = ap (λ (z : SetUp). z.clients) left;
@@ -113,11 +113,11 @@ module _
       }
 
   -- refused: all is as it was
-  pub set_up_kept : (why : Refusal) → answer ≡ Refused why → (servers' ≡ servers) × (clients' ≡ clients)
+  pub set_up_kept : (why : Refusal) → answer ≡ Err why → (servers' ≡ servers) × (clients' ≡ clients)
       × (slots' ≡ slots)
   unfolding set_up_by
   set_up_kept why is =
-      let left = known (Refused why) is in (
+      let left = known (Err why) is in (
         ap (λ (z : SetUp). z.servers) left,
         ap (λ (z : SetUp). z.clients) left,
         ap (λ (z : SetUp). z.slots)

@@ -6,11 +6,11 @@
 -- proofs/Histories.
 -- Assumes nothing.
 use Rattle.std.specs.Prelude.{ℕ, zero, suc, ◌≡◌, List, map, get_or}
-use Rattle.register.specs.declared.Answer.{Answer}
 use Rattle.register.specs.declared.Step.{Step}
 use Rattle.register.specs.declared.Step.TheVariants.{R}
 use Rattle.register.specs.DemandThree.{DemandThreeOf}
 use Rattle.register.specs.Formats.{formats}
+use Rattle.register.specs.World.{StepAnswer}
 use Rattle.register.specs.History.{world_at, answer_at}
 use Rattle.state.specs.declared.Settings.{Settings}
 use Rattle.state.specs.State.{settings_of, step_of}
@@ -47,7 +47,7 @@ module _ (settings : Settings) (start : Memory) (steps : List Step) where
   state_at (suc i) = memory_of (step_from settings (state_at i) (step_at steps i))
 
   -- what step i answers
-  abbrev pub answered_at : ℕ → Answer
+  abbrev pub answered_at : ℕ → StepAnswer
   answered_at i = (step_from settings (state_at i) (step_at steps i)).answer
 
   -- the list's states and answers are those of its history

@@ -2,4 +2,5 @@ pub mod Stored
 pub mod Setup
 pub mod Run
 pub mod Step
+pub mod MakesSteps
 pub mod Along

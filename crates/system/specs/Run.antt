@@ -4,21 +4,21 @@
 -- In order: a step; an answer; how many steps there are; the list; what a run leaves; what it gives for a
 -- setup.
 -- Assumes nothing.
+use Rattle.refusal.specs.declared.Refusal.{Refusal}
 use Rattle.std.specs.Prelude.{ℕ, zero, suc, ◌+◌, ◌-◌, ◌*◌, ◌/◌, ◌^◌, min, ◌≡◌, cond, List, eqb, ltb, length, get_or, set}
+use Rattle.std.specs.Prelude.{Result, Ok, Err}
 use Rattle.basics.specs.Tables.{listed}
 use Rattle.refusal.specs.Numbers.{number_of}
-use Rattle.register.specs.declared.Answer.{Answer}
-use Rattle.register.specs.declared.Answer.TheVariants.{Went, Read, Wrote, Spent, Refused}
+use Rattle.register.specs.declared.Answer.TheVariants.{Went, Read, Wrote, Spent}
 use Rattle.register.specs.declared.Step.{Step}
 use Rattle.register.specs.declared.Step.TheVariants.{R, W, K, D, C, L}
 use Rattle.register.specs.DemandThree.{DemandThreeOf}
 use Rattle.register.specs.Formats.{formats}
+use Rattle.register.specs.World.{StepAnswer}
 use Rattle.register.specs.History.{world_at, answer_at}
 use Rattle.register.specs.Steps as steps
 use Rattle.state.specs.declared.Settings.{Settings}
 use Rattle.state.specs.State.{settings_of, step_of}
-use Rattle.system.specs.declared.setup.Setup.{Setup}
-use Rattle.system.specs.declared.setup.Setup.TheVariants as setup
 use Rattle.system.specs.Stored.{Stored}
 
 -- ---- a step in five numbers: its kind, 0 to 5 for R, W, K, D, C, L, and its arguments; a message is two of
@@ -54,26 +54,26 @@ step_in list i =
 
 -- ---- an answer in two numbers: which it is, and the pair that READ or WROTE shows
 
-abbrev pub code_of : Answer → ℕ
-code_of Went = 0
-code_of (Read pair) = 1
-code_of (Wrote pair) = 2
-code_of Spent = 3
-code_of (Refused why) = 16 + number_of why
+abbrev pub code_of : StepAnswer → ℕ
+code_of (Ok Went) = 0
+code_of (Ok (Read pair)) = 1
+code_of (Ok (Wrote pair)) = 2
+code_of (Ok Spent) = 3
+code_of (Err why) = 16 + number_of why
 
-abbrev pub shown_by : Answer → ℕ
-shown_by Went = 0
-shown_by (Read pair) = pair.0
-shown_by (Wrote pair) = pair.0
-shown_by Spent = 0
-shown_by (Refused why) = 0
+abbrev pub shown_by : StepAnswer → ℕ
+shown_by (Ok Went) = 0
+shown_by (Ok (Read pair)) = pair.0
+shown_by (Ok (Wrote pair)) = pair.0
+shown_by (Ok Spent) = 0
+shown_by (Err why) = 0
 
 -- the answers of the first n steps, written over what memory held
-abbrev pub put_answer : List ℕ → ℕ → Answer → List ℕ
+abbrev pub put_answer : List ℕ → ℕ → StepAnswer → List ℕ
 put_answer out i answer =
     let at = i * answer_numbers in set (set out at (code_of answer)) (at + 1) (shown_by answer)
 
-unfoldable pub answered : (ℕ → Answer) → List ℕ → ℕ → List ℕ
+unfoldable pub answered : (ℕ → StepAnswer) → List ℕ → ℕ → List ℕ
 answered answers out zero = out
 answered answers out (suc n) = put_answer (answered answers out n) n (answers n)
 
@@ -94,9 +94,9 @@ pub record Run (settings : Settings) (list out : List ℕ) (n i : ℕ)
   pub answers : written ≡ answered (answer_at (settings_of settings) formats (steps_in list n)) out i
 
 -- an accepted setup: the whole run, and demand 3; a refused one leaves lent memory as it was
-abbrev pub Outcome : Setup → (list out servers clients slots servers' clients' slots' out' : List ℕ) → Type 0
-Outcome (setup.Set settings) list out servers clients slots servers' clients' slots' out' =
+abbrev pub Outcome : Result Settings Refusal → (list out servers clients slots servers' clients' slots' out' : List ℕ) → Type 0
+Outcome (Ok settings) list out servers clients slots servers' clients' slots' out' =
     Run settings list out (how_many list out) (how_many list out) servers' clients' slots' out'
     × DemandThreeOf (settings_of settings) (steps_in list (how_many list out))
-Outcome (setup.Refused why) list out servers clients slots servers' clients' slots' out' =
+Outcome (Err why) list out servers clients slots servers' clients' slots' out' =
     (servers' ≡ servers) × (clients' ≡ clients) × (slots' ≡ slots) × (out' ≡ out)

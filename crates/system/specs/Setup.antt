@@ -3,48 +3,43 @@
 -- In order: the settings; what a setup answers; the memory that it leaves.
 -- Assumes nothing.
 use Rattle.std.specs.Prelude.{ℕ, ◌^◌, cond, List, ltb}
-use Rattle.std.proofs.Math.Option.{Option, none, some}
+use Rattle.std.specs.Prelude.{Some, Result, Ok, Err}
 use Rattle.refusal.specs.declared.Refusal.{Refusal}
+use Rattle.refusal.specs.Ladder.{or_refused}
 use Rattle.refusal.specs.Numbers.{numbered}
 use Rattle.register.specs.Settings.{most_servers, setup_refusal}
 use Rattle.register.specs.World.{new_world}
 use Rattle.state.specs.declared.Settings.{Settings}
 use Rattle.state.specs.State.{settings_of, store_servers, store_clients, store_slots}
-use Rattle.system.specs.declared.setup.Setup.{Setup}
-use Rattle.system.specs.declared.setup.Setup.TheVariants.{Set, Refused}
 
 -- f, n, the number of clients, and the marks as bits, server k's bit k - 1
 abbrev pub settings_by : ℕ → ℕ → ℕ → ℕ → Settings
 settings_by f n clients faulty = record { f = f; n = n; clients = clients; faulty = faulty }
 
--- 01's answer: SET with the settings, or REFUSED 1, 'no such room', or 2, 'too many liars'
-abbrev pub unless_refused : Option Refusal → Settings → Setup
-unless_refused none settings = Set settings
-unless_refused (some why) settings = Refused why
-
--- a mark beyond the 13 is one beyond n
-unfoldable pub setup_of : ℕ → ℕ → ℕ → ℕ → Setup
+-- SET with the settings, or REFUSED 1, 'no such room', or 2, 'too many liars'; a mark beyond the 13 is one
+-- beyond n
+unfoldable pub setup_of : ℕ → ℕ → ℕ → ℕ → Result Settings Refusal
 setup_of f n clients faulty =
-    unless_refused
+    or_refused
     (cond (ltb faulty (2 ^ most_servers)) (setup_refusal (settings_of (settings_by f n clients faulty)))
-    (some (numbered 1)))
+    (Some (numbered 1)))
     (settings_by f n clients faulty)
 
 -- ---- the memory
 
 -- the answer of a setup, and the memory behind it
 pub record SetUp : Type 0 where
-  pub answer : Setup
+  pub answer : Result Settings Refusal
   pub servers : List ℕ
   pub clients : List ℕ
   pub slots : List ℕ
 
-abbrev pub set_up : Setup → List ℕ → List ℕ → List ℕ → SetUp
+abbrev pub set_up : Result Settings Refusal → List ℕ → List ℕ → List ℕ → SetUp
 set_up answer servers clients slots =
     record { answer = answer; servers = servers; clients = clients; slots = slots }
 
 -- an accepted setup leaves the new world, which is stored as zeros; a refused one leaves all as it was
-unfoldable pub set_up_by : Setup → List ℕ → List ℕ → List ℕ → SetUp
-set_up_by (Set settings) servers clients slots =
-    set_up (Set settings) (store_servers new_world) (store_clients new_world) (store_slots new_world)
-set_up_by (Refused why) servers clients slots = set_up (Refused why) servers clients slots
+unfoldable pub set_up_by : Result Settings Refusal → List ℕ → List ℕ → List ℕ → SetUp
+set_up_by (Ok settings) servers clients slots =
+    set_up (Ok settings) (store_servers new_world) (store_clients new_world) (store_slots new_world)
+set_up_by (Err why) servers clients slots = set_up (Err why) servers clients slots

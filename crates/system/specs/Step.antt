@@ -4,17 +4,15 @@
 -- In order: what a step gives; a step; any bytes as the message of L. That a step of a sound state is the
 -- model's event, stored, is in proofs/Refusals; that it keeps a state sound, in proofs/Histories.
 -- Assumes nothing.
-use Rattle.std.specs.Prelude.{ℕ, ◌^◌, cond, List, eqb, length}
+use Rattle.std.specs.Prelude.{ℕ, ◌^◌, cond, List, eqb, length, Err}
 use Rattle.basics.specs.Bytes.{spelt}
 use Rattle.refusal.specs.Numbers.{numbered}
 use Rattle.message.specs.declared.Words.{Words}
 use Rattle.message.specs.Layout.{message_bytes, words, head_bits}
-use Rattle.register.specs.declared.Answer.TheVariants.{Refused}
 use Rattle.register.specs.declared.Step.{Step}
-use Rattle.register.specs.declared.Answer.{Answer}
 use Rattle.register.specs.Formats.{formats}
 use Rattle.register.specs.Steps.{refusal_of, accepted}
-use Rattle.register.specs.World.{World, Event, apply, answer_of}
+use Rattle.register.specs.World.{World, Event, StepAnswer, apply, answer_of}
 use Rattle.state.specs.declared.Settings.{Settings}
 use Rattle.state.specs.Sound.{is_sound}
 use Rattle.state.specs.State.{settings_of, step_of, store_servers, store_clients, store_slots, view}
@@ -32,11 +30,11 @@ stored_by settings world event =
 unfoldable pub stepped : Settings → List ℕ → List ℕ → List ℕ → Step → After
 stepped settings servers clients slots asked =
     let world = view servers clients slots in
-    let kept : Answer → After = λ answer. after answer servers clients slots in
+    let kept : StepAnswer → After = λ answer. after answer servers clients slots in
     cond (is_sound settings servers clients slots)
     (unless (refusal_of (settings_of settings) formats world (step_of asked)) kept
     (stored_by settings world (accepted (settings_of settings) formats world (step_of asked))))
-    (kept (Refused (numbered 3)))
+    (kept (Err (numbered 3)))
 
 -- ---- a message of L
 

@@ -5,12 +5,13 @@ ghost use Rattle.system.specs.Setup.{setup_of};
 ghost use Rattle.state.specs.Sound.{are_allowed};
 ghost use Rattle.system.specs.Stored.{Stored};
 ghost use Rattle.system.specs.Run.{step_numbers, answer_numbers};
-ghost use Rattle.system.specs.Run.{clamped, step_by, step_in, code_of, shown_by, put_answer, Run, Outcome};
+ghost use Rattle.system.specs.Run.{clamped, step_by, step_in, code_of, shown_by, put_answer, how_many, Run, Outcome};
+ghost use Rattle.system.specs.MakesSteps.{MakesSteps};
 
-use crate::setup::{Setup, set_up};
-use basics::least;
+use crate::setup::set_up;
 use channel::Slots;
 use message::{Entry, Words};
+use refusal::Refusal;
 use register::{Answer, Step};
 use state::{Clients, Servers, Settings};
 use steps::step::make_step;
@@ -20,9 +21,6 @@ pub const STEP: usize = 5;
 
 pub const ANSWER: usize = 2;
 
-// The first number that has no room in 32 bits.
-const OVER: u64 = 4294967296;
-
 // What a refusal's number is added to.
 const REFUSED: u64 = 16;
 
@@ -30,14 +28,11 @@ const REFUSED: u64 = 16;
 fn clamp(number: u64) -> u32
     ensures { result ≡ clamped number }
 {
-    if number < OVER {
-        number as u32
-    } else {
-        u32::MAX
-    }
+    u32::try_from(number).unwrap_or(u32::MAX)
 }
 
-// The step of a kind and its four arguments. Another kind is R 0, which every state refuses.
+// The step of a kind and its four arguments. Another kind is R 0, which every state refuses. The kinds are numbers
+// because a list of steps comes from other languages as numbers (`exports_run`).
 fn step_of(kind: u64, first: u64, second: u64, high: u64, low: u64) -> Step
     ensures { result ≡ step_by kind first second high low }
 {
@@ -68,33 +63,30 @@ pub fn step_in(steps: &[u64], i: usize) -> Step
 }
 
 // Which answer it is.
-fn code(answer: Answer) -> u64
+fn code(answer: Result<Answer, Refusal>) -> u64
     ensures { result ≡ code_of answer }
 {
     match answer {
-        Answer::Went => 0,
-        Answer::Read(_) => 1,
-        Answer::Wrote(_) => 2,
-        Answer::Spent => 3,
-        Answer::Refused(why) => REFUSED + refusal::number(why) as u64,
+        Ok(Answer::Went) => 0,
+        Ok(Answer::Read(_)) => 1,
+        Ok(Answer::Wrote(_)) => 2,
+        Ok(Answer::Spent) => 3,
+        Err(why) => REFUSED + u8::from(why) as u64,
     }
 }
 
 // The pair that READ or WROTE shows.
-fn shown(answer: Answer) -> u64
+fn shown(answer: Result<Answer, Refusal>) -> u64
     ensures { result ≡ shown_by answer }
 {
     match answer {
-        Answer::Went => 0,
-        Answer::Read(pair) => pair.0,
-        Answer::Wrote(pair) => pair.0,
-        Answer::Spent => 0,
-        Answer::Refused(_) => 0,
+        Ok(Answer::Read(pair) | Answer::Wrote(pair)) => pair.0,
+        Ok(Answer::Went | Answer::Spent) | Err(_) => 0,
     }
 }
 
 // Writes the answer of step i in its two places.
-pub fn write_answer(out: &mut [u64], i: usize, answer: Answer)
+pub fn write_answer(out: &mut [u64], i: usize, answer: Result<Answer, Refusal>)
     requires { i * answer_numbers + answer_numbers ≤ length out.old }
     ensures { out.new ≡ put_answer out.old i answer }
 {
@@ -103,31 +95,62 @@ pub fn write_answer(out: &mut [u64], i: usize, answer: Answer)
     out[at + 1] = shown(answer);
 }
 
-// The steps one after the other, each on the memory that the one before it left.
-fn step_all(
+// The steps one after the other, each on the memory that the one before it left: as many as there are whole, and as
+// there is room for answers.
+fn step_all<
+    F: Fn(Settings, Step, &mut Servers, &mut Clients, &mut Slots) -> Result<Answer, Refusal>,
+>(
+    make: F,
     settings: Settings,
     steps: &[u64],
-    n: usize,
     out: &mut [u64],
     servers: &mut Servers,
     clients: &mut Clients,
     slots: &mut Slots,
 )
-    requires { (are_allowed settings ≡ true) × Stored new_world servers.old clients.old slots.old
-        × (n * step_numbers ≤ length steps.now) × (n * answer_numbers ≤ length out.old) }
-    ensures { Run settings steps.now out.old n n
-        servers.new clients.new slots.new out.new }
+    requires makes { MakesSteps (F.pre make) (F.post make) }
+    requires allowed { are_allowed settings ≡ true }
+    requires new { Stored new_world servers.old clients.old slots.old }
+    ensures { let n = how_many steps.now out.old in
+        Run settings steps.now out.old n n servers.new clients.new slots.new out.new }
 {
-    let mut i = 0;
-    while i < n {
-        let answer = make_step(settings, step_in(steps, i), servers, clients, slots);
+    let many = (steps.len() / STEP).min(out.len() / ANSWER);
+    for i in 0..many {
+        let answer = make(settings, step_in(steps, i), servers, clients, slots);
         write_answer(out, i, answer);
-        i += 1;
     }
 }
 
-// A run from a setup. Five numbers a step, two an answer; as many steps as both have room for. A refused
-// setup changes nothing.
+// A run from a setup, each step made by `make`. Five numbers a step, two an answer; as many steps as both have room
+// for. A refused setup changes nothing.
+pub fn run_by<
+    F: Fn(Settings, Step, &mut Servers, &mut Clients, &mut Slots) -> Result<Answer, Refusal>,
+>(
+    make: F,
+    f: u32,
+    n: u32,
+    count: u32,
+    faulty: u32,
+    steps: &[u64],
+    out: &mut [u64],
+    servers: &mut Servers,
+    clients: &mut Clients,
+    slots: &mut Slots,
+) -> Result<Settings, Refusal>
+    requires { MakesSteps (F.pre make) (F.post make) }
+    ensures { (result ≡ setup_of f n count faulty)
+        × Outcome (setup_of f n count faulty) steps.now out.old
+        servers.old clients.old slots.old
+        servers.new clients.new slots.new out.new }
+{
+    let setup = set_up(f, n, count, faulty, servers, clients, slots);
+    if let Ok(settings) = setup {
+        step_all(make, settings, steps, out, servers, clients, slots);
+    }
+    setup
+}
+
+// A run whose steps are not tested: its state stays its own.
 pub fn run(
     f: u32,
     n: u32,
@@ -138,19 +161,13 @@ pub fn run(
     servers: &mut Servers,
     clients: &mut Clients,
     slots: &mut Slots,
-) -> Setup
+) -> Result<Settings, Refusal>
     ensures { (result ≡ setup_of f n count faulty)
         × Outcome (setup_of f n count faulty) steps.now out.old
         servers.old clients.old slots.old
         servers.new clients.new slots.new out.new }
 {
-    let setup = set_up(f, n, count, faulty, servers, clients, slots);
-    match setup {
-        Setup::Refused(_) => {}
-        Setup::Set(settings) => {
-            let many = least(steps.len() / STEP, out.len() / ANSWER);
-            step_all(settings, steps, many, out, servers, clients, slots);
-        }
-    }
-    setup
+    run_by(
+        make_step, f, n, count, faulty, steps, out, servers, clients, slots,
+    )
 }

@@ -16,23 +16,25 @@ const NO_WORD: u32 = 1 << (8 * HEAD_BYTES);
 
 // One step. An unsound state is refused (3); a refusal leaves the memory as it was. The memory does not
 // hold the settings: a caller gives those of the setup at each call.
+#[tactic(auto, unfolding(crate::specs::Step::stepped))]
 pub fn step(
     settings: Settings,
     asked: Step,
     servers: &mut Servers,
     clients: &mut Clients,
     slots: &mut Slots,
-) -> Answer
+) -> Result<Answer, Refusal>
     ensures { after result servers.new clients.new slots.new
         ≡ stepped settings servers.old clients.old slots.old asked }
 {
     if !state::sound::is_sound(settings, servers, clients, slots) {
-        return Answer::Refused(Refusal::Unsound);
+        return Err(Refusal::Unsound);
     }
     make_step(settings, asked, servers, clients, slots)
 }
 
 // Any bytes as the message of L: eleven as two words, and for all others words that stand for none.
+#[tactic(auto, unfolding(crate::specs::Step::words_in))]
 pub fn lie_words(bytes: &[u8]) -> Words
     ensures { result ≡ words_in bytes.now }
 {

@@ -6,7 +6,7 @@ use Rattle.calendar.proofs.Dates.{Real, real}
 use Rattle.calendar.proofs.Lengths.{first_most}
 use Rattle.calendar.proofs.day_number.Goals as goal
 
-is_real : (c : goal.Else-not-is_date) → Real c.args.year c.args.month c.args.day
+is_real : (c : goal.Else-not-is_date) → Real c.args.given.year c.args.given.month c.args.given.day
 is_real c = real (sym c.is_date.ensures ∙ c.if-not-is_date.false)
 
 pub returns : goal.returns
@@ -36,10 +36,10 @@ pub days_before-before-requires : goal.days_before-before-requires
 days_before-before-requires c = omega (arith, is_real c.before.before)
 
 pub overflow_add-result : goal.overflow_add-result
-overflow_add-result c = omega (arith, is_real c.before.before.before, first_most (c.args.year - first_year))
+overflow_add-result c = omega (arith, is_real c.before.before.before, first_most (c.args.given.year - first_year))
 
 pub overflow_sub-result : goal.overflow_sub-result
 overflow_sub-result c = omega (arith, is_real c.before.before.before)
 
 pub overflow_add-result-2 : goal.overflow_add-result-2
-overflow_add-result-2 c = omega (arith, is_real c.before.before.before, first_most (c.args.year - first_year))
+overflow_add-result-2 c = omega (arith, is_real c.before.before.before, first_most (c.args.given.year - first_year))

@@ -6,7 +6,7 @@ use Rattle.calendar.proofs.is_date.Goals as goal
 
 pub returns : goal.returns
 returns c =
-    let a = c.args in
+    let a = c.args.given in
     let e : leb a.day c.month_length.result ≡ leb a.day (month_length (leap a.year) a.month) = cc in
     e ∙ sym (last_test (omega arith) (omega arith) (omega arith) (omega arith) (omega arith))
 

@@ -32,4 +32,4 @@ returns c =
     rw (lt-ltb a.second (2 ^ pair_bits) (search rules))
     (way c.is_reply.result a.down
     ∙ ap (λ (reply : Bool). cond a.down reply (not reply)) c.is_reply.ensures
-    ∙ ap (goes a.down) (sym c.in-Good.is ∙ c.of_words.ensures))
+    ∙ ap (goes a.down) (sym c.in-Ok.is ∙ c.of_words.ensures))

@@ -1,18 +1,9 @@
--- `channel::zero`: the numbers passed are zeroed, and at the end all are. Assumes nothing.
-use Rattle.basics.proofs.Prelude.{◌≡◌, refl, add-one, arith, rules}
-use Rattle.channel.specs.Memory.{filled}
+-- `channel::zero`: the part that is filled with zeros. Assumes nothing.
+use Rattle.basics.proofs.Prelude.{arith, rules}
+use Rattle.channel.proofs.Filled.{zeroed_part}
 use Rattle.channel.proofs.zero.Goals as goal
 
-pub loop-j-init : goal.loop-j-init
-unfolding filled
-loop-j-init c = (search rules, refl)
-
-pub loop-j-preserved : goal.loop-j-preserved
-unfolding filled
-loop-j-preserved c = (omega arith, rw (c.loop-j.invariant.1, add-one))
-
 pub returns : goal.returns
-unfolding filled
 returns c =
-    let e : c.loop-j.j ≡ c.args.n = omega arith in
-    rw (c.loop-j.invariant.1, e)
+    zeroed_part c.args.slots.now c.args.at c.args.n _ (omega arith) (omega arith)
+    (c.fill.ensures.after (λ y e. search rules))

@@ -1,20 +1,16 @@
--- `channel::zeros`: `joined` is zero where the numbers passed are. Assumes nothing.
-use Rattle.basics.proofs.Prelude.{◌≡◌, refl, ◌∙◌, add-one, arith, rules}
-use Rattle.basics.specs.Tests.{all_below}
-use Rattle.channel.proofs.Passing.{or_zero}
+-- `channel::zeros`: the fold joins the numbers of the part. Assumes nothing.
+use Rattle.basics.proofs.Prelude.{◌∙◌, ap, ℕ, eqb, arith, rules}
+use lib.Bits.{bit_or}
+use Rattle.std.proofs.lemmas.Iterator.{YieldsList-from_slice}
+use Rattle.std.proofs.lemmas.Iterator.Consumers.{fold_from_yields_List}
+use Rattle.channel.proofs.Passing.{joined_zero}
 use Rattle.channel.proofs.zeros.Goals as goal
 
-pub loop-j-init : goal.loop-j-init
-unfolding all_below
-loop-j-init c = (search rules, refl)
-
-pub loop-j-preserved : goal.loop-j-preserved
-unfolding all_below
-loop-j-preserved c =
-    (omega arith, rw add-one (or_zero c.loop-j.joined _ ∙ rw c.loop-j.invariant.1))
-
 pub returns : goal.returns
-unfolding all_below
 returns c =
-    let e : c.loop-j.j ≡ c.args.n = omega arith in
-    rw (← e) c.loop-j.invariant.1
+    let whole =
+    fold_from_yields_List _ bit_or 0 c.fold.result c.fold.ensures.ran
+    (YieldsList-from_slice _ c.iter-all.ensures.rest)
+    (λ a x b q k. search rules) in
+    ap (λ (joined : ℕ). eqb joined 0) whole
+    ∙ joined_zero c.args.slots.now c.args.at c.args.n _ (omega arith) (omega arith)

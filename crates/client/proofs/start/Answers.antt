@@ -8,12 +8,14 @@ use Rattle.client.proofs.start.Goals as goal
 
 pub returns-then-not-is_sound : goal.returns-then-not-is_sound
 returns-then-not-is_sound c =
-    start_refused c.args.number c.args.n c.args.f c.args.memory.now c.args.phase c.args.licensed _ _ c.refuse.ensures
+    let a = c.args in
+    start_refused a.number a.n a.f a.memory.now a.phase a.licensed _
     (stop (rung _ _ _ c.is_sound.ensures (no c.if-not-is_sound.true)))
 
 pub returns-then-not-is_client : goal.returns-then-not-is_client
 returns-then-not-is_client c =
-    start_refused c.args.number c.args.n c.args.f c.args.memory.now c.args.phase c.args.licensed _ _ c.refuse-then-not-is_client.ensures
+    let a = c.args in
+    start_refused a.number a.n a.f a.memory.now a.phase a.licensed _
     (next (rung _ _ _ c.is_sound.ensures (yes c.if-not-is_sound.false))
     (stop (rung _ _ _ c.is_client.ensures (no c.if-not-is_client.true))))
 
@@ -22,38 +24,42 @@ load-client-requires c = long _ _ _ _ c.is_sound.ensures c.if-not-is_sound.false
 
 pub returns-then-not-is_idle : goal.returns-then-not-is_idle
 returns-then-not-is_idle c =
-    start_refused c.args.number c.args.n c.args.f c.args.memory.now c.args.phase c.args.licensed _ _ c.refuse-then-not-is_idle.ensures
+    let a = c.args in
+    start_refused a.number a.n a.f a.memory.now a.phase a.licensed _
     (next (rung _ _ _ c.is_sound.ensures (yes c.if-not-is_sound.false))
     (next (rung _ _ _ c.is_client.ensures (yes c.if-not-is_client.false))
     (next refl
-    (stop (idle_rung _ _ _ _ c.args.memory.now _ _ c.load-client.ensures c.is_idle.ensures (no c.if-not-is_idle.true))))))
+    (stop (idle_rung _ _ _ _ a.memory.now _ _ c.load-client.ensures c.is_idle.ensures (no c.if-not-is_idle.true))))))
 
 pub returns-then-not-licensed : goal.returns-then-not-licensed
 returns-then-not-licensed c =
-    start_refused c.args.number c.args.n c.args.f c.args.memory.now c.args.phase c.args.licensed _ _ c.refuse-then-not-licensed.ensures
+    let a = c.args in
+    start_refused a.number a.n a.f a.memory.now a.phase a.licensed _
     (next (rung _ _ _ c.is_sound.ensures (yes c.if-not-is_sound.false))
     (next (rung _ _ _ c.is_client.ensures (yes c.if-not-is_client.false))
     (next refl
-    (next (idle_rung _ _ _ _ c.args.memory.now _ _ c.load-client.ensures c.is_idle.ensures (yes c.if-not-is_idle.false))
+    (next (idle_rung _ _ _ _ a.memory.now _ _ c.load-client.ensures c.is_idle.ensures (yes c.if-not-is_idle.false))
     (stop (no c.if-not-licensed.true))))))
 
 pub returns-then-is_last_read : goal.returns-then-is_last_read
 returns-then-is_last_read c =
-    start_refused c.args.number c.args.n c.args.f c.args.memory.now c.args.phase c.args.licensed _ _ c.refuse-then-is_last_read.ensures
+    let a = c.args in
+    start_refused a.number a.n a.f a.memory.now a.phase a.licensed _
     (next (rung _ _ _ c.is_sound.ensures (yes c.if-not-is_sound.false))
     (next (rung _ _ _ c.is_client.ensures (yes c.if-not-is_client.false))
     (next refl
-    (next (idle_rung _ _ _ _ c.args.memory.now _ _ c.load-client.ensures c.is_idle.ensures (yes c.if-not-is_idle.false))
+    (next (idle_rung _ _ _ _ a.memory.now _ _ c.load-client.ensures c.is_idle.ensures (yes c.if-not-is_idle.false))
     (next (yes c.if-not-licensed.false)
-    (stop (reads_rung _ _ _ _ c.args.memory.now _ _ c.load-client.ensures c.is_last_read.ensures c.if-is_last_read.true)))))))
+    (stop (reads_rung _ _ _ _ a.memory.now _ _ c.load-client.ensures c.is_last_read.ensures c.if-is_last_read.true)))))))
 
 pub returns : goal.returns
 returns c =
-    start_done c.args.number c.args.n c.args.f c.args.memory.now c.args.phase c.args.licensed _ c.begin.ensures
+    let a = c.args in
+    start_done a.number a.n a.f a.memory.now a.phase a.licensed _ c.begin.ensures
     (next (rung _ _ _ c.is_sound.ensures (yes c.if-not-is_sound.false))
     (next (rung _ _ _ c.is_client.ensures (yes c.if-not-is_client.false))
     (next refl
-    (next (idle_rung _ _ _ _ c.args.memory.now _ _ c.load-client.ensures c.is_idle.ensures (yes c.if-not-is_idle.false))
+    (next (idle_rung _ _ _ _ a.memory.now _ _ c.load-client.ensures c.is_idle.ensures (yes c.if-not-is_idle.false))
     (next (yes c.if-not-licensed.false)
-    (next (reads_rung _ _ _ _ c.args.memory.now _ _ c.load-client.ensures c.is_last_read.ensures c.if-is_last_read.false)
+    (next (reads_rung _ _ _ _ a.memory.now _ _ c.load-client.ensures c.is_last_read.ensures c.if-is_last_read.false)
     (next refl end)))))))

@@ -1,7 +1,7 @@
 -- `join`: the fields of a licence are within their widths, as `packed` asks.
 -- Assumes nothing.
 use Rattle.basics.proofs.Prelude.{sym, ap, ◌∙◌, rules}
-use Rattle.licence.specs.declared.Joined.{Joined}
+use Rattle.std.specs.Prelude.{Ok}
 use Rattle.licence.specs.Entry.{joined_of}
 use Rattle.licence.proofs.Licensed.{narrow}
 use Rattle.licence.proofs.join.Goals as goal
@@ -16,4 +16,4 @@ packed-requires c = narrow c.args.fields (sym c.is_licensed.ensures ∙ c.if-not
 pub returns : goal.returns
 unfolding joined_of
 returns c =
-    simp (sym c.is_licensed.ensures ∙ c.if-not-is_licensed.false) (ap Joined.Entry c.packed.ensures)
+    simp (sym c.is_licensed.ensures ∙ c.if-not-is_licensed.false) (ap Ok c.packed.ensures)

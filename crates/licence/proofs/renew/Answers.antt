@@ -2,9 +2,9 @@
 -- year up to the last.
 -- Assumes nothing.
 use Rattle.basics.proofs.Prelude.{◌≡◌, sym, ap, ◌∙◌, subst, ℕ, ◌+◌, arith, le-leb, lt-leb, rules}
+use Rattle.std.specs.Prelude.{Ok}
 use Rattle.calendar.specs.Calendar.{last_year}
 use Rattle.licence.specs.declared.Fields.{Fields}
-use Rattle.licence.specs.declared.Renewal.{Renewal}
 use Rattle.licence.specs.Entry.{fields_of, joined, is_licensed, Narrow}
 use Rattle.licence.specs.Renewal.{span, most_years, is_renewable, renewed_of}
 use Rattle.licence.proofs.Entries.{entry_fields}
@@ -55,4 +55,4 @@ returns c =
       le-leb c.args.years most_years (omega arith),
       le-leb ((fields_of c.args.entry).year + span c.args.years) last_year (omega (arith, year)),
     )
-    (ap Renewal.Entry (c.packed.ensures ∙ ap joined (c.moved.ensures ∙ cc (year, split))))
+    (ap Ok (c.packed.ensures ∙ ap joined (c.moved.ensures ∙ cc (year, split))))

@@ -19,10 +19,10 @@ room number i h k =
 
 pub loop-i-init : goal.loop-i-init
 unfolding spelt
-loop-i-init c = (omega arith, omega arith, refl)
+loop-i-init c = (omega arith, refl)
 
 pub push-number-requires : goal.push-number-requires
-push-number-requires c = room c.loop-i.number c.loop-i.i (omega arith) c.loop-i.invariant.1
+push-number-requires c = room c.loop-i.number c.loop-i.i (omega arith) c.loop-i.invariant.0
 
 pub loop-i-preserved : goal.loop-i-preserved
 loop-i-preserved c =
@@ -30,9 +30,8 @@ loop-i-preserved c =
     let l = c.loop-i in
     let b = get_or a.bytes.now (a.at + l.i) 0 in
     let byte : b < 256 = omega (arith, c.type_inv.bytes (a.at + l.i)) in (
-      omega arith,
-      rw c.push-number.ensures (more l.number b l.i l.invariant.1 byte),
-      c.push-number.ensures ∙ ap (λ (x : ℕ). x * 256 + b) l.invariant.2
+      rw c.push-number.ensures (more l.number b l.i l.invariant.0 byte),
+      c.push-number.ensures ∙ ap (λ (x : ℕ). x * 256 + b) l.invariant.1
           ∙ sym (rw (add-one l.i) (spelt_more a.bytes.now a.at l.i (omega arith))),
     )
 
@@ -42,5 +41,5 @@ returns c =
     let all : l.i ≡ c.args.count = omega arith in
     let rest = drop c.args.at c.args.bytes.now in
     let both = subst (λ (n : ℕ). (l.number < 256 ^ n) × (l.number ≡ spelt 0 (take n rest))) all
-    (l.invariant.1, l.invariant.2) in
+    (l.invariant.0, l.invariant.1) in
     record { within = both.0; spelt = both.1 }

@@ -9,7 +9,7 @@
 -- write of step 16, which ended before the read began, stands before it, and so before the write of step 0.
 -- Assumes nothing.
 use Rattle.register.proofs.Vocabulary.{count_below, all_below, Read, Wrote, Settings, Accepted, in_range}
-use Rattle.register.proofs.Vocabulary.{setup_refusal, Step, R, W, K, D, L, formats}
+use Rattle.register.proofs.Vocabulary.{setup_refusal, Step, R, W, K, D, L, formats, Ok}
 use Rattle.basics.proofs.Prelude.{◌≡◌, refl, List, [], ◌∷◌, ◌++◌, ℕ, eqb}
 use Rattle.register.proofs.Runs.{answers, went, the_entry, pair_by_1, pair_by_2}
 
@@ -50,6 +50,6 @@ abbrev pub late : List Step
 late = R 3 ∷ K 1 3 ∷ K 1 3 ∷ K 2 3 ∷ K 2 3 ∷ L 4 3 (info 2) ∷ D 3 1 ∷ D 3 2 ∷ D 3 2 ∷ D 3 4 ∷ []
 
 disagree : answers four formats (first ++ early ++ second ++ late)
-    ≡ went 15 ++ Read pair_by_2 ∷ went 14 ++ Wrote pair_by_1 ∷ went 9 ++ Read pair_by_2 ∷ []
+    ≡ went 15 ++ Ok (Read pair_by_2) ∷ went 14 ++ Ok (Wrote pair_by_1) ∷ went 9 ++ Ok (Read pair_by_2) ∷ []
 unfolding answers
 disagree = refl

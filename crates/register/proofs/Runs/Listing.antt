@@ -2,7 +2,7 @@
 -- with their answers.
 -- Assumes nothing.
 use Rattle.basics.proofs.Prelude.{◌≡◌, refl, false, List, [], ◌∷◌}
-use Rattle.register.proofs.Vocabulary.{count_below, all_below, Went, Read, Wrote, Settings, Accepted}
+use Rattle.register.proofs.Vocabulary.{count_below, all_below, Went, Read, Wrote, Settings, Accepted, Ok}
 use Rattle.register.proofs.Vocabulary.{in_range, setup_refusal, Step, R, W, K, D, formats}
 use Rattle.register.proofs.Runs.{answers, the_entry, pair_by_1}
 
@@ -18,6 +18,6 @@ abbrev steps : List Step
 steps = W 1 the_entry ∷ K 1 1 ∷ D 1 1 ∷ K 1 1 ∷ K 1 1 ∷ D 1 1 ∷ R 1 ∷ K 1 1 ∷ D 1 1 ∷ []
 
 listing : answers alone formats steps
-    ≡ Went ∷ Went ∷ Went ∷ Went ∷ Went ∷ Wrote pair_by_1 ∷ Went ∷ Went ∷ Read pair_by_1 ∷ []
+    ≡ Ok Went ∷ Ok Went ∷ Ok Went ∷ Ok Went ∷ Ok Went ∷ Ok (Wrote pair_by_1) ∷ Ok Went ∷ Ok Went ∷ Ok (Read pair_by_1) ∷ []
 unfolding answers
 listing = refl

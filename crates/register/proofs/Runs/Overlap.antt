@@ -7,7 +7,7 @@
 -- third. Client 2 has the initial pair of server 1, then the new pair by FWD; with the new pair from
 -- servers 2 and 4 it shows it, before the write has ended.
 -- Assumes nothing.
-use Rattle.register.proofs.Vocabulary.{count_below, all_below, Went, Read, Wrote, Refused, Settings}
+use Rattle.register.proofs.Vocabulary.{count_below, all_below, Went, Read, Wrote, Settings, Ok, Err}
 use Rattle.register.proofs.Vocabulary.{Accepted, in_range, setup_refusal, Step, R, W, K, D, C, L}
 use Rattle.register.proofs.Vocabulary.{formats}
 use Rattle.basics.proofs.Prelude.{◌≡◌, refl, List, [], ◌∷◌, ◌++◌, ℕ, zero, suc, ◌+◌, ◌*◌, eqb}
@@ -46,11 +46,11 @@ refused =
     ∷ R 2 ∷ []
 
 overlap : answers four formats (begun ++ shown ++ stored_by_all ++ refused)
-    ≡ went 20 ++ Read pair_by_1 ∷ went 4 ++ Wrote pair_by_1 ∷ Went ∷ Refused (numbered 6)
-    ∷ Refused (numbered 4)
-    ∷ Refused (numbered 5) ∷ Refused (numbered 5) ∷ Refused (numbered 8) ∷ Refused (numbered 9)
-    ∷ Refused (numbered 10) ∷ Went
-    ∷ Refused (numbered 7) ∷ []
+    ≡ went 20 ++ Ok (Read pair_by_1) ∷ went 4 ++ Ok (Wrote pair_by_1) ∷ Ok Went ∷ Err (numbered 6)
+    ∷ Err (numbered 4)
+    ∷ Err (numbered 5) ∷ Err (numbered 5) ∷ Err (numbered 8) ∷ Err (numbered 9)
+    ∷ Err (numbered 10) ∷ Ok Went
+    ∷ Err (numbered 7) ∷ []
 unfolding answers
 overlap = refl
 
@@ -59,6 +59,6 @@ abbrev lies : ℕ → List Step
 lies zero = []
 lies (suc n) = L 4 2 (info 1 1) ∷ lies n
 
-ninth : answers four formats (lies 9) ≡ went 8 ++ Refused (numbered 12) ∷ []
+ninth : answers four formats (lies 9) ≡ went 8 ++ Err (numbered 12) ∷ []
 unfolding answers
 ninth = refl

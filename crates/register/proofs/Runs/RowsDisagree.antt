@@ -9,13 +9,13 @@
 use Rattle.basics.proofs.Prelude.{◌≡◌, refl, sym, ap, ◌∙◌, subst, Bool, true, false, not, ◌||◌, ◌⊎◌, inl, inr}
 use Rattle.basics.proofs.Prelude.{List, ◌++◌, length, get_or, ℕ, suc, ◌<◌, arith, leb, leb-true}
 use mathlib.Core.Bool.{or-false}
-use Rattle.register.proofs.Vocabulary.{Member, At, all_below, Refused, puts_up, Step, D, step_at, world_at}
+use Rattle.register.proofs.Vocabulary.{Member, At, all_below, puts_up, Step, D, step_at, world_at}
 use Rattle.register.proofs.Vocabulary.{answer_at, ReadBegins, WriteBegins, AnswersRead, AnswersWrite}
 use Rattle.register.proofs.Vocabulary.{ReadEnds, WriteEnds, Sends, Earlier, Legal, first, behind, Row}
-use Rattle.register.proofs.Vocabulary.{formats}
+use Rattle.register.proofs.Vocabulary.{formats, Ok, Err, StepAnswer}
 use Rattle.basics.proofs.Tests.{below}
 use Rattle.register.specs.History.{event_at}
-use Rattle.register.proofs.Vocabulary.{WriteInfo, Pair, Answer, Went, Read, Wrote, Spent}
+use Rattle.register.proofs.Vocabulary.{WriteInfo, Pair, Went, Read, Wrote, Spent}
 use Rattle.register.proofs.Runs.{answers, the_entry, pair_by_1, pair_by_2}
 use Rattle.register.proofs.Runs.Disagree.{four, early, second, late}
 use Rattle.register.proofs.Runs.Disagree as run
@@ -25,25 +25,25 @@ steps = run.first ++ early ++ second ++ late
 
 -- ---- what the run answers
 
-is_read : Answer → Bool
-is_read Went = false
-is_read (Read pair) = true
-is_read (Wrote pair) = false
-is_read Spent = false
-is_read (Refused refusal) = false
+is_read : StepAnswer → Bool
+is_read (Ok Went) = false
+is_read (Ok (Read pair)) = true
+is_read (Ok (Wrote pair)) = false
+is_read (Ok Spent) = false
+is_read (Err refusal) = false
 
-is_end : Answer → Bool
-is_end Went = false
-is_end (Read pair) = false
-is_end (Wrote pair) = true
-is_end Spent = true
-is_end (Refused refusal) = false
+is_end : StepAnswer → Bool
+is_end (Ok Went) = false
+is_end (Ok (Read pair)) = false
+is_end (Ok (Wrote pair)) = true
+is_end (Ok Spent) = true
+is_end (Err refusal) = false
 
 -- no step after `low` and before `high` answers so
-abbrev none : (Answer → Bool) → ℕ → ℕ → Bool
+abbrev none : (StepAnswer → Bool) → ℕ → ℕ → Bool
 none test low high = all_below (λ i. leb i low || not (test (answer_at four formats steps i))) high
 
-no_answer : (test : Answer → Bool) (low high : ℕ) → none test low high ≡ true → (i : ℕ) → low < i → i < high
+no_answer : (test : StepAnswer → Bool) (low high : ℕ) → none test low high ≡ true → (i : ℕ) → low < i → i < high
     → test (answer_at four formats steps i) ≡ true → ⊥
 no_answer test low high h i above under e =
     let x = leb-true i low (rw (e, or-false) at (below _ high h i under)) in omega arith
@@ -57,14 +57,14 @@ shown = pair_by_2
 abbrev lower : Pair
 lower = pair_by_1
 
-read_answer : (i : ℕ) (other : Pair) → answer_at four formats steps i ≡ Read other
+read_answer : (i : ℕ) (other : Pair) → answer_at four formats steps i ≡ Ok (Read other)
     → is_read (answer_at four formats steps i) ≡ true
 unfolding is_read
 read_answer i other e = rw e refl
 
 end_answer : (i : ℕ)
-    → ((other : Pair) × (answer_at four formats steps i ≡ Wrote other))
-    ⊎ (answer_at four formats steps i ≡ Spent) → is_end (answer_at four formats steps i) ≡ true
+    → ((other : Pair) × (answer_at four formats steps i ≡ Ok (Wrote other)))
+    ⊎ (answer_at four formats steps i ≡ Ok Spent) → is_end (answer_at four formats steps i) ≡ true
 unfolding is_end
 end_answer i (inl (q, e)) = rw e refl
 end_answer i (inr e) = rw e refl

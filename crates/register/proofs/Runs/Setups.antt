@@ -3,7 +3,7 @@
 -- In order: which n each f allows, by a table; what is refused and how, numbers first and then marks.
 -- Assumes nothing.
 use Rattle.register.proofs.Vocabulary.{count_below, all_below, Settings, in_range, setup_refusal, Refusal}
-use Rattle.basics.proofs.Prelude.{◌≡◌, refl, Bool, true, false, cond, ◌||◌, Option, none, some}
+use Rattle.basics.proofs.Prelude.{◌≡◌, refl, Bool, true, false, cond, ◌||◌, Option, None, Some}
 use Rattle.basics.proofs.Prelude.{List, [], ◌∷◌, ◌++◌, ℕ, zero, suc, eqb}
 use Rattle.refusal.specs.Numbers.{numbered}
 
@@ -17,8 +17,8 @@ unmarked k = false
 -- ---- which n each f allows
 
 abbrev is_accepted : Option Refusal → Bool
-is_accepted none = true
-is_accepted (some refusal) = false
+is_accepted None = true
+is_accepted (Some refusal) = false
 
 -- of the numbers below a limit, those that are accepted as n, with f and no marks
 abbrev allowed : ℕ → ℕ → List ℕ
@@ -49,16 +49,16 @@ allowed_sizes =
 
 record Refusals : Type 0 where
   -- no server; 3f servers; more than the most; f out of range
-  no_server : setup_refusal (setup 0 0 unmarked) ≡ some (numbered 1)
-  three_f : setup_refusal (setup 1 3 unmarked) ≡ some (numbered 1)
-  fourteen : setup_refusal (setup 1 14 unmarked) ≡ some (numbered 1)
-  five_f : setup_refusal (setup 5 16 unmarked) ≡ some (numbered 1)
+  no_server : setup_refusal (setup 0 0 unmarked) ≡ Some (numbered 1)
+  three_f : setup_refusal (setup 1 3 unmarked) ≡ Some (numbered 1)
+  fourteen : setup_refusal (setup 1 14 unmarked) ≡ Some (numbered 1)
+  five_f : setup_refusal (setup 5 16 unmarked) ≡ Some (numbered 1)
   -- of five servers the last may be marked, a sixth may not
-  mark_at_n : setup_refusal (setup 1 5 (λ k. eqb k 5)) ≡ none
-  mark_beyond_n : setup_refusal (setup 1 5 (λ k. eqb k 6)) ≡ some (numbered 1)
+  mark_at_n : setup_refusal (setup 1 5 (λ k. eqb k 5)) ≡ None
+  mark_beyond_n : setup_refusal (setup 1 5 (λ k. eqb k 6)) ≡ Some (numbered 1)
   -- more than f marks; with three servers as well, which is refused first
-  two_marks : setup_refusal (setup 1 5 (λ k. eqb k 4 || eqb k 5)) ≡ some (numbered 2)
-  both : setup_refusal (setup 1 3 (λ k. eqb k 1 || eqb k 2)) ≡ some (numbered 1)
+  two_marks : setup_refusal (setup 1 5 (λ k. eqb k 4 || eqb k 5)) ≡ Some (numbered 2)
+  both : setup_refusal (setup 1 3 (λ k. eqb k 1 || eqb k 2)) ≡ Some (numbered 1)
 
 refusals : Refusals
 unfolding setup_refusal in_range all_below count_below

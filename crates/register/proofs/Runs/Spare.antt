@@ -8,10 +8,10 @@
 -- Demand 3 needs the wait for acknowledgements. Of that for timestamps it needs 2f + 1 only, which a pair
 -- that counts has anyway; so it is here that the rest of this wait is seen.
 -- Assumes nothing.
-use Rattle.register.proofs.Vocabulary.{count_below, all_below, Went, Read, Wrote, Refused, Settings}
+use Rattle.register.proofs.Vocabulary.{count_below, all_below, Read, Wrote, Settings, Ok, Err}
 use Rattle.register.proofs.Vocabulary.{Accepted, in_range, setup_refusal, counts, chosen, Client}
 use Rattle.register.proofs.Vocabulary.{Step, R, W, K, D, L, formats}
-use Rattle.basics.proofs.Prelude.{◌≡◌, refl, true, none, List, [], ◌∷◌, ◌++◌, ℕ, eqb}
+use Rattle.basics.proofs.Prelude.{◌≡◌, refl, true, None, List, [], ◌∷◌, ◌++◌, ℕ, eqb}
 use Rattle.refusal.specs.Numbers.{numbered}
 use Rattle.register.specs.History.{last_world}
 use Rattle.register.proofs.Runs.{answers, went, the_entry, pair_by_1, served, taken}
@@ -45,7 +45,7 @@ abbrev shown : List Step
 shown = L 5 2 initial_info ∷ D 2 5 ∷ []
 
 spare : answers five formats (asked ++ written ++ noted ++ shown)
-    ≡ went 8 ++ Refused (numbered 10) ∷ went 12 ++ Wrote pair_by_1 ∷ went 8 ++ Read pair_by_1 ∷ []
+    ≡ went 8 ++ Err (numbered 10) ∷ went 12 ++ Ok (Wrote pair_by_1) ∷ went 8 ++ Ok (Read pair_by_1) ∷ []
 unfolding answers
 spare = refl
 
@@ -57,6 +57,6 @@ already_counts : counts 5 1 2 waiting pair_by_1 ≡ true
 unfolding answers
 already_counts = refl
 
-still_waits : chosen 5 1 2 waiting ≡ none
+still_waits : chosen 5 1 2 waiting ≡ None
 unfolding answers
 still_waits = refl

@@ -7,10 +7,10 @@
 -- What counts does not grow with n: with f = 1, three noted timestamps and two sets of thirteen are enough,
 -- and they may be the last servers' (`three_and_two`). Demand 3 would allow more to be asked for.
 -- Assumes nothing.
-use Rattle.register.proofs.Vocabulary.{count_below, all_below, Went, Read, Wrote, Refused, Settings}
-use Rattle.register.proofs.Vocabulary.{Accepted, in_range, setup_refusal, Step, R, W, K, D, formats}
+use Rattle.register.proofs.Vocabulary.{count_below, all_below, Read, Wrote, Settings, Ok, Err}
+use Rattle.register.proofs.Vocabulary.{Accepted, in_range, setup_refusal, R, W, K, D, formats}
 use Rattle.register.proofs.Vocabulary.{initial, Client, chosen}
-use Rattle.basics.proofs.Prelude.{◌≡◌, refl, false, cond, none, some, List, [], ◌∷◌, ◌++◌, ℕ, leb}
+use Rattle.basics.proofs.Prelude.{◌≡◌, refl, false, cond, None, Some, [], ◌∷◌, ◌++◌, ℕ, leb}
 use Rattle.register.specs.declared.Phase.TheVariants.{Reading}
 use Rattle.refusal.specs.Numbers.{numbered}
 use Rattle.register.proofs.Runs.{answers, went, the_entry, pair_by_1, served, taken}
@@ -30,11 +30,11 @@ set_up_0 = refl
 -- the write: asked, and sent only after the twelfth INFO; DONE and WRITE_INFO served; acknowledged
 twelve_for_a_write : answers (thirteen 1) formats
     (W 1 the_entry ∷ served 1 12 ++ taken 1 11 ++ K 1 1 ∷ D 1 12 ∷ served 1 12 ++ served 1 12 ++ taken 1 12)
-    ≡ went 24 ++ Refused (numbered 10) ∷ went 36 ++ Wrote pair_by_1 ∷ []
+    ≡ went 24 ++ Err (numbered 10) ∷ went 36 ++ Ok (Wrote pair_by_1) ∷ []
 unfolding answers
 twelve_for_a_write = refl
 
-all_for_a_read : answers (thirteen 0) formats (R 1 ∷ served 1 13 ++ taken 1 13) ≡ went 26 ++ Read initial ∷ []
+all_for_a_read : answers (thirteen 0) formats (R 1 ∷ served 1 13 ++ taken 1 13) ≡ went 26 ++ Ok (Read initial) ∷ []
 unfolding answers
 all_for_a_read = refl
 
@@ -45,20 +45,20 @@ hearing low holds =
     record {
       phase = Reading;
       reads = record { 0 = 1 };
-      noted = λ k. cond (leb low k) (some 0x11) (some 0x12);
+      noted = λ k. cond (leb low k) (Some 0x11) (Some 0x12);
       sets = λ k. cond (leb holds k) (pair_by_1 ∷ []) [];
       acks = λ k. false;
     }
 
 -- 2f + 1 noted timestamps and f + 1 sets are enough, whichever servers they are of; one less of either is not
-three_and_two : chosen 13 1 1 (hearing 11 12) ≡ some pair_by_1
+three_and_two : chosen 13 1 1 (hearing 11 12) ≡ Some pair_by_1
 unfolding answers
 three_and_two = refl
 
-two_timestamps : chosen 13 1 1 (hearing 12 12) ≡ none
+two_timestamps : chosen 13 1 1 (hearing 12 12) ≡ None
 unfolding answers
 two_timestamps = refl
 
-one_set : chosen 13 1 1 (hearing 11 13) ≡ none
+one_set : chosen 13 1 1 (hearing 11 13) ≡ None
 unfolding answers
 one_set = refl

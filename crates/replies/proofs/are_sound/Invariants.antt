@@ -1,14 +1,9 @@
--- `are_sound`: the places before i have passed the test.
--- Assumes nothing.
-use Rattle.register.proofs.Vocabulary.{all_below, most_servers}
-use Rattle.basics.proofs.Prelude.{◌≡◌, true, ◌&&◌, ◌-◌, ◌≤◌, ltb}
+-- `are_sound`: the places before i have passed the test. Assumes nothing.
+use Rattle.basics.proofs.Prelude.{◌≡◌, true, ◌&&◌, ltb}
+use Rattle.register.proofs.Vocabulary.{all_below}
 use Rattle.replies.specs.Sound.{is_sound_at}
 use Rattle.replies.proofs.are_sound.Given as goal
 
 abbrev pub invariant-loop-i : goal.invariant-loop-i
 invariant-loop-i l =
-    (l.i ≤ most_servers)
-    × (all_below (λ i. is_sound_at (ltb i l.n && l.reading) (ltb i l.n && l.storing) l.replies i) l.i ≡ true)
-
-abbrev pub decreases-loop-i : goal.decreases-loop-i
-decreases-loop-i l = most_servers - l.i
+    all_below (λ i. is_sound_at (ltb i l.n && l.reading) (ltb i l.n && l.storing) l.replies i) l.i ≡ true

@@ -24,31 +24,29 @@ spoken replies n f count b few used e =
 pub returns-then-not-is_enough : goal.returns-then-not-is_enough
 unfolding chosen
 returns-then-not-is_enough c =
-    rw (spoken c.args.replies.now c.args.n c.args.f _ _ c.requires.1 c.used.ensures c.is_enough.ensures
+    rw (spoken c.args.replies.now c.args.n c.args.f _ _ c.requires c.used.ensures c.is_enough.ensures
     ∙ c.if-not-is_enough.true)
 
 pub loop-i-init : goal.loop-i-init
 unfolding highest_of all_pairs
-loop-i-init c = (omega arith, refl)
+loop-i-init c = refl
 
 pub loop-i-preserved : goal.loop-i-preserved
 loop-i-preserved c =
     let replies = c.args.replies.now in
     let test = counts_in c.args.n c.args.f replies in
     let sets = set_in replies in
-    let i = c.loop-i.i in (
-      omega arith,
-      c.better-best.ensures ∙ ap (best_of test (sets (suc i))) c.loop-i.invariant.1
-          ∙ sym (best_more test sets i)
-          ∙ ap (λ (i : ℕ). highest_of test (all_pairs sets i)) (sym (add-one i)),
-    )
+    let i = c.loop-i.i in
+    c.better-best.ensures ∙ ap (best_of test (sets (suc i))) c.loop-i.invariant
+    ∙ sym (best_more test sets i)
+    ∙ ap (λ (i : ℕ). highest_of test (all_pairs sets i)) (sym (add-one i))
 
 pub returns : goal.returns
 unfolding chosen
 returns c =
     let replies = c.args.replies.now in
     let end : c.loop-i.i ≡ c.args.n = omega arith in
-    rw (spoken replies c.args.n c.args.f _ _ c.requires.1 c.used.ensures c.is_enough.ensures
+    rw (spoken replies c.args.n c.args.f _ _ c.requires c.used.ensures c.is_enough.ensures
     ∙ c.if-not-is_enough.false)
-    (c.loop-i.invariant.1
+    (c.loop-i.invariant
     ∙ ap (λ (i : ℕ). highest_of (counts_in c.args.n c.args.f replies) (all_pairs (set_in replies) i)) end)

@@ -1,10 +1,10 @@
--- `holders`: the loop counts the sets that have the pair.
--- Assumes nothing.
-use Rattle.replies.proofs.Steps.{counted_none, counted_more}
+-- `holders`: the test says that a set has the pair. Assumes nothing.
+use Rattle.basics.proofs.Prelude.{suc, rules}
+use Rattle.register.proofs.Vocabulary.{has}
+use Rattle.replies.specs.Replies.{set_in}
 use Rattle.replies.proofs.holders.Goals as goal
 
-pub loop-i-init : goal.loop-i-init
-loop-i-init c = counted_none _ _
-
-pub loop-i-preserved : goal.loop-i-preserved
-loop-i-preserved c = counted_more _ _ _ _ _ c.loop-i-test.true c.holds.ensures c.loop-i.invariant
+pub returns : goal.returns
+returns c =
+    c.count_where.ensures (λ i. has c.args.pair (set_in c.args.replies.now (suc i)))
+    (λ i answer less gives. search rules)

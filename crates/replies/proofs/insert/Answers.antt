@@ -76,20 +76,20 @@ module _ (replies : List ℕ) (i size j : ℕ) (pair : Pair) (long : length repl
 
 pub returns-then-replies-i : goal.returns-then-replies-i
 returns-then-replies-i c =
-    kept c.args.replies.now c.args.i _ _ c.args.pair c.requires.0 c.requires.1 c.size_of-size.ensures.0
-    c.size_of-size.ensures.1 c.rank-j.ensures c.requires.2 c.if-j-size.true c.if-replies-i.true
+    kept c.args.replies.now c.args.i _ _ c.args.pair c.told-replies c.requires.0 c.size_of-size.ensures.0
+    c.size_of-size.ensures.1 c.rank-j.ensures c.requires.1 c.if-j-size.true c.if-replies-i.true
 
 pub place-requires : goal.place-requires
 place-requires c =
     let le =
-    place_le c.args.replies.now c.args.i _ _ c.args.pair c.requires.0 c.requires.1 c.size_of-size.ensures.0
+    place_le c.args.replies.now c.args.i _ _ c.args.pair c.told-replies c.requires.0 c.size_of-size.ensures.0
     c.size_of-size.ensures.1 c.rank-j.ensures in
     search rules
 
 pub place-requires-else-size-lt-LIMIT : goal.place-requires-else-size-lt-LIMIT
 place-requires-else-size-lt-LIMIT c =
     let le =
-    place_le c.args.replies.now c.args.i _ _ c.args.pair c.requires.0 c.requires.1 c.size_of-size.ensures.0
+    place_le c.args.replies.now c.args.i _ _ c.args.pair c.told-replies c.requires.0 c.size_of-size.ensures.0
     c.size_of-size.ensures.1 c.rank-j.ensures in
     search rules
 
@@ -98,14 +98,14 @@ returns-then-size-lt-LIMIT c =
     let replies = c.args.replies.now in
     let absent : is_there c.args.pair (set_in replies (suc c.args.i)) ≡ false =
     elim c.if-j-size.branch [
-      | then-j-size+else-replies-i w ↦ other replies c.args.i _ _ c.args.pair c.requires.0 c.requires.1
+      | then-j-size+else-replies-i w ↦ other replies c.args.i _ _ c.args.pair c.told-replies c.requires.0
           c.size_of-size.ensures.0 c.size_of-size.ensures.1 c.rank-j.ensures w.if-j-size.true
           w.if-replies-i.false
-      | else-j-size w ↦ behind replies c.args.i _ _ c.args.pair c.requires.0 c.requires.1
+      | else-j-size w ↦ behind replies c.args.i _ _ c.args.pair c.told-replies c.requires.0
           c.size_of-size.ensures.0 c.size_of-size.ensures.1 c.rank-j.ensures w.if-j-size.false
     ] in
     c.place.ensures
-    ∙ room replies c.args.i _ _ c.args.pair c.requires.0 c.requires.1 c.size_of-size.ensures.0
+    ∙ room replies c.args.i _ _ c.args.pair c.told-replies c.requires.0 c.size_of-size.ensures.0
     c.size_of-size.ensures.1 c.rank-j.ensures absent c.if-size-lt-LIMIT.true
 
 pub returns-else-size-lt-LIMIT : goal.returns-else-size-lt-LIMIT
@@ -113,12 +113,12 @@ returns-else-size-lt-LIMIT c =
     let replies = c.args.replies.now in
     let absent : is_there c.args.pair (set_in replies (suc c.args.i)) ≡ false =
     elim c.if-j-size.branch [
-      | then-j-size+else-replies-i w ↦ other replies c.args.i _ _ c.args.pair c.requires.0 c.requires.1
+      | then-j-size+else-replies-i w ↦ other replies c.args.i _ _ c.args.pair c.told-replies c.requires.0
           c.size_of-size.ensures.0 c.size_of-size.ensures.1 c.rank-j.ensures w.if-j-size.true
           w.if-replies-i.false
-      | else-j-size w ↦ behind replies c.args.i _ _ c.args.pair c.requires.0 c.requires.1
+      | else-j-size w ↦ behind replies c.args.i _ _ c.args.pair c.told-replies c.requires.0
           c.size_of-size.ensures.0 c.size_of-size.ensures.1 c.rank-j.ensures w.if-j-size.false
     ] in
     c.place-else-size-lt-LIMIT.ensures
-    ∙ full replies c.args.i _ _ c.args.pair c.requires.0 c.requires.1 c.size_of-size.ensures.0
+    ∙ full replies c.args.i _ _ c.args.pair c.told-replies c.requires.0 c.size_of-size.ensures.0
     c.size_of-size.ensures.1 c.rank-j.ensures absent c.if-size-lt-LIMIT.false

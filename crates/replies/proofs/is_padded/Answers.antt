@@ -1,11 +1,13 @@
 -- `is_padded`: each of the four numbers belongs to a pair or is zero.
 -- Assumes nothing.
-use Rattle.basics.proofs.Prelude.{◌+◌, ◌*◌, add-zero}
-use Rattle.register.proofs.Vocabulary.{all_below, set_limit}
-use Rattle.replies.specs.Replies.{pairs_at}
+use Rattle.basics.proofs.Prelude.{arith}
+use Rattle.register.proofs.Vocabulary.{all_below}
 use Rattle.replies.specs.Sound.{is_padded}
+use Rattle.replies.proofs.Places.{number_at}
 use Rattle.replies.proofs.is_padded.Goals as goal
 
 pub returns : goal.returns
 unfolding is_padded all_below
-returns c = rw (add-zero (pairs_at + c.args.i * set_limit))
+returns c =
+    let number = number_at c.args.replies.now c.args.i c.told-replies c.requires c.four.result c.four.ensures in
+    rw (number 0 (omega arith), number 1 (omega arith), number 2 (omega arith), number 3 (omega arith))

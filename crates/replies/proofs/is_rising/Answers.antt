@@ -8,5 +8,5 @@ use Rattle.replies.proofs.is_rising.Goals as goal
 pub returns : goal.returns
 returns c =
     let replies = c.args.replies.now in
-    rw (c.size_of-size.ensures.0, set_four replies c.args.i c.requires.0 c.requires.1)
+    rw (c.size_of-size.ensures.0, set_four replies c.args.i c.told-replies c.requires c.four.result c.four.ensures)
     (rising_four _ _ _ _ (size_at replies c.args.i))

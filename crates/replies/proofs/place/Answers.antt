@@ -57,6 +57,6 @@ module _ (replies : List ℕ) (i size j : ℕ) (pair : Pair) (out : ℕ)
 pub returns : goal.returns
 returns c =
     let pre = c.requires in
-    stored c.args.replies.now c.args.i c.args.size c.args.j c.args.pair c.args.out pre.2 pre.3 pre.4 pre.0 pre.1
-    pre.6 pre.5 _ _ _ _ c.widened-first.ensures c.widened-second.ensures c.widened-third.ensures
+    stored c.args.replies.now c.args.i c.args.size c.args.j c.args.pair c.args.out pre.1 pre.2 pre.3 c.told-replies
+    pre.0 pre.5 pre.4 _ _ _ _ c.widened-first.ensures c.widened-second.ensures c.widened-third.ensures
     c.widened-fourth.ensures

@@ -1,11 +1,7 @@
--- `used`: the loop counts the numbers in use.
--- Assumes nothing.
-use Rattle.basics.proofs.Prelude.{refl}
-use Rattle.replies.proofs.Steps.{counted_none, counted_more}
+-- `used`: the test says that a number is in use. Assumes nothing.
+use Rattle.basics.proofs.Prelude.{rules}
+use Rattle.replies.specs.Loops.{is_used}
 use Rattle.replies.proofs.used.Goals as goal
 
-pub loop-i-init : goal.loop-i-init
-loop-i-init c = counted_none _ _
-
-pub loop-i-preserved : goal.loop-i-preserved
-loop-i-preserved c = counted_more _ _ _ _ _ c.loop-i-test.true refl c.loop-i.invariant
+pub returns : goal.returns
+returns c = c.count_where.ensures (is_used c.args.replies.now c.args.at) (λ i answer less gives. search rules)

@@ -34,7 +34,7 @@ unfolding result_of goes
 returns-then-is_reply c =
     let a = c.args in
     let h = sym c.is_sound.ensures ∙ c.if-not-is_sound.false in
-    let good = sym c.unpack.ensures ∙ c.in-Good.is in
+    let good = sym c.unpack.ensures ∙ c.in-Ok.is in
     sym (malformed a.memory.now a.d a.bytes.now h (omega arith) (omega arith)
     (ap goes_up good ∙ rw (sym c.is_reply.ensures ∙ c.if-is_reply.true)))
 
@@ -43,7 +43,7 @@ unfolding result_of goes
 returns c =
     let a = c.args in
     let h = sym c.is_sound.ensures ∙ c.if-not-is_sound.false in
-    let good = sym c.unpack.ensures ∙ c.in-Good.is in
+    let good = sym c.unpack.ensures ∙ c.in-Ok.is in
     let e = served a.memory.now a.d a.bytes.now h (omega arith) (omega arith) _ good
     (let asks : c.is_reply.result ≡ false = cc in rw (sym c.is_reply.ensures ∙ asks)) in
     cc

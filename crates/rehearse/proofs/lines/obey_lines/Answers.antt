@@ -20,7 +20,7 @@ loop-found-init c = (search none_yet, search rules)
 pub returns-then-input-found : goal.returns-then-input-found
 returns-then-input-found c =
     let so_far = c.loop-found.invariant in
-    lines_done c.turn_of.result c.turn_of.ensures so_far.1
+    lines_done so_far.1
     (at_end so_far.0 _ c.next-found.ensures c.if-input-found.true)
 
 -- ---- one line more
@@ -35,7 +35,7 @@ pub loop-found-preserved : goal.loop-found-preserved
 loop-found-preserved c =
     let next = c.next_numeral-number in (
       one_more c.loop-found.invariant.0 _ c.next-found.ensures c.if-input-found.false
-          (c.obey-obeyed.ensures c.loop-found.number.number)
+          (c.obey-what.ensures c.loop-found.number.number)
           (line_written _ _ c.put_numeral-number_end.ensures c.put_output-used.ensures) next.result.number
           (ap (λ (numeral : Numeral). numeral.number) next.ensures ∙ number_is_lem _),
       search own_number,

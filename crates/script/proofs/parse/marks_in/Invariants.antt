@@ -9,7 +9,3 @@ abbrev pub invariant-loop-i : goal.invariant-loop-i
 invariant-loop-i l =
     (l.i ≤ length l.text) × (all_bytes is_mark (drop l.i l.text) ≡ true) × (l.value ≡ mark_bits (drop l.i l.text)) ×
     (l.value < 2 ^ (length l.text - l.i))
-
-abbrev pub decreases-loop-i : goal.decreases-loop-i
-decreases-loop-i l =
-    l.i

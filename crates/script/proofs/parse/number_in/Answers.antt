@@ -15,9 +15,9 @@ pub returns-then-text-gt-NUMBER_DIGITS : goal.returns-then-text-gt-NUMBER_DIGITS
 unfolding number_in
 returns-then-text-gt-NUMBER_DIGITS c = simp (le-leb 1 _ c.if-text-lt1.false, lt-leb _ 7 c.if-text-gt-NUMBER_DIGITS.true)
 
-pub loop-i-init : goal.loop-i-init
+pub loop-byte-init : goal.loop-byte-init
 unfolding all_bytes value_from
-loop-i-init c = (search rules, refl, refl, search rules)
+loop-byte-init c = (refl, refl, search rules)
 
 pub returns-then-not-is_digit : goal.returns-then-not-is_digit
 unfolding number_in
@@ -25,35 +25,34 @@ returns-then-not-is_digit c =
     let bytes = c.args.text.now in
     let fits = sized bytes 7 c.if-text-lt1.false c.if-text-gt-NUMBER_DIGITS.false in
     let no_digit = sym c.is_digit.ensures ∙ c.if-not-is_digit.true in
-    simp (fits, all_fails is_digit bytes c.loop-i.i (omega arith) no_digit)
+    simp (fits, all_fails is_digit bytes c.loop-byte.byte-index (omega arith) no_digit)
 
 -- where the loop goes on: the byte is a digit, and the value so far has fewer than 7
 pub overflow_add-value : goal.overflow_add-value
 overflow_add-value c =
-    let loop = c.loop-i in
+    let loop = c.loop-byte in
     let is = sym c.is_digit.ensures ∙ c.if-not-is_digit.false in
-    let small : loop.value < 2 ^ 24 = fits_more loop.value (4 * loop.i) 24 loop.invariant.3 (omega arith) in
-    omega (arith, small, (range 48 57 (get_or c.args.text.now loop.i 0) is).1)
+    let small : loop.value < 2 ^ 24 = fits_more loop.value (4 * loop.byte-index) 24 loop.invariant.2 (omega arith) in
+    omega (arith, small, (range 48 57 (get_or c.args.text.now loop.byte-index 0) is).1)
 
-pub loop-i-preserved : goal.loop-i-preserved
-loop-i-preserved c =
-    let loop = c.loop-i in
+pub loop-byte-preserved : goal.loop-byte-preserved
+loop-byte-preserved c =
+    let loop = c.loop-byte in
     let bytes = c.args.text.now in
-    let byte = get_or bytes loop.i 0 in
-    let inside : loop.i < length bytes = omega arith in
+    let byte = get_or bytes loop.byte-index 0 in
+    let inside : loop.byte-index < length bytes = omega arith in
     let is = sym c.is_digit.ensures ∙ c.if-not-is_digit.false in (
-      omega arith,
-      all_longer bytes loop.i inside is_digit loop.invariant.1 is,
-      value_longer bytes loop.i inside digit_value 10 loop.value loop.invariant.2,
-      digits_lt loop.value 10 (digit_value byte) loop.i loop.invariant.3 (omega arith)
+      all_longer bytes loop.byte-index inside is_digit loop.invariant.0 is,
+      value_longer bytes loop.byte-index inside digit_value 10 loop.value loop.invariant.1,
+      digits_lt loop.value 10 (digit_value byte) loop.byte-index loop.invariant.2 (omega arith)
           (omega (arith, (range 48 57 byte is).1)),
     )
 
 pub returns : goal.returns
 unfolding number_in
 returns c =
-    let loop = c.loop-i in
+    let loop = c.loop-byte in
     let bytes = c.args.text.now in
     let fits = sized bytes 7 c.if-text-lt1.false c.if-text-gt-NUMBER_DIGITS.false in
-    let whole = take_all loop.i bytes (omega arith) in
-    simp (fits, rw whole at loop.invariant.1, loop.invariant.2, whole)
+    let whole = take_all loop.byte-index bytes (omega arith) in
+    simp (fits, rw whole at loop.invariant.0, loop.invariant.1, whole)

@@ -1,10 +1,10 @@
 -- `numeral_of`: the digits of the hundreds are written if they are kept; else none are.
-use Rattle.basics.proofs.Prelude.{refl, sym, ap, ◌∙◌, List, length, replicate, ℕ, ◌/◌, ◌%◌, ◌<◌}
+use Rattle.basics.proofs.Prelude.{sym, ap, ◌∙◌, List, length, replicate, ℕ, ◌/◌, ◌%◌, ◌<◌}
 use Rattle.basics.proofs.Prelude.{zero-add, arith}
 use Rattle.script.specs.Numbers.{decimal}
 use Rattle.script.specs.Writing.{written}
 use Rattle.script.specs.Numerals.{numeral_of}
-use Rattle.script.proofs.Hundreds.{decimal_few, kept_all, kept_none}
+use Rattle.script.proofs.Hundreds.{decimal_few, kept_all}
 use Rattle.script.proofs.print.numeral_of.Goals as goal
 
 pub put_decimal-kept-requires : goal.put_decimal-kept-requires

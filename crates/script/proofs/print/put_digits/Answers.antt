@@ -1,13 +1,10 @@
 -- `put_digits`: the loop keeps the digits behind place i written.
 use Rattle.basics.proofs.Prelude.{refl, ap, set, ℕ, ◌+◌, ◌-◌, arith}
-use Rattle.script.proofs.Trailing.{none_yet, wide, one_more, all_written}
+use Rattle.script.proofs.Trailing.{none_yet, one_more, all_written}
 use Rattle.script.proofs.print.put_digits.Goals as goal
 
 pub loop-i-init : goal.loop-i-init
 loop-i-init c = none_yet 16 c.args.out.now c.args.at c.args.count c.args.value
-
-pub bounds-out-at : goal.bounds-out-at
-bounds-out-at c = rw (wide c.requires c.loop-i.invariant) (omega arith)
 
 pub loop-i-preserved : goal.loop-i-preserved
 loop-i-preserved c =

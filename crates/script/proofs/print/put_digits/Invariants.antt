@@ -5,7 +5,3 @@ use Rattle.script.proofs.print.put_digits.Given as goal
 abbrev pub invariant-loop-i : goal.invariant-loop-i
 invariant-loop-i l =
     Trailing 16 l.initial.out l.at l.count l.value l.out l.rest l.i
-
-abbrev pub decreases-loop-i : goal.decreases-loop-i
-decreases-loop-i l =
-    l.i

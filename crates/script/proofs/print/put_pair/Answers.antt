@@ -15,7 +15,7 @@ use Rattle.script.proofs.print.put_pair.Goals as goal
 pub put_spaced-client_end-requires : goal.put_spaced-client_end-requires
 put_spaced-client_end-requires c =
     let one = c.put_spaced-counter_end.ensures in
-    omega (arith, spaced_short c.counter_word.result, keeps one, one.ends)
+    omega (arith, spaced_short c.from.result, keeps one, one.ends)
 
 pub put_text-next-requires : goal.put_text-next-requires
 put_text-next-requires c =
@@ -23,7 +23,7 @@ put_text-next-requires c =
     let two = c.put_spaced-client_end.ensures in
     omega (
       arith,
-      spaced_short c.counter_word.result,
+      spaced_short c.from.result,
       spaced_short c.client_of.result,
       keeps one,
       keeps two,
@@ -38,7 +38,7 @@ put_digits-requires c =
     let three = c.put_text-next.ensures in
     omega (
       arith,
-      spaced_short c.counter_word.result,
+      spaced_short c.from.result,
       spaced_short c.client_of.result,
       keeps one,
       keeps two,
@@ -60,6 +60,6 @@ whole pair its_counter number d its_entry is_counter is_number is_client is_entr
 
 pub returns : goal.returns
 returns c =
-    whole c.args.pair c.counter_of.result c.counter_word.result c.client_of.result c.entry_of.result
-    c.counter_of.ensures c.counter_word.ensures c.client_of.ensures c.entry_of.ensures c.put_spaced-counter_end.ensures
+    whole c.args.pair c.counter_of.result c.from.result c.client_of.result c.entry_of.result
+    c.counter_of.ensures c.from.ensures c.client_of.ensures c.entry_of.ensures c.put_spaced-counter_end.ensures
     c.put_spaced-client_end.ensures c.put_text-next.ensures c.put_digits.ensures

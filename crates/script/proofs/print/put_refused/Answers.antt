@@ -1,9 +1,9 @@
 -- `put_refused`: the word, the refusal's number and the line's end.
 use Rattle.basics.proofs.Prelude.{◌≡◌, sym, List, [], ◌∷◌, ◌++◌, ℕ, arith}
+use Rattle.std.specs.Prelude.{Err}
 use Prim.Native.Char.{code}
 use Rattle.refusal.specs.declared.Refusal.{Refusal}
 use Rattle.refusal.specs.Numbers.{number_of}
-use Rattle.register.specs.declared.Answer.TheVariants.{Refused}
 use Rattle.script.specs.Lines.{newline}
 use Rattle.script.specs.Spelt.{spelt}
 use Rattle.script.specs.Printed.{spaced, answer_line}
@@ -18,16 +18,16 @@ text number = code " " ∷ spelt "REFUSED" ++ spaced number ++ newline ∷ []
 
 by_number : (why : Refusal) (number : ℕ) {before : List ℕ} {at end : ℕ} {after : List ℕ}
     → number ≡ number_of why
-    → Written (text number) before at end after → Written (answer_line (Refused why)) before at end after
+    → Written (text number) before at end after → Written (answer_line (Err why)) before at end after
 by_number why number is w = named text (sym is) w
 
 pub put_text-requires : goal.put_text-requires
 put_text-requires c =
     let word = c.put_text-word_end.ensures in
     let number = c.put_spaced-number_end.ensures in
-    omega (arith, spaced_short c.number.result, keeps word, keeps number, word.ends, number.ends)
+    omega (arith, spaced_short c.from.result, keeps word, keeps number, word.ends, number.ends)
 
 pub returns : goal.returns
 returns c =
-    by_number c.args.why c.number.result c.number.ensures
+    by_number c.args.why c.from.result c.from.ensures
     (then c.put_text-word_end.ensures (then c.put_spaced-number_end.ensures c.put_text.ensures))

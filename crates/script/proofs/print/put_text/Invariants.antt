@@ -1,12 +1,8 @@
 -- `put_text`: the loop keeps the first i bytes written.
-use Rattle.basics.proofs.Prelude.{◌≡◌, length, ◌-◌, ◌≤◌}
+use Rattle.basics.proofs.Prelude.{◌≡◌}
 use lib.Seq.{paste}
 use Rattle.script.proofs.print.put_text.Given as goal
 
 abbrev pub invariant-loop-i : goal.invariant-loop-i
 invariant-loop-i l =
-    (l.i ≤ length l.text) × (l.out ≡ paste l.initial.out l.at l.text l.i)
-
-abbrev pub decreases-loop-i : goal.decreases-loop-i
-decreases-loop-i l =
-    length l.text - l.i
+    l.out ≡ paste l.initial.out l.at l.text l.i

@@ -1,24 +1,24 @@
--- `are_channels_sound`: the clients passed have sound channels, and then the channels' own test. Assumes
--- nothing.
-use Rattle.basics.proofs.Prelude.{sym, arith, rules}
+-- `are_channels_sound`: the chain tests the channels of each client, and then comes the channels' own test.
+-- Assumes nothing.
+use Rattle.std.proofs.Common.{rules, tests}
+use Rattle.basics.proofs.Chains.{all_over}
+use Rattle.channel.proofs.Passing.{passed, failed}
 use Rattle.register.proofs.Vocabulary.{most_clients}
-use Rattle.channel.proofs.Passing.{none_passed, one_more, fails_here, all_passed}
 use Rattle.state.specs.Sound.{are_links_sound, are_channels_sound}
 use Rattle.state.proofs.sound.are_channels_sound.Goals as goal
 
-pub loop-i-init : goal.loop-i-init
-loop-i-init c = (omega arith, none_passed _)
-
-pub returns-then-not-are_links_sound : goal.returns-then-not-are_links_sound
+pub returns-then-all : goal.returns-then-all
 unfolding are_channels_sound
-returns-then-not-are_links_sound c =
-    rw (sym (fails_here (are_links_sound _ _ _) most_clients _ c.loop-i-test.true c.are_links_sound.ensures c.if-not-are_links_sound.true))
+returns-then-all c =
+    let a = c.args in
+    let each = all_over (are_links_sound a.settings a.stopped a.slots.now) most_clients _ _ c.all.result
+    c.all.ensures.ran (λ x b q k. search (rules, tests)) in
+    rw (passed each c.if-all.true) c.is_sound.ensures
 
-pub loop-i-preserved : goal.loop-i-preserved
-loop-i-preserved c =
-    (omega arith, one_more _ _ (search rules) c.are_links_sound.ensures c.if-not-are_links_sound.false)
-
-pub returns : goal.returns
+pub returns-else-all : goal.returns-else-all
 unfolding are_channels_sound
-returns c =
-    rw (sym (all_passed (are_links_sound _ _ _) {n = most_clients} (omega arith) c.loop-i.invariant.1)) c.is_sound.ensures
+returns-else-all c =
+    let a = c.args in
+    let each = all_over (are_links_sound a.settings a.stopped a.slots.now) most_clients _ _ c.all.result
+    c.all.ensures.ran (λ x b q k. search (rules, tests)) in
+    rw (failed each c.if-all.false) c.if-all.false

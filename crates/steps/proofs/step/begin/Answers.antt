@@ -1,6 +1,7 @@
 -- `begin`: the two last rungs, and the start: the next read number and the phase stored, GET_INFO sent.
 -- Assumes nothing.
 use Rattle.basics.proofs.Prelude.{◌≡◌, sym, ap, ◌∙◌, ◌++◌, drop, ℕ, ◌+◌, ◌-◌, leb}
+use Rattle.std.specs.Prelude.{Ok}
 use Rattle.register.proofs.Vocabulary.{GetInfo, ReadNumber, last_read}
 use Rattle.register.specs.declared.Answer.TheVariants.{Went}
 use Rattle.client.specs.declared.Client.{Client}
@@ -15,7 +16,7 @@ unfolding send_up
 returns c =
     let a = c.args in
     let shows : a.client.reads.0 ≡ (shown a.settings a.clients.now a.slots.now a.d).reads.0 =
-    ap (λ (x : Client). x.reads.0) c.requires.5 in
+    ap (λ (x : Client). x.reads.0) c.requires.loaded in
     let last = ap (leb last_read) (sym shows) ∙ sym c.is_last_read.ensures in
     let next : c.next_read-next.result ≡ next_of a.settings a.clients.now a.slots.now a.d =
     c.next_read-next.ensures ∙ ap (λ (n : ℕ). record { 0 = n + 1 }) shows in
@@ -27,4 +28,4 @@ returns c =
     let sent = c.broadcast.ensures
     ∙ ap (λ (n : ReadNumber). to_all a.settings a.slots.now (a.d - 1) (GetInfo n)) next in
     rw (last ∙ c.if-is_last_read.false, sym c.has_room_up.ensures ∙ c.if-not-has_room_up.false)
-    (λ i. result Went (stored i) (sent i))
+    (λ i. result (Ok Went) (stored i) (sent i))

@@ -12,7 +12,7 @@ pub returns-in-WriteAck : goal.returns-in-WriteAck
 returns-in-WriteAck c =
     let a = c.args in
     sym (room_ack a.settings a.slots.now (a.client.number - 1) a.client.number (client.view a.own.now) a.k
-    a.message _ c.in-WriteAck.is c.requires.0 c.requires.7 (omega arith))
+    a.message _ c.in-WriteAck.is c.requires.few.0 c.requires.counts (omega arith))
 
 pub returns-then-has_room_up : goal.returns-then-has_room_up
 returns-then-has_room_up c =
@@ -23,7 +23,7 @@ returns-then-has_room_up c =
 pub would_send-requires : goal.would_send-requires
 would_send-requires c =
     own_asked c.args.client c.args.settings.n c.args.settings.f _ _
-    (c.requires.1, c.requires.2, c.requires.3, c.requires.4, c.requires.5, c.requires.6)
+    (c.requires.loaded, c.requires.sound, c.requires.few.1, c.requires.few.2, c.requires.few.3, c.requires.few.4)
 
 pub returns : goal.returns
 returns c =
@@ -31,4 +31,4 @@ returns c =
     c.has_room_up-2.ensures
     ∙ ap (room_up a.settings a.slots.now (a.client.number - 1))
     (c.count_sent.ensures.0 ∙ ap length c.would_send.ensures
-    ∙ ap (λ (x : Client). length (taken_of a.client.number x.n x.f a.own.now a.k a.message).sends) c.requires.1)
+    ∙ ap (λ (x : Client). length (taken_of a.client.number x.n x.f a.own.now a.k a.message).sends) c.requires.loaded)

@@ -13,4 +13,4 @@ pub returns : goal.returns
 unfolding goes
 returns c =
     c.is_reply.ensures
-    ∙ ap goes_down (sym c.in-Good.is ∙ c.of_words.ensures ∙ words_unpack c.args.words (omega arith))
+    ∙ ap goes_down (sym c.in-Ok.is ∙ c.of_words.ensures ∙ words_unpack c.args.words (omega arith))

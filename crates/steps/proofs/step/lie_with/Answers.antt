@@ -2,6 +2,7 @@
 use Rattle.register.proofs.Vocabulary.{capacity}
 use Rattle.register.specs.declared.Answer.TheVariants.{Went}
 use Rattle.basics.proofs.Prelude.{sym, ap, ◌∙◌, ℕ, ◌+◌, arith, leb}
+use Rattle.std.specs.Prelude.{Ok}
 use Rattle.channel.specs.Memory.{count_at, put_on}
 use Rattle.channel.proofs.Passing.{failed}
 use Rattle.steps.specs.InMemory.{placed}
@@ -14,6 +15,6 @@ returns c =
     let works = failed c.has.ensures c.if-has.false in
     let room = c.has_room.ensures ∙ ap (λ (n : ℕ). leb (count_at a.slots.now n + 1) capacity) c.down-to.ensures in
     rw (works, sym room ∙ c.if-not-has_room.false)
-    (ap (placed Went)
+    (ap (placed (Ok Went))
     (c.put.ensures ∙ ap (λ (n : ℕ). put_on a.slots.now n a.words) c.down-to.ensures
     ∙ ap (put_on a.slots.now _) (own_words a.words c.requires.4 (omega arith))))

@@ -16,8 +16,8 @@ after-served-requires c =
     let a = c.args in
     let loaded = c.load.ensures
     ∙ ap server.loaded (lent (server_start (a.k - 1)) server_length a.servers.now _ c.server_start-at.ensures) in (
-      ap sound loaded ∙ loaded_sound (server_at a.servers.now (a.k - 1)) c.requires.6,
-      c.requires.1,
+      ap sound loaded ∙ loaded_sound (server_at a.servers.now (a.k - 1)) c.requires.sound,
+      c.requires.few.1,
       omega arith,
     )
 
@@ -26,7 +26,7 @@ returns-then-not-deliver c =
     let a = c.args in
     let loaded = c.load.ensures
     ∙ ap server.loaded (lent (server_start (a.k - 1)) server_length a.servers.now _ c.server_start-at.ensures) in
-    serve_refused a.settings a.stopped a.servers.now a.slots.now a.k a.d _ _ _ _ c.requires.1 c.requires.7
+    serve_refused a.settings a.stopped a.servers.now a.slots.now a.k a.d _ _ _ _ c.requires.few.1 c.requires.asked
     (c.after-served.ensures ∙ ap (λ (v : Server). served_of v a.d a.message) loaded)
     c.deliver.ensures c.if-not-deliver.true
 
@@ -35,7 +35,7 @@ returns c =
     let a = c.args in
     let loaded = c.load.ensures
     ∙ ap server.loaded (lent (server_start (a.k - 1)) server_length a.servers.now _ c.server_start-at.ensures) in
-    serve_gives a.settings a.stopped a.servers.now a.slots.now a.k a.d _ _ _ _ c.requires.1 c.requires.7
+    serve_gives a.settings a.stopped a.servers.now a.slots.now a.k a.d _ _ _ _ c.requires.few.1 c.requires.asked
     (c.after-served.ensures ∙ ap (λ (v : Server). served_of v a.d a.message) loaded)
     c.deliver.ensures c.if-not-deliver.false _
     (put_back (server_start (a.k - 1)) server_length a.servers.now _ c.server_start-at.ensures _ _ c.store.ensures)

@@ -8,5 +8,5 @@ pub returns-in_default : goal.returns-in_default
 returns-in_default c =
     let a = c.args in
     let found = c.oldest_request.ensures ∙ ap (message_at a.slots.now) c.up-from.ensures in
-    drop_gives a.settings a.stopped a.servers.now a.slots.now a.k a.d c.requires.3 c.requires.4 c.requires.0
-    c.requires.7 c.requires.6 _ (sym found ∙ c.in_default.is) _ _ c.up-from.ensures c.remove.ensures
+    drop_gives a.settings a.stopped a.servers.now a.slots.now a.k a.d c.requires.few.3 c.requires.few.4 c.requires.few.0
+    c.requires.counts c.requires.sound _ (sym found ∙ c.in_default.is) _ _ c.up-from.ensures c.remove.ensures

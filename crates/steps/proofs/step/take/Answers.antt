@@ -1,75 +1,38 @@
 -- `take`: the rungs in turn, and what is left to refuse. Assumes nothing.
-use Rattle.basics.proofs.Prelude.{◌-◌, arith}
+use Rattle.basics.proofs.Prelude.{arith}
 use Rattle.channel.proofs.Passing.{passed, failed}
 use Rattle.refusal.proofs.Ladders.{stop, next}
 use Rattle.client.proofs.Ladders.{no, yes, rung}
-use Rattle.steps.proofs.Named.{both_told}
 use Rattle.steps.proofs.Rungs.{empty_rung, waiting_rung, one_waits, take_refused, take_on}
 use Rattle.steps.proofs.Ways.{reply_goes}
 use Rattle.steps.proofs.step.take.Goals as goal
 
 pub returns-then-not-both_exist : goal.returns-then-not-both_exist
 returns-then-not-both_exist c =
-    take_refused _ _ _ _ _ _ (stop (rung _ _ _ c.both_exist.ensures (no c.if-not-both_exist.true)))
-
-pub has-requires : goal.has-requires
-has-requires c =
-    let there = both_told c.args.settings c.args.d c.args.k c.both_exist.ensures c.if-not-both_exist.false in
-    omega (arith, there)
+    take_refused _ _ _ _ _ _ (stop (rung _ _ _ c.both_exist.ensures.is (no c.if-not-both_exist.true)))
 
 pub returns-then-has : goal.returns-then-has
 returns-then-has c =
     take_refused _ _ _ _ _ _
-    (next (rung _ _ _ c.both_exist.ensures (yes c.if-not-both_exist.false)) (stop (passed c.has.ensures c.if-has.true)))
-
-pub overflow_sub-d : goal.overflow_sub-d
-overflow_sub-d c =
-    let there = both_told c.args.settings c.args.d c.args.k c.both_exist.ensures c.if-not-both_exist.false in
-    omega (arith, there)
-
-pub overflow_sub-k : goal.overflow_sub-k
-overflow_sub-k c =
-    let there = both_told c.args.settings c.args.d c.args.k c.both_exist.ensures c.if-not-both_exist.false in
-    omega (arith, there)
-
-pub down-requires : goal.down-requires
-down-requires c =
-    let there = both_told c.args.settings c.args.d c.args.k c.both_exist.ensures c.if-not-both_exist.false in
-    omega (arith, there)
-
-pub count-requires : goal.count-requires
-count-requires c =
-    let there = both_told c.args.settings c.args.d c.args.k c.both_exist.ensures c.if-not-both_exist.false in
-    omega (arith, there)
+    (next (rung _ _ _ c.both_exist.ensures.is (yes c.if-not-both_exist.false)) (stop (passed c.has.ensures c.if-has.true)))
 
 pub returns-then-count-eq0 : goal.returns-then-count-eq0
 returns-then-count-eq0 c =
     take_refused _ _ _ _ _ _
-    (next (rung _ _ _ c.both_exist.ensures (yes c.if-not-both_exist.false))
+    (next (rung _ _ _ c.both_exist.ensures.is (yes c.if-not-both_exist.false))
     (next (failed c.has.ensures c.if-has.false)
     (stop (empty_rung _ _ _ _ c.count.ensures c.down.ensures c.if-count-eq0.true))))
 
-pub take_oldest-requires : goal.take_oldest-requires
-take_oldest-requires c =
-    let there = both_told c.args.settings c.args.d c.args.k c.both_exist.ensures c.if-not-both_exist.false in
-    let sends = reply_goes c.args.slots.now c.requires.6 c.args.d c.args.k (omega (arith, there))
+pub take_oldest-requires-clause-goes_down : goal.take_oldest-requires-clause-goes_down
+take_oldest-requires-clause-goes_down c =
+    let there = c.both_exist.ensures.there c.if-not-both_exist.false in
+    reply_goes c.args.slots.now c.requires.ways c.args.d c.args.k (omega (arith, there))
     (omega (arith, there)) (omega (arith, there)) (omega (arith, there))
-    (one_waits _ _ _ _ c.count.ensures c.down.ensures c.if-count-eq0.false) in (
-      c.requires.0,
-      c.requires.2,
-      omega (arith, there),
-      omega (arith, there),
-      omega (arith, there),
-      omega (arith, there),
-      c.requires.3 (c.args.d - 1) (omega (arith, there)),
-      c.requires.4,
-      c.requires.5,
-      sends,
-    )
+    (one_waits _ _ _ _ c.count.ensures c.down.ensures c.if-count-eq0.false)
 
 pub returns : goal.returns
 returns c =
     take_on c.args.settings c.args.clients.now c.args.slots.now c.args.d c.args.k _
-    c.take_oldest.ensures (rung _ _ _ c.both_exist.ensures (yes c.if-not-both_exist.false))
+    c.take_oldest.ensures (rung _ _ _ c.both_exist.ensures.is (yes c.if-not-both_exist.false))
     (failed c.has.ensures c.if-has.false)
     (waiting_rung _ _ _ _ c.count.ensures c.down.ensures c.if-count-eq0.false)

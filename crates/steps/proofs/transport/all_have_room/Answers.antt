@@ -1,6 +1,6 @@
 -- `all_have_room`: the loop has the answer for the channels that it passed. Assumes nothing.
 use Rattle.register.proofs.Vocabulary.{all_below, contains, capacity}
-use Rattle.basics.proofs.Prelude.{◌≡◌, refl, ap, ◌∙◌, ◌||◌, ℕ, suc, ◌+◌, arith, leb, rules}
+use Rattle.basics.proofs.Prelude.{◌≡◌, refl, ap, ◌∙◌, ◌||◌, ℕ, suc, ◌+◌, arith, leb}
 use Rattle.channel.specs.Memory.{count_at}
 use Rattle.state.specs.State.{down_index}
 use Rattle.steps.specs.InMemory.{room_down}
@@ -9,21 +9,19 @@ use Rattle.steps.proofs.transport.all_have_room.Goals as goal
 
 pub loop-to-init : goal.loop-to-init
 unfolding all_below
-loop-to-init c = (search rules, λ p. refl)
+loop-to-init c pair = refl
 
 pub loop-to-preserved : goal.loop-to-preserved
-loop-to-preserved c =
+loop-to-preserved c pair =
     let a = c.args in
-    let to = c.loop-to.to in (
-      omega arith,
-      λ pair. tested _ to _ _ (c.loop-to.invariant.1 pair)
-          (c.has_room_from-fits.ensures
-          ∙ ap (λ (n : ℕ). contains a.stopped (suc to)
-          || leb (count_at a.slots.now (down_index to a.j) + n) capacity) (c.count_to.ensures.0 pair)),
-    )
+    let to = c.loop-to.to in
+    tested _ to _ _ (c.loop-to.invariant pair)
+    (c.has_room_from-fits.ensures
+    ∙ ap (λ (n : ℕ). contains a.stopped (suc to) || leb (count_at a.slots.now (down_index to a.j) + n) capacity)
+    (c.count_to.ensures.0 pair))
 
 pub returns : goal.returns
 unfolding room_down
 returns c pair =
     let last : c.loop-to.to ≡ c.args.settings.clients = omega arith in
-    rw (← last) (c.loop-to.invariant.1 pair)
+    rw (← last) (c.loop-to.invariant pair)

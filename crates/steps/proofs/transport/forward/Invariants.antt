@@ -1,13 +1,9 @@
 -- `forward`: the loop has sent to those readers that it passed. Assumes nothing.
-use Rattle.register.proofs.Vocabulary.{contains, forwards, most_clients}
-use Rattle.basics.proofs.Prelude.{◌≡◌, ◌-◌, ◌≤◌}
+use Rattle.register.proofs.Vocabulary.{contains, forwards}
+use Rattle.basics.proofs.Prelude.{◌≡◌}
 use Rattle.steps.specs.InMemory.{send_down}
 use Rattle.steps.proofs.transport.forward.Given as goal
 
 abbrev pub invariant-loop-i : goal.invariant-loop-i
 invariant-loop-i l =
-    (l.i ≤ most_clients) × (l.slots ≡ send_down l.stopped l.initial.slots l.j (forwards (contains l.set) l.pair l.i))
-
-abbrev pub decreases-loop-i : goal.decreases-loop-i
-decreases-loop-i l =
-    most_clients - l.i
+    l.slots ≡ send_down l.stopped l.initial.slots l.j (forwards (contains l.set) l.pair l.i)

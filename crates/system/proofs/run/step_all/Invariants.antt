@@ -1,14 +1,10 @@
 -- `step_all`: before step i the memory is that of the history's world i, and the answers up to it are
 -- written. A step more is one turn (`RunLaws`).
 -- Assumes nothing.
-use Rattle.basics.proofs.Prelude.{◌≡◌, length, ◌-◌, ◌≤◌}
+
 use Rattle.system.specs.Run.{Run}
 use Rattle.system.proofs.run.step_all.Given as goal
 
 abbrev pub invariant-loop-i : goal.invariant-loop-i
-invariant-loop-i l =
-    (l.i ≤ l.n) × (length l.out ≡ length l.initial.out) × Run l.settings l.steps l.initial.out l.n l.i l.servers l.clients l.slots l.out
-
-abbrev pub decreases-loop-i : goal.decreases-loop-i
-decreases-loop-i l =
-    l.n - l.i
+invariant-loop-i g l =
+    Run l.settings l.steps l.initial.out l.many l.i l.servers l.clients l.slots l.out

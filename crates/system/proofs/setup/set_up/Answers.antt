@@ -1,18 +1,18 @@
 -- `set_up`: a refused setup stores nothing; memory of zeros is what is stored of the new world.
 -- Assumes nothing.
 use Rattle.basics.proofs.Prelude.{sym, ◌∙◌}
+use Rattle.std.proofs.lemmas.Result.{err_from_is_err_and}
 use Rattle.state.proofs.StoredSetup.{servers_new, clients_new, slots_new}
 use Rattle.system.specs.Setup.{set_up_by}
 use Rattle.system.proofs.setup.set_up.Goals as goal
 
-pub returns-in-Refused : goal.returns-in-Refused
+pub returns-in_err-settings : goal.returns-in_err-settings
 unfolding set_up_by
-returns-in-Refused c =
-    let is = c.in-Refused.is in
-    rw (sym c.settings_of-setup.ensures ∙ is, is)
+returns-in_err-settings c =
+    let given = err_from_is_err_and c.from_residual.result c.from_residual.ensures.1 in
+    rw (sym c.settings_of.ensures ∙ c.in_err-settings.was, given.1, given.2)
 
-pub returns-in-Set : goal.returns-in-Set
+pub returns : goal.returns
 unfolding set_up_by
-returns-in-Set c =
-    let is = c.in-Set.is in
-    rw (sym c.settings_of-setup.ensures ∙ is, is, servers_new, clients_new, slots_new)
+returns c =
+    rw (sym c.settings_of.ensures ∙ c.in_ok-settings.was, servers_new, clients_new, slots_new)

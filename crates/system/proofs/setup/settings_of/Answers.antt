@@ -1,6 +1,7 @@
--- `settings_of`: each test is one of the definition's, or follows from one (`SetupLaws`).
+-- `settings_of`: each test is one of the definition's, or follows from one (`SetupLaws`). The marks are tested
+-- first, so at every later test they are among the 13.
 -- Assumes nothing.
-use Rattle.basics.proofs.Prelude.{◌≡◌, true, sym, ◌∙◌, lt-ltb, le-ltb}
+use Rattle.basics.proofs.Prelude.{sym, ◌<◌, arith, lt-ltb, le-ltb}
 use Rattle.system.proofs.SetupLaws.{over_marks, over_f, over_n, over_clients, out_of_range}
 use Rattle.system.proofs.SetupLaws.{too_many, is_set}
 use Rattle.system.proofs.setup.settings_of.Goals as goal
@@ -9,40 +10,43 @@ pub returns-then-faulty-ge-OVER_MARKS : goal.returns-then-faulty-ge-OVER_MARKS
 returns-then-faulty-ge-OVER_MARKS c =
     let a = c.args in sym (over_marks a.f a.n a.clients a.faulty c.if-faulty-ge-OVER_MARKS.true)
 
--- the marks are tested first, so at every later test they are among the 13
-pub returns-then-f-gt-MAX_BYTE : goal.returns-then-f-gt-MAX_BYTE
-returns-then-f-gt-MAX_BYTE c =
+pub returns-in_default : goal.returns-in_default
+returns-in_default c =
     let a = c.args in
-    sym (over_f a.f a.n a.clients a.faulty c.if-faulty-ge-OVER_MARKS.false c.if-f-gt-MAX_BYTE.true)
+    let wide : 255 < a.f = omega (arith, c.in_default.ensures) in
+    sym (over_f a.f a.n a.clients a.faulty c.if-faulty-ge-OVER_MARKS.false wide)
 
-pub returns-then-n-gt-MAX_BYTE : goal.returns-then-n-gt-MAX_BYTE
-returns-then-n-gt-MAX_BYTE c =
+pub returns-in_default-try_from : goal.returns-in_default-try_from
+returns-in_default-try_from c =
     let a = c.args in
-    sym (over_n a.f a.n a.clients a.faulty c.if-faulty-ge-OVER_MARKS.false c.if-n-gt-MAX_BYTE.true)
+    let wide : 255 < a.n = omega (arith, c.in_default-try_from.ensures) in
+    sym (over_n a.f a.n a.clients a.faulty c.if-faulty-ge-OVER_MARKS.false wide)
 
-pub returns-then-clients-gt-MAX_BYTE : goal.returns-then-clients-gt-MAX_BYTE
-returns-then-clients-gt-MAX_BYTE c =
+pub returns-in_default-try_from-2 : goal.returns-in_default-try_from-2
+returns-in_default-try_from-2 c =
     let a = c.args in
-    sym (over_clients a.f a.n a.clients a.faulty c.if-faulty-ge-OVER_MARKS.false c.if-clients-gt-MAX_BYTE.true)
+    let wide : 255 < a.clients = omega (arith, c.in_default-try_from-2.ensures) in
+    sym (over_clients a.f a.n a.clients a.faulty c.if-faulty-ge-OVER_MARKS.false wide)
 
 pub returns-then-not-fine : goal.returns-then-not-fine
 returns-then-not-fine c =
     let a = c.args in
     sym (out_of_range a.f a.n a.clients a.faulty c.if-faulty-ge-OVER_MARKS.false
-    (sym c.is_in_range-fine.ensures ∙ c.if-not-fine.true))
+    (cc (c.in-Ok.ensures.1, c.in-Ok-try_from.ensures.1, c.in-Ok-try_from-2.ensures.1)))
 
 pub returns-then-many : goal.returns-then-many
 returns-then-many c =
     let a = c.args in
-    let fine : c.is_in_range-fine.result ≡ true = cc in
+    let few = c.in-Ok.ensures.1 in
     sym (too_many a.f a.n a.clients a.faulty c.if-faulty-ge-OVER_MARKS.false
-    (sym c.is_in_range-fine.ensures ∙ fine)
-    (lt-ltb _ _ (rw c.count_faulty.ensures at c.if-many.true)))
+    (cc (few, c.in-Ok-try_from.ensures.1, c.in-Ok-try_from-2.ensures.1))
+    (lt-ltb _ _ (rw (few, c.count_faulty.ensures) at c.if-many.true)))
 
 pub returns-else-many : goal.returns-else-many
 returns-else-many c =
     let a = c.args in
-    let fine : c.is_in_range-fine.result ≡ true = cc in
-    sym (is_set a.f a.n a.clients a.faulty c.if-faulty-ge-OVER_MARKS.false
-    (sym c.is_in_range-fine.ensures ∙ fine)
-    (le-ltb _ _ (rw c.count_faulty.ensures at c.if-many.false)))
+    let few = c.in-Ok.ensures.1 in
+    let set = is_set a.f a.n a.clients a.faulty c.if-faulty-ge-OVER_MARKS.false
+    (cc (few, c.in-Ok-try_from.ensures.1, c.in-Ok-try_from-2.ensures.1))
+    (le-ltb _ _ (rw (few, c.count_faulty.ensures) at c.if-many.false)) in
+    cc (few, c.in-Ok-try_from.ensures.1, c.in-Ok-try_from-2.ensures.1)

@@ -2,14 +2,9 @@
 -- Assumes nothing.
 use Rattle.basics.proofs.Prelude.{sym, ◌∙◌}
 use Rattle.state.proofs.SoundFacts.{facts}
-use Rattle.system.specs.Step.{stepped}
 use Rattle.system.proofs.ReadyLaws.{ready}
 use Rattle.system.proofs.StepLaws.{step_law}
 use Rattle.system.proofs.step.step.Goals as goal
-
-pub returns-then-not-is_sound : goal.returns-then-not-is_sound
-unfolding stepped
-returns-then-not-is_sound c = rw (sym c.is_sound.ensures ∙ c.if-not-is_sound.true)
 
 pub make_step-requires : goal.make_step-requires
 make_step-requires c = ready _ _ _ _ (facts _ _ _ _ (sym c.is_sound.ensures ∙ c.if-not-is_sound.false))
