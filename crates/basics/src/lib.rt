@@ -13,7 +13,7 @@ pub const OVER_32: u64 = 1 << 32;
 pub fn wide(byte: u8) -> u64
     ensures { result ≡ byte }
 {
-    byte as u64
+    u64::from(byte)
 }
 
 // The byte of a number that stands so many bits from its low end.
@@ -36,7 +36,7 @@ pub fn push(number: u64, last: u8) -> u64
 pub fn least(one: usize, other: usize) -> usize
     ensures { result ≡ min one other }
 {
-    if one < other { one } else { other }
+    one.min(other)
 }
 
 // The digit of a value, to the base 16 or a lower one.

@@ -3,7 +3,7 @@
 //
 // Channel i has its count at place i. Behind the counts each channel has eight slots of two numbers, oldest
 // message first. A slot that is not used is zero. What the numbers stand for is in specs/Layout; proofs/ has
-// the laws that callers use.
+// the laws that callers use. A channel goes by its index, and each `requires` has the bound, as for an array.
 #![tactic(auto)]
 
 ghost use Rattle.std.specs.Prelude.{◌≡◌, ◌+◌, ◌*◌, ◌<◌, ◌≤◌, replicate};

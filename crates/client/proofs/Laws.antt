@@ -186,8 +186,8 @@ module _ (d n f : ℕ) (memory : List ℕ) (k : ℕ) (bytes : List ℕ) where
       → Unchanged memory (take_of d n f memory k bytes)
   dropped_unchanged message good e =
       by_take (Unchanged memory) d n f memory k bytes (refused_unchanged memory)
-      (λ None. rw (good, not_taken n f d (view memory) k message e)
-      record { memory = store_view n f memory (sound_then None); sends = refl })
+      (λ accepted. rw (good, not_taken n f d (view memory) k message e)
+      record { memory = store_view n f memory (sound_then accepted); sends = refl })
 
   pub old_info : (tag : ReadNumber) (pair : Pair) → unpack_of bytes ≡ Ok (Info tag pair)
       → (tag.0 ≡ (reads_in memory).0 → ⊥)
@@ -205,7 +205,7 @@ module _ (d n f : ℕ) (memory : List ℕ) (k : ℕ) (bytes : List ℕ) where
       by_unpacked (unpack_of bytes)
       (λ message good. dropped_unchanged message good (idle_takes_none (view memory) k message h))
       (λ why bad. by_take (Unchanged memory) d n f memory k bytes (refused_unchanged memory)
-      (λ None. rw bad (refused_unchanged memory why)))
+      (λ accepted. rw bad (refused_unchanged memory why)))
 
 -- ---- every client at any time
 

@@ -5,6 +5,7 @@
 #![tactic(auto)]
 
 ghost use Rattle.std.specs.Prelude.{◌≡◌, true, false, ◌+◌, ◌<◌, ◌≤◌, length, drop, replicate};
+ghost use Rattle.basics.specs.Tests.{is_up_to};
 ghost use Rattle.message.specs.Layout.{last_read};
 ghost use Rattle.register.specs.Settings.{most_clients, most_servers};
 ghost use Rattle.register.specs.Client.{is_idle, is_reading, is_storing, entry_of, uses_info};
@@ -19,7 +20,7 @@ ghost use Rattle.client.specs.Outcome.{messages_of};
 ghost use Rattle.client.specs.Sends.{after, ends_with, concluded_of, chosen_of, received_of};
 ghost use Rattle.client.specs.Taking.{is_taken};
 ghost use Rattle.client.specs.Outcome as outcome;
-ghost use Rattle.client.specs.Entry.{is_client, is_server, read_of, start_of, write_of, take_of};
+ghost use Rattle.client.specs.Entry.{read_of, start_of, write_of, take_of};
 ghost use Rattle.client.specs.Collecting.{Collected, received_pair_of};
 
 use message::{Entry, Message, Pair, ReadNumber, WriteCounter};
@@ -38,10 +39,12 @@ const COUNTER: usize = 3;
 
 const REPLIES: usize = 4;
 
-// The numbers of the whole memory.
+// The numbers of the whole memory. Functions take it as a slice, not as an array: `steps` lends a part of its
+// clients, and what is written through a part lent as an array is not known afterwards.
 pub const LENGTH: usize = REPLIES + replies::LENGTH;
 
-// The phase as a number: from READING_FOR_WRITE on it has an entry, and STORING has a counter too.
+// The phase as a number, since lent memory has numbers: from READING_FOR_WRITE on it has an entry, and STORING
+// has a counter too.
 const IDLE: u64 = 0;
 
 const READING: u64 = 1;
@@ -217,7 +220,8 @@ fn follow_choice(client: Client, replies: &mut Replies) -> Transition
     conclude(client, pair)
 }
 
-// ---- one message of server k
+// ---- one message of server k. Each `requires` says that it is there, and that client and replies are sound together:
+// the functions that `steps` calls are named so in README, and two values have no invariant of one type.
 
 // Whether an INFO with a tag is taken: while the client reads, of this read, and the first of its server.
 fn takes_info(client: Client, k: u8, tag: ReadNumber, replies: &Replies) -> bool
@@ -458,7 +462,7 @@ pub fn would_send(client: Client, k: u8, message: Message, memory: &[u64]) -> Se
     ensures { messages_of result
         ≡ (outcome.taken_of client.number client.n client.f memory.now k message).sends }
 {
-    let mut trial = replies::copied(replies_in(memory));
+    let mut trial = *replies_in(memory);
     foreseen(client, k, message, &mut trial)
 }
 
@@ -550,24 +554,13 @@ pub fn is_sound(n: u8, f: u8, memory: &[u64]) -> bool
     are_replies_sound(n, memory)
 }
 
-// ---- entry points
+// ---- entry points. Each is told the client's number, n and f: a caller has them, and memory has not.
 
-fn is_client(number: u8) -> bool
-    ensures { result ≡ is_client number }
+// Whether a number is one of those from 1 to the most: of the clients, or of the servers.
+fn is_up_to(most: u8, number: u8) -> bool
+    ensures { result ≡ is_up_to most number }
 {
-    if number < 1 {
-        return false;
-    }
-    number <= MOST_CLIENTS
-}
-
-fn is_server(k: u8, n: u8) -> bool
-    ensures { result ≡ is_server n k }
-{
-    if k < 1 {
-        return false;
-    }
-    k <= n
+    1 <= number && number <= most
 }
 
 // Client `number` starts in a phase, whose entry, if it has one, is a licence entry or not.
@@ -585,7 +578,7 @@ fn start(
     if !is_sound(n, f, memory) {
         return Err(Refusal::Unsound);
     }
-    if !is_client(number) {
+    if !is_up_to(MOST_CLIENTS, number) {
         return Err(Refusal::NoSuchProcess);
     }
     let client = load(memory, number, n, f);
@@ -641,10 +634,10 @@ pub fn take(
     if !is_sound(n, f, memory) {
         return Err(Refusal::Unsound);
     }
-    if !is_client(number) {
+    if !is_up_to(MOST_CLIENTS, number) {
         return Err(Refusal::NoSuchProcess);
     }
-    if !is_server(k, n) {
+    if !is_up_to(n, k) {
         return Err(Refusal::NoSuchProcess);
     }
     let Ok(message) = message::unpack(bytes) else {

@@ -132,7 +132,8 @@ impl Client {
     }
 }
 
-// The clients and the servers, of which the first `live` serve messages.
+// The clients and the servers, of which the first `live` serve messages. What prints is given `rt`, as in any program of
+// the kit: the handle stays in `main`.
 #[derive(Drop)]
 pub struct Group {
     clients: [Client; 2],

@@ -1,4 +1,4 @@
--- A whole run in numbers, as `system` has them: what a setup answers, and the answers of the steps.
+-- A whole run in numbers, as `system` has them: the answers of the steps.
 -- Assumes nothing.
 use Rattle.refusal.specs.declared.Refusal.{Refusal}
 use Rattle.std.specs.Prelude.{ℕ, List, Result, Ok, Err}

@@ -5,7 +5,8 @@ ghost use Rattle.exports.specs.Runs.{answers_of};
 ghost use Rattle.exports.specs.Status.{status_of};
 
 use crate::status;
-use state::{CLIENTS_LENGTH, SERVERS_LENGTH};
+use register::Setup;
+use state::State;
 use system::run::{run, run_by};
 use system::step::step;
 
@@ -24,20 +25,13 @@ pub extern "C" fn exports_run(
     ensures answers { out.new
         ≡ answers_of (setup_of f n count faulty) steps.now out.old }
 {
-    let mut servers = [0u64; SERVERS_LENGTH];
-    let mut clients = [0u64; CLIENTS_LENGTH];
-    let mut slots = channel::empty_slots();
-    status(run(
+    let asked = Setup {
         f,
         n,
-        count,
+        clients: count,
         faulty,
-        steps,
-        out,
-        &mut servers,
-        &mut clients,
-        &mut slots,
-    ))
+    };
+    status(run(asked, steps, out, &mut State::new()))
 }
 
 // The same run, each step through the public `step`, which tests the whole state each time.
@@ -54,19 +48,11 @@ pub extern "C" fn exports_run_by_steps(
     ensures answers { out.new
         ≡ answers_of (setup_of f n count faulty) steps.now out.old }
 {
-    let mut servers = [0u64; SERVERS_LENGTH];
-    let mut clients = [0u64; CLIENTS_LENGTH];
-    let mut slots = channel::empty_slots();
-    status(run_by(
-        step,
+    let asked = Setup {
         f,
         n,
-        count,
+        clients: count,
         faulty,
-        steps,
-        out,
-        &mut servers,
-        &mut clients,
-        &mut slots,
-    ))
+    };
+    status(run_by(step, asked, steps, out, &mut State::new()))
 }

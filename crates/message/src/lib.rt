@@ -15,7 +15,7 @@ use basics::OVER_32;
 use refusal::Refusal;
 
 // The number of a client's read (01: the tag). Never a write counter, although document 001 calls both
-// my_ctr: only what stands below reads it, and nothing has both.
+// my_ctr: only this module looks inside, and nothing compares the two.
 #[derive(Clone, Copy, PartialEq, Eq)]
 pub struct ReadNumber(u32);
 
@@ -96,7 +96,8 @@ const OVER_TAG: u32 = TAG_MASK + 1;
 
 const OVER_COUNTER: u32 = COUNTER_MASK + 1;
 
-// ---- read numbers
+// ---- read numbers, and behind them write counters, with the same functions: they are two tuple structs so that
+// none stands for the other, and a trait over both would repeat the bodies in its impls
 
 // No higher one follows.
 pub fn is_last_read(tag: ReadNumber) -> bool
@@ -269,7 +270,8 @@ pub fn of_words(words: Words) -> Result<Message, Refusal>
 }
 
 // The message of a number that is known to go up to a server, or down from one, as on a sound channel: the
-// kind alone tells which. By what is known no other kind comes here, so the last line is never reached.
+// kind alone tells which. By what is known no other kind comes here, so the last line is never reached. Two
+// functions, since they have no kind in common.
 pub fn request_of(words: Words) -> Result<Message, Refusal>
     requires { goes false (message_of (words_number words)) ≡ true }
     ensures { result ≡ message_of (words_number words) }

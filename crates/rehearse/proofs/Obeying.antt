@@ -8,6 +8,7 @@ use Rattle.register.proofs.Vocabulary.{Refusal, new_world}
 use Rattle.script.specs.declared.parse.Line.TheVariants as line
 use Rattle.script.specs.declared.print.Output.TheVariants as output
 use Rattle.script.specs.Numerals.{next_number}
+use Rattle.register.specs.declared.Setup.{Setup}
 use Rattle.state.specs.declared.Settings.{Settings}
 use Rattle.system.specs.Setup.{setup_of}
 use Rattle.system.specs.Stored.{Stored}
@@ -17,11 +18,11 @@ module _ (settings : Option Settings) (servers clients slots : List ℕ) (number
   abbrev known : Stage
   known = stage settings servers clients slots number
 
-  pub obeys_set : (f n count faulty : ℕ) (accepted : Settings) (servers' clients' slots' : List ℕ)
-      → setup_of f n count faulty ≡ Ok accepted → Stored new_world servers' clients' slots'
-      → Obeys known (Some (line.Setup f n count faulty)) output.Set (stage (Some accepted) servers' clients' slots')
+  pub obeys_set : (asked : Setup) (accepted : Settings) (servers' clients' slots' : List ℕ)
+      → setup_of asked.f asked.n asked.clients asked.faulty ≡ Ok accepted → Stored new_world servers' clients' slots'
+      → Obeys known (Some (line.Setup asked)) output.Set (stage (Some accepted) servers' clients' slots')
   unfolding output_of after
-  obeys_set f n count faulty accepted servers' clients' slots' is stored =
+  obeys_set asked accepted servers' clients' slots' is stored =
       record {
         prints = ap setup_output (sym is);
         leaves =
@@ -29,13 +30,13 @@ module _ (settings : Option Settings) (servers clients slots : List ℕ) (number
             (next_number number)) ∙ ap (set_up known) (sym is);
       }
 
-  pub obeys_refused : (f n count faulty : ℕ) (why : Refusal) (servers' clients' slots' : List ℕ)
-      → setup_of f n count faulty ≡ Err why
+  pub obeys_refused : (asked : Setup) (why : Refusal) (servers' clients' slots' : List ℕ)
+      → setup_of asked.f asked.n asked.clients asked.faulty ≡ Err why
       → (servers' ≡ servers) × (clients' ≡ clients) × (slots' ≡ slots)
-      → Obeys known (Some (line.Setup f n count faulty)) (output.Answered (Err why))
+      → Obeys known (Some (line.Setup asked)) (output.Answered (Err why))
       (stage settings servers' clients' slots')
   unfolding output_of after
-  obeys_refused f n count faulty why servers' clients' slots' is kept =
+  obeys_refused asked why servers' clients' slots' is kept =
       record {
         prints = ap setup_output (sym is);
         leaves =

@@ -56,7 +56,7 @@ step_counted known None step = refl
 
 line_counted : (known : Stage) (l : Option Line) → (after known l).number ≡ next_number known.number
 unfolding after
-line_counted known (Some (line.Setup f n count faulty)) = setup_counted known (setup_of f n count faulty)
+line_counted known (Some (line.Setup asked)) = setup_counted known (setup_of asked.f asked.n asked.clients asked.faulty)
 line_counted known (Some (line.Do step)) = step_counted known known.settings step
 line_counted known None = refl
 

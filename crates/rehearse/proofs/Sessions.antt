@@ -62,12 +62,12 @@ pub in_session : (settings : Settings) → Allowed settings → (steps : List mo
     ≡ outputs_by (answer_at (settings_of settings) formats steps) place ls
 unfolding outputs_of output_of after accepted_by steps_of outputs_by
 in_session settings allowed steps [] plain place number e = refl
-in_session settings allowed steps (Some (line.Setup f n count faulty) ∷ ls) plain place number e =
-    let answer : Result Settings Refusal = setup_of f n count faulty in
+in_session settings allowed steps (Some (line.Setup asked) ∷ ls) plain place number e =
+    let answer : Result Settings Refusal = setup_of asked.f asked.n asked.clients asked.faulty in
     ap (λ (os : List Output). setup_output answer ∷ os)
     (ap (λ (known : Stage). outputs_of known ls)
     (refused_setup (stage_at settings steps place number) answer
-    (plain (Some (line.Setup f n count faulty)) (inl refl)))
+    (plain (Some (line.Setup asked)) (inl refl)))
     ∙ in_session settings allowed steps ls (λ l among. plain l (inr among)) place (next_number number) e)
 in_session settings allowed steps (Some (line.Do step) ∷ ls) plain place number e =
     let here = at_place steps place (model.R 0) (step_of step) (steps_of ls) e in
@@ -93,11 +93,11 @@ pub record Begun (known : Stage) (setup_line : Option Line) (S : register.Settin
 pub begun : (known : Stage) (setup_line : Option Line) (S : register.Settings) → accepted_by setup_line ≡ Some S
     → Begun known setup_line S
 unfolding output_of after accepted_by world_at
-begun known (Some (line.Setup f n count faulty)) S e =
-    let given = accepted_setup (setup_of f n count faulty) S e in
+begun known (Some (line.Setup asked)) S e =
+    let given = accepted_setup (setup_of asked.f asked.n asked.clients asked.faulty) S e in
     record {
       settings = given.0;
-      allowed = allowed_set f n count faulty given.0 given.1;
+      allowed = allowed_set asked.f asked.n asked.clients asked.faulty given.0 given.1;
       same = given.2;
       prints = ap setup_output given.1;
       leaves = λ steps. ap (set_up known) given.1;

@@ -9,6 +9,7 @@ use Rattle.register.proofs.Vocabulary.{new_world}
 use Rattle.basics.proofs.Prelude.{◌≡◌, refl, true, List, [], ◌∷◌, ℕ}
 use Rattle.std.specs.Prelude.{Option, Some, None, IfSome, Result, Ok, Err}
 use Rattle.register.proofs.Reachable.{well_new}
+use Rattle.register.specs.declared.Setup.{Setup}
 use Rattle.state.specs.declared.Settings.{Settings}
 use Rattle.state.specs.Sound.{is_sound}
 use Rattle.state.specs.State.{settings_of, store_servers, store_clients, store_slots}
@@ -34,11 +35,11 @@ new_sound : (settings : Settings) → Allowed settings
     → is_sound settings (store_servers new_world) (store_clients new_world) (store_slots new_world) ≡ true
 new_sound settings allowed = stored_state settings allowed new_world (well_new (settings_of settings) formats)
 
-set_sound : (known : Stage) (f n count faulty : ℕ) (answer : Result Settings Refusal) → setup_of f n count faulty ≡ answer
+set_sound : (known : Stage) (asked : Setup) (answer : Result Settings Refusal) → setup_of asked.f asked.n asked.clients asked.faulty ≡ answer
     → Sound known → Sound (set_up known answer)
-set_sound known f n count faulty (Ok settings) e sound =
-    new_sound settings (allowed_set f n count faulty settings e)
-set_sound known f n count faulty (Err why) e sound = sound
+set_sound known asked (Ok settings) e sound =
+    new_sound settings (allowed_set asked.f asked.n asked.clients asked.faulty settings e)
+set_sound known asked (Err why) e sound = sound
 
 -- ---- after a line, and after lines
 
@@ -51,8 +52,8 @@ step_sound None servers clients slots number step sound = sound
 
 pub line_sound : (known : Stage) (first : Option Line) → Sound known → Sound (after known first)
 unfolding after
-line_sound known (Some (line.Setup f n count faulty)) sound =
-    set_sound known f n count faulty (setup_of f n count faulty) refl sound
+line_sound known (Some (line.Setup asked)) sound =
+    set_sound known asked (setup_of asked.f asked.n asked.clients asked.faulty) refl sound
 line_sound known (Some (line.Do step)) sound =
     step_sound known.settings known.servers known.clients known.slots known.number step sound
 line_sound known None sound = sound

@@ -37,7 +37,7 @@ accepted_in (Ok settings) = Some (settings_of settings)
 accepted_in (Err why) = None
 
 unfoldable pub accepted_by : Option Line → Option Settings
-accepted_by (Some (line.Setup f n count faulty)) = accepted_in (setup_of f n count faulty)
+accepted_by (Some (line.Setup asked)) = accepted_in (setup_of asked.f asked.n asked.clients asked.faulty)
 accepted_by (Some (line.Do step)) = None
 accepted_by None = None
 
@@ -48,7 +48,7 @@ NoneAccepted lines = (one : Option Line) → Member one lines → accepted_by on
 -- the steps among lines; a line that is unreadable, or an S, is none
 unfoldable pub steps_of : List (Option Line) → List Step
 steps_of [] = []
-steps_of (Some (line.Setup f n count faulty) ∷ rest) = steps_of rest
+steps_of (Some (line.Setup asked) ∷ rest) = steps_of rest
 steps_of (Some (line.Do step) ∷ rest) = step_of step ∷ steps_of rest
 steps_of (None ∷ rest) = steps_of rest
 
@@ -57,8 +57,8 @@ steps_of (None ∷ rest) = steps_of rest
 -- one output for each line: the first step gets answer `next`, the one after it `next + 1`, and so on
 unfoldable pub outputs_by : (ℕ → StepAnswer) → ℕ → List (Option Line) → List Output
 outputs_by answer next [] = []
-outputs_by answer next (Some (line.Setup f n count faulty) ∷ rest) =
-    setup_output (setup_of f n count faulty) ∷ outputs_by answer next rest
+outputs_by answer next (Some (line.Setup asked) ∷ rest) =
+    setup_output (setup_of asked.f asked.n asked.clients asked.faulty) ∷ outputs_by answer next rest
 outputs_by answer next (Some (line.Do step) ∷ rest) = output.Answered (answer next) ∷ outputs_by answer (suc next) rest
 outputs_by answer next (None ∷ rest) = output.Unread ∷ outputs_by answer next rest
 

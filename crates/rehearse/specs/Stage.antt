@@ -50,7 +50,7 @@ step_output known (Some settings) step = output.Answered (step_on known settings
 step_output known None step = output.Unread
 
 unfoldable pub output_of : Stage → Option Line → Output
-output_of known (Some (line.Setup f n count faulty)) = setup_output (setup_of f n count faulty)
+output_of known (Some (line.Setup asked)) = setup_output (setup_of asked.f asked.n asked.clients asked.faulty)
 output_of known (Some (line.Do step)) = step_output known known.settings step
 output_of known None = output.Unread
 
@@ -78,7 +78,7 @@ step_stage known (Some settings) step = moved known (step_on known settings step
 step_stage known None step = counted known
 
 unfoldable pub after : Stage → Option Line → Stage
-after known (Some (line.Setup f n count faulty)) = set_up known (setup_of f n count faulty)
+after known (Some (line.Setup asked)) = set_up known (setup_of asked.f asked.n asked.clients asked.faulty)
 after known (Some (line.Do step)) = step_stage known known.settings step
 after known None = counted known
 

@@ -6,12 +6,11 @@ ghost use Rattle.state.specs.Sound.{is_sound};
 ghost use Rattle.rehearse.specs.Stage.{stage, Obeys};
 ghost use Rattle.rehearse.specs.Blocks.{LinesDone};
 
-use channel::Slots;
-use register::Step;
+use register::{Setup, Step};
 use script::next::next;
 use script::parse::Line;
 use script::print::{Numeral, Output, next_numeral, put_numeral, put_output};
-use state::{Clients, Servers, Settings};
+use state::{Settings, State};
 use steps::step::make_step;
 use system::setup::set_up;
 
@@ -30,22 +29,13 @@ pub struct Turn {
 // Each function answers what is printed of the line.
 
 // An accepted setup sets up afresh, a refused one keeps the present system, or none.
-fn set_afresh(
-    settings: &mut Option<Settings>,
-    f: u32,
-    n: u32,
-    count: u32,
-    faulty: u32,
-    servers: &mut Servers,
-    clients: &mut Clients,
-    slots: &mut Slots,
-) -> Output
+fn set_afresh(settings: &mut Option<Settings>, asked: Setup, state: &mut State) -> Output
     ensures { (number : ℕ) → Obeys
-        (stage settings.old servers.old clients.old slots.old number)
-        (Some (Line.Setup f n count faulty)) result
-        (stage settings.new servers.new clients.new slots.new) }
+        (stage settings.old state.old.servers state.old.clients state.old.slots number)
+        (Some (Line.Setup asked)) result
+        (stage settings.new state.new.servers state.new.clients state.new.slots) }
 {
-    match set_up(f, n, count, faulty, servers, clients, slots) {
+    match set_up(asked, state) {
         Ok(accepted) => {
             *settings = Some(accepted);
             Output::Set
@@ -56,41 +46,30 @@ fn set_afresh(
 
 // A step before an accepted setup is unreadable.
 #[tactic(auto, using(system::proofs::StepLaws::step_law), unfolding(crate::specs::Stage::output_of, crate::specs::Stage::after))]
-fn obey_step(
-    settings: Option<Settings>,
-    step: Step,
-    servers: &mut Servers,
-    clients: &mut Clients,
-    slots: &mut Slots,
-) -> Output
-    requires { IfSome settings (λ present. is_sound present servers.old clients.old slots.old ≡ true) }
+fn obey_step(settings: Option<Settings>, step: Step, state: &mut State) -> Output
+    requires { IfSome settings (λ present. is_sound present
+        state.old.servers state.old.clients state.old.slots ≡ true) }
     ensures { (number : ℕ) → Obeys
-        (stage settings servers.old clients.old slots.old number)
-        (Some (Line.Do step)) result (stage settings servers.new clients.new slots.new) }
+        (stage settings state.old.servers state.old.clients state.old.slots number)
+        (Some (Line.Do step)) result
+        (stage settings state.new.servers state.new.clients state.new.slots) }
 {
     match settings {
-        Some(present) => Output::Answered(make_step(present, step, servers, clients, slots)),
+        Some(present) => Output::Answered(make_step(present, step, state)),
         None => Output::Unread,
     }
 }
 
-fn obey(
-    settings: &mut Option<Settings>,
-    line: Option<Line>,
-    servers: &mut Servers,
-    clients: &mut Clients,
-    slots: &mut Slots,
-) -> Output
-    requires { IfSome settings.old (λ present. is_sound present servers.old clients.old slots.old ≡ true) }
+fn obey(settings: &mut Option<Settings>, line: Option<Line>, state: &mut State) -> Output
+    requires { IfSome settings.old (λ present. is_sound present
+        state.old.servers state.old.clients state.old.slots ≡ true) }
     ensures { (number : ℕ) → Obeys
-        (stage settings.old servers.old clients.old slots.old number)
-        line result (stage settings.new servers.new clients.new slots.new) }
+        (stage settings.old state.old.servers state.old.clients state.old.slots number)
+        line result (stage settings.new state.new.servers state.new.clients state.new.slots) }
 {
     match line {
-        Some(Line::Setup(f, n, count, faulty)) => set_afresh(
-            settings, f, n, count, faulty, servers, clients, slots,
-        ),
-        Some(Line::Do(step)) => obey_step(*settings, step, servers, clients, slots),
+        Some(Line::Setup(asked)) => set_afresh(settings, asked, state),
+        Some(Line::Do(step)) => obey_step(*settings, step, state),
         None => Output::Unread,
     }
 }
@@ -99,20 +78,14 @@ fn obey(
 
 // Obeys every whole line of a block. A line's number is written before the line is obeyed, so that its answer
 // is printed where it is made.
-pub fn obey_lines(
-    turn: Turn,
-    input: &[u8],
-    out: &mut [u8],
-    servers: &mut Servers,
-    clients: &mut Clients,
-    slots: &mut Slots,
-) -> Turn
-    requires { IfSome turn.settings (λ present. is_sound present servers.old clients.old slots.old ≡ true)
+pub fn obey_lines(turn: Turn, input: &[u8], out: &mut [u8], state: &mut State) -> Turn
+    requires { IfSome turn.settings (λ present. is_sound present
+        state.old.servers state.old.clients state.old.slots ≡ true)
         × (turn.number ≡ numeral_of turn.number.number)
         × (length input.now * longest ≤ length out.old) }
     ensures { LinesDone turn input.now
-        servers.old clients.old slots.old out.old
-        result servers.new clients.new slots.new out.new }
+        state.old.servers state.old.clients state.old.slots out.old
+        result state.new.servers state.new.clients state.new.slots out.new }
 {
     let mut settings = turn.settings;
     let mut number = turn.number;
@@ -129,7 +102,7 @@ pub fn obey_lines(
             };
         }
         let number_end = put_numeral(out, used, number);
-        let what = obey(&mut settings, found.line, servers, clients, slots);
+        let what = obey(&mut settings, found.line, state);
         used = put_output(out, number_end, what);
         at = found.end + 1;
         number = next_numeral(number);

@@ -11,7 +11,7 @@ ghost use Rattle.rehearse.specs.Blocks.{joined, input_bytes, output_bytes};
 use lines::{Turn, obey_lines};
 use script::lines::{NEWLINE, keep};
 use script::print::{PRINTED_BYTES, numeral_of};
-use state::{CLIENTS_LENGTH, SERVERS_LENGTH};
+use state::State;
 use std::io::Read;
 
 mod lines;
@@ -77,9 +77,7 @@ fn write_out(rt: &(impl Print + Eprint), text: &[u8]) -> bool {
 // and nothing says that the input does: so the loop has a number of turns that no run uses up.
 fn main(rt: HostRuntime) {
     let mut stdin = rt.stdin();
-    let mut servers = [0u64; SERVERS_LENGTH];
-    let mut clients = [0u64; CLIENTS_LENGTH];
-    let mut slots = channel::empty_slots();
+    let mut state = State::new();
     let mut input = new_input();
     let mut out = new_output();
     let mut turn = Turn {
@@ -95,14 +93,7 @@ fn main(rt: HostRuntime) {
         if total < 1 {
             return;
         }
-        turn = obey_lines(
-            turn,
-            &input[..total],
-            &mut out,
-            &mut servers,
-            &mut clients,
-            &mut slots,
-        );
+        turn = obey_lines(turn, &input[..total], &mut out, &mut state);
         let used = turn.used;
         if !write_out(&rt, &out[..used]) {
             return;

@@ -1,5 +1,6 @@
 // What the servers have replied to one client, in memory that it is lent, in four rows (specs/Replies).
-// A server is named here by its place, which is its number less one.
+// A server is named here by its place, which is its number less one. Each `requires` has its bound and that of n,
+// as for an index: the documents name these functions as they are called.
 #![tactic(auto)]
 
 ghost use Rattle.std.specs.Prelude.{◌≡◌, cond, suc, ◌+◌, ◌*◌, ◌<◌, ◌≤◌, length, drop, replicate};
@@ -279,13 +280,6 @@ pub fn clear(replies: &mut Replies)
     ensures { replies.new ≡ replicate replies_length 0 }
 {
     replies.fill(0);
-}
-
-// A copy, for a trial.
-pub fn copied(replies: &Replies) -> Replies
-    ensures { result ≡ replies.now }
-{
-    *replies
 }
 
 // ---- soundness

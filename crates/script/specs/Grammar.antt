@@ -66,7 +66,8 @@ abbrev pub message_after : ℕ → ℕ → List ℕ → Option Line
 message_after k d text = hex_in message_digits text >>= λ value. Some (Do (L k d (words value)))
 
 abbrev pub marks_after : ℕ → ℕ → ℕ → List ℕ → Option Line
-marks_after f n clients text = marks_in text >>= λ marks. Some (Setup f n clients marks)
+marks_after f n clients text = marks_in text >>= λ marks.
+    Some (Setup (record { f = f; n = n; clients = clients; faulty = marks }))
 
 -- how many numbers stand before the last argument
 abbrev pub leading_of : ℕ → ℕ

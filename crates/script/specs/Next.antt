@@ -33,7 +33,7 @@ pub record Short (text : List ℕ) (at stop value next : ℕ) : Type 0 where
   pub bytes : drop at text ≡ word ++ stop ∷ drop next text
   pub behind : next ≡ at + length word + 1
 
--- from a place on up to the line's end stand a client and a message, with which server k's lie is a step
+-- from a place on up to the line's end: what is found is what the line of server k's lie says there
 pub record Lie (text : List ℕ) (k at : ℕ) (found : Found) : Type 0 where
   pub ends : line_end text at ≡ found.end
   pub few : found.end ≤ at + 25

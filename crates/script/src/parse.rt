@@ -8,7 +8,7 @@ ghost use Rattle.script.specs.Grammar.{leading_of, last_of, Cut};
 use crate::lines::place_of;
 use basics::OVER_32;
 use message::{ENTRY_BITS, Entry, HEAD_BYTES, MESSAGE_BYTES, Words};
-use register::{MOST_SERVERS, Step};
+use register::{MOST_SERVERS, Setup, Step};
 
 // No line of more bytes can be read.
 pub const LINE_BYTES: usize = 64;
@@ -26,10 +26,10 @@ const HIGH_DIGITS: usize = 2 * HEAD_BYTES;
 // The marks of an S, at most.
 const MARKS: usize = MOST_SERVERS as usize;
 
-// What a line says, if it can be read. A setup has f, n, the number of clients and the marks.
+// What a line says, if it can be read.
 #[derive(Clone, Copy)]
 pub enum Line {
-    Setup(u32, u32, u32, u32),
+    Setup(Setup),
     Do(Step),
 }
 
@@ -182,8 +182,13 @@ pub fn message_after(k: u32, d: u32, text: &[u8]) -> Option<Line>
 fn marks_after(f: u32, n: u32, clients: u32, text: &[u8]) -> Option<Line>
     ensures { result ≡ marks_after f n clients text.now }
 {
-    let marks = marks_in(text)?;
-    Some(Line::Setup(f, n, clients, marks))
+    let faulty = marks_in(text)?;
+    Some(Line::Setup(Setup {
+        f,
+        n,
+        clients,
+        faulty,
+    }))
 }
 
 // How many numbers stand before the last argument of a line.

@@ -166,8 +166,9 @@ pub fn put_output(out: &mut [u8], at: usize, what: Output) -> usize
 
 // ---- the line's number, with its text kept from one line to the next
 
-// A number of 3 to 8 digits with the digits of its hundreds, number / 100, and how many they are. Of another
-// number none are kept. The last two digits, number % 100, are kept as a number: to divide costs more.
+// A number of 3 to 8 digits with the digits of its hundreds, number / 100, and how many they are. Of another number
+// none are kept. They stand in an array, which is written whole at once, and no longer text. The last two digits,
+// number % 100, are kept as a number: to divide costs more.
 #[derive(Clone, Copy)]
 pub struct Numeral {
     pub number: u64,

@@ -85,6 +85,8 @@ fn higher(old: Pair, new: Pair) -> Pair
     }
 }
 
+// That a server is sound stands in each `requires` and is no invariant of the type: `load` loads any memory.
+
 // GET_INFO: client d reads now, and gets INFO with its tag and the pair.
 fn added(server: Server, d: u8, tag: ReadNumber) -> Served
     requires { (sound server ≡ true) × (1 ≤ d) × (d ≤ most_clients) }

@@ -48,7 +48,7 @@ fn with_verdict(digest: u64, entry: u64, on: Date) -> u64
     }
 }
 
-// Days left and verdict on a day.
+// Days left and verdict on a day. A digest goes first, as in a fold; an entry and a day are what it is of.
 fn with_day(digest: u64, entry: u64, on: Date) -> u64
     ensures { result ≡ with_day entry on digest }
 {

@@ -13,8 +13,8 @@ ghost use Rattle.state.specs.Sound.{is_client_sound, are_clients_sound, uses_up,
 ghost use Rattle.state.specs.Sound.{is_link_sound, are_links_sound, are_channels_sound, is_sound};
 
 use crate::{
-    CLIENTS, Clients, SERVERS, STOPPED, Servers, Settings, client_start, down, is_in, server_start,
-    up,
+    CLIENTS, Clients, SERVERS, STOPPED, Servers, Settings, State, client_start, down, is_in,
+    server_start, up,
 };
 use channel::Slots;
 use register::MOST_CLIENTS;
@@ -190,12 +190,12 @@ fn are_channels_sound(settings: Settings, stopped: u64, slots: &Slots) -> bool
 // Whether a state is sound: its settings, servers, clients and slots. That the lent memory has its length is
 // in the types.
 #[tactic(auto, using(crate::proofs::Tested::few_clients_lem), unfolding(crate::specs::Sound::is_sound, crate::specs::Sound::are_long))]
-pub fn is_sound(settings: Settings, servers: &Servers, clients: &Clients, slots: &Slots) -> bool
-    ensures { result ≡ is_sound settings servers.now clients.now slots.now }
+pub fn is_sound(settings: Settings, state: &State) -> bool
+    ensures { result ≡ is_sound settings state.now.servers state.now.clients state.now.slots }
 {
     is_allowed(settings)
-        && is_within(clients[STOPPED], settings.clients)
-        && are_servers_sound(settings, servers)
-        && are_clients_sound(settings, clients)
-        && are_channels_sound(settings, clients[STOPPED], slots)
+        && is_within(state.clients[STOPPED], settings.clients)
+        && are_servers_sound(settings, &state.servers)
+        && are_clients_sound(settings, &state.clients)
+        && are_channels_sound(settings, state.clients[STOPPED], &state.slots)
 }

@@ -81,39 +81,47 @@ room_silent settings slots i few fit h =
 
 -- ---- down
 
-module _ (settings : Settings) (stopped : ℕ) (slots : List ℕ) (i j : ℕ) (server : j < most_servers)
+module _ (settings : Settings) (stopped : ℕ) (slots : List ℕ) (d j : ℕ) (server : j < most_servers)
     (few : settings.clients ≤ most_clients) (fit : CountsFit slots) where
   -- no reply
-  pub room_none : room_down settings stopped slots j (sent_by (suc i) reply.Nothing) ≡ true
+  pub room_none : room_down settings stopped slots j (sent_by d reply.Nothing) ≡ true
   unfolding room_down
   room_none =
       below_of _ settings.clients
       (λ to less. drops_or_fits (contains stopped (suc to)) (count_at slots (down_index to j)) _
-      (fit (down_index to j) (omega arith)) (sym (none_length (suc i) to)))
+      (fit (down_index to j) (omega arith)) (sym (none_length d to)))
 
   module _ (number : ReadNumber) (pair : Pair) where
-    -- room on the channel to the client at place `to`, for more messages; and for those of an INFO to the
-    -- client at place i
+    -- room on the channel to the client at place `to`, for more messages; and for those of an INFO to
+    -- client d
     abbrev room_at : ℕ → ℕ → Bool
     room_at to more = contains stopped (suc to) || leb (count_at slots (down_index to j) + more) capacity
 
     abbrev sent_at : ℕ → ℕ
-    sent_at to = length (sent_to (suc to) (sent_by (suc i) (reply.Info number pair)))
+    sent_at to = length (sent_to (suc to) (sent_by d (reply.Info number pair)))
 
     -- which is asked for on that client's channel only
-    pub room_info : i < settings.clients → room_down settings stopped slots j
-        (sent_by (suc i) (reply.Info number pair)) ≡ room_at i 1
+    one_asked : (i : ℕ) → suc i ≡ d → i < settings.clients → room_down settings stopped slots j
+        (sent_by d (reply.Info number pair)) ≡ room_at i 1
     unfolding room_down
-    room_info there =
+    one_asked i is there =
         let own : room_at i (sent_at i) ≡ room_at i 1 =
-        ap (room_at i) (sym (info_length (suc i) i number pair (omega arith))
-        ∙ ap bool_byte (eq-eqb (suc i) (suc i) refl)) in
+        ap (room_at i) (sym (info_length d i number pair (omega arith))
+        ∙ ap bool_byte (eq-eqb d (suc i) (sym is))) in
         by_test (room_at i 1)
-        (λ yes. below_of _ settings.clients (λ to less. by_test (eqb (suc i) (suc to))
-        (λ here. let same : i ≡ to = let q = eqb-true (suc i) (suc to) here in omega arith in
+        (λ yes. below_of _ settings.clients (λ to less. by_test (eqb d (suc to))
+        (λ here. let same : i ≡ to = let q = eqb-true d (suc to) here in omega arith in
         ap (λ (place : ℕ). room_at place (sent_at place)) (sym same) ∙ own ∙ yes)
         (λ no. drops_or_fits (contains stopped (suc to)) (count_at slots (down_index to j)) _
-        (fit (down_index to j) (omega arith)) (sym (info_length (suc i) to number pair (omega arith))
+        (fit (down_index to j) (omega arith)) (sym (info_length d to number pair (omega arith))
         ∙ ap bool_byte no)))
         ∙ sym yes)
         (λ no. below_fails _ settings.clients i there (own ∙ no) ∙ sym no)
+
+    pub room_info : 1 ≤ d → d ≤ settings.clients → room_down settings stopped slots j
+        (sent_by d (reply.Info number pair))
+        ≡ (contains stopped d || leb (count_at slots (down_index (d - 1) j) + 1) capacity)
+    room_info low high =
+        let same : suc (d - 1) ≡ d = omega arith in
+        one_asked (d - 1) same (omega arith)
+        ∙ ap (λ (n : ℕ). contains stopped n || leb (count_at slots (down_index (d - 1) j) + 1) capacity) same

@@ -93,19 +93,20 @@ room_ack settings slots i d held k message number e few fit less =
 
 -- ---- what the functions of a client ask of it, and of the server k whose message it is given
 
-abbrev pub Asked : Client → ℕ → ℕ → List ℕ → ℕ → Type 0
-Asked loaded n f memory k =
-    (loaded ≡ client.loaded loaded.number n f memory) × (is_sound_memory n f memory ≡ true)
-    × (1 ≤ loaded.number) × (loaded.number ≤ most_clients)
+abbrev pub Asked : Client → ℕ → ℕ → ℕ → List ℕ → ℕ → Type 0
+Asked loaded d n f memory k =
+    (loaded ≡ client.loaded d n f memory) × (is_sound_memory n f memory ≡ true)
+    × (1 ≤ d) × (d ≤ most_clients)
     × (1 ≤ k)
     × (k ≤ n)
 
--- they ask it for the client's own n and f, which are those of the settings
-pub own_asked : (loaded : Client) (n f : ℕ) (memory : List ℕ) (k : ℕ) → Asked loaded n f memory k
-    → Asked loaded loaded.n loaded.f memory k
-own_asked loaded n f memory k h =
-    subst (λ (own : ℕ). Asked loaded own loaded.f memory k) (sym (ap (λ (y : Client). y.n) h.0))
-    (subst (λ (own : ℕ). Asked loaded n own memory k) (sym (ap (λ (y : Client). y.f) h.0)) h)
+-- they ask it for the client's own number, n and f, which are those that it was loaded with
+pub own_asked : (loaded : Client) (d n f : ℕ) (memory : List ℕ) (k : ℕ) → Asked loaded d n f memory k
+    → Asked loaded loaded.number loaded.n loaded.f memory k
+own_asked loaded d n f memory k h =
+    subst (λ (own : ℕ). Asked loaded own loaded.n loaded.f memory k) (sym (ap (λ (y : Client). y.number) h.0))
+    (subst (λ (own : ℕ). Asked loaded d own loaded.f memory k) (sym (ap (λ (y : Client). y.n) h.0))
+    (subst (λ (own : ℕ). Asked loaded d n own memory k) (sym (ap (λ (y : Client). y.f) h.0)) h))
 
 -- ---- the step
 

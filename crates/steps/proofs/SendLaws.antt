@@ -6,7 +6,7 @@
 use Rattle.register.proofs.Vocabulary.{contains, Message, Fwd, WriteAck, Pair, Words, WriteCounter, words_of}
 use Rattle.register.proofs.Vocabulary.{counter, Sent, sent, forwards, most_clients}
 use Rattle.basics.proofs.Prelude.{◌≡◌, refl, sym, ap, ◌∙◌, true, false, List, [], ◌∷◌, ◌++◌, append-nil, ℕ}
-use Rattle.basics.proofs.Prelude.{suc, ◌+◌, ◌-◌, add-one, arith}
+use Rattle.basics.proofs.Prelude.{suc, ◌+◌, ◌-◌, add-one}
 use Rattle.channel.specs.Memory.{put_on}
 use Rattle.server.specs.declared.Sends.TheVariants as sends
 use Rattle.server.specs.Serving.{sent_by}
@@ -19,18 +19,15 @@ pub put_message : (slots slots' : List ℕ) (n n' : ℕ) (words : Words) (messag
 put_message slots slots' n n' words message e f h = cc
 
 -- the channel to a client that works, and to one that has stopped
-pub send_working : (stopped : ℕ) (slots : List ℕ) (i j : ℕ) (message : Message) → contains stopped (suc i)
-    ≡ false
-    → send_one stopped slots j (sent (suc i) message) ≡ put_on slots (down_index i j) (words_of message)
+pub send_working : (stopped : ℕ) (slots : List ℕ) (d j : ℕ) (message : Message) → contains stopped d ≡ false
+    → send_one stopped slots j (sent d message) ≡ put_on slots (down_index (d - 1) j) (words_of message)
 unfolding send_one
-send_working stopped slots i j message e =
-    let place : suc i - 1 ≡ i = omega arith in
-    rw e (ap (λ (n : ℕ). put_on slots (down_index n j) (words_of message)) place)
+send_working stopped slots d j message e = rw e refl
 
-pub send_stopped : (stopped : ℕ) (slots : List ℕ) (i j : ℕ) (message : Message) → contains stopped (suc i)
-    ≡ true → send_one stopped slots j (sent (suc i) message) ≡ slots
+pub send_stopped : (stopped : ℕ) (slots : List ℕ) (d j : ℕ) (message : Message) → contains stopped d ≡ true
+    → send_one stopped slots j (sent d message) ≡ slots
 unfolding send_one
-send_stopped stopped slots i j message e = rw e
+send_stopped stopped slots d j message e = rw e refl
 
 pub send_both : (stopped : ℕ) (slots : List ℕ) (j : ℕ) (xs ys : List Sent)
     → send_down stopped slots j (xs ++ ys) ≡ send_down stopped (send_down stopped slots j xs) j ys

@@ -5,7 +5,7 @@
 -- answer: a refusal leaves the slots as they were. What is no message is dropped: nothing is sent, so there
 -- is room, and the server stays.
 -- Assumes nothing.
-use Rattle.basics.proofs.Prelude.{◌≡◌, sym, ap, ◌∙◌, subst, Bool, true, false, List, [], ℕ, suc, ◌-◌, ◌≤◌}
+use Rattle.basics.proofs.Prelude.{◌≡◌, sym, ap, ◌∙◌, subst, Bool, true, false, List, [], ℕ, ◌-◌, ◌≤◌}
 use Rattle.basics.proofs.Prelude.{arith}
 use Rattle.std.specs.Prelude.{Ok, Err}
 use Rattle.register.proofs.Vocabulary.{Refusal, Message, server_sends, most_clients, most_servers}
@@ -44,19 +44,16 @@ module _ (settings : Settings) (stopped : ℕ) (servers slots : List ℕ) (k d :
       rw (none, room) (λ i. result (Ok Went) (sym own i) ((off ∙ ap (removed slots) place) i))
 
   -- a message, the oldest of its channel, is served; `slots₁` are those after the reply
-  module _ (message : Message) (made : Served) (fits : Bool) (slots₁ : List ℕ) (low : 1 ≤ d)
+  module _ (message : Message) (made : Served) (fits : Bool) (slots₁ : List ℕ)
       (first : request_at slots k d ≡ Ok message)
       (makes : after_of d made ≡ served_of (server.loaded (server_at servers (k - 1))) d message)
-      (reply : Delivered settings stopped slots (d - 1) (k - 1)
-      (sent_by (suc (d - 1)) made.sends) fits slots₁) where
+      (reply : Delivered settings stopped slots (d - 1) (k - 1) (sent_by d made.sends) fits slots₁) where
     reply_is : Delivered settings stopped slots (d - 1) (k - 1)
         (server_sends (server_shown settings stopped servers slots k) d message) fits slots₁
     unfolding server.view
     reply_is =
-        let same : suc (d - 1) ≡ d = omega arith in
         subst (λ (y : After). Delivered settings stopped slots (d - 1) (k - 1) y.sends fits slots₁) makes
-        (subst (λ (n : ℕ). Delivered settings stopped slots (d - 1) (k - 1)
-        (sent_by n made.sends) fits slots₁) same reply)
+        reply
 
     pub serve_refused : fits ≡ false → result (Err FullChannel) servers slots₁
         ≡ serve_oldest settings stopped servers slots k d

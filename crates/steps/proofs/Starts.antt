@@ -155,7 +155,7 @@ module _ (settings : Settings) (world : World) (good : WellStored settings world
         (R d) (on world (λ s. read_rungs settings) d) (on world (λ s. begun settings) d Reading)
         (same refl (λ e. same (stopped_same settings world good d) (λ e. same busy_is (λ e. same exhausted_is
         (λ e. same (ap not (room_up_is settings world good d client 2)) (λ e. done))))))
-        (λ None en. begins_law Reading en)
+        (λ _ en. begins_law Reading en)
 
     pub write_law : (entry : Entry) → memory_at settings world (code.W d entry) ≡ model_at settings world
         (code.W d entry)
@@ -168,4 +168,4 @@ module _ (settings : Settings) (world : World) (good : WellStored settings world
         (same refl (λ q. same (stopped_same settings world good d) (λ q. same busy_is (λ q. same refl
         (λ q. same exhausted_is
         (λ q. same (ap not (room_up_is settings world good d client 3)) (λ q. done)))))))
-        (λ None en. begins_law (ReadingForWrite entry) en)
+        (λ _ en. begins_law (ReadingForWrite entry) en)

@@ -14,6 +14,7 @@ pub fn has(set: u64, n: u32) -> bool
     is_in(set, (n - 1) as usize)
 }
 
+// A client, and then a server: each is one line over another number of the settings.
 #[tactic(auto, unfolding(register::specs::Settings::is_client, state::specs::State::settings_of))]
 pub fn is_client(settings: Settings, d: u32) -> bool
     ensures is { result ≡ is_client (settings_of settings) d }

@@ -1,6 +1,8 @@
-// Room on the channels, and messages put on them. A client and a server are named by their places, counted
-// from 0.
-ghost use Rattle.std.specs.Prelude.{true, false, cond, ◌||◌, ◌≡◌, leb, length, suc, ◌+◌, ◌≤◌, ◌<◌};
+// Room on the channels, and messages put on them. That counts fit and that spare channels are empty stands in each
+// `requires`: a type of slots that fit would owe the proof again behind each `put`.
+//
+// A client and a server are named by their places, counted from 0.
+ghost use Rattle.std.specs.Prelude.{true, false, cond, ◌||◌, ◌≡◌, leb, length, suc, ◌+◌, ◌-◌, ◌≤◌, ◌<◌};
 ghost use Rattle.basics.specs.BitSets.{contains};
 ghost use Rattle.message.specs.Layout.{goes};
 ghost use Rattle.register.specs.Server.{forwards, sent, sent_to};
@@ -13,11 +15,14 @@ ghost use Rattle.state.specs.State.{up_index, down_index, message_at};
 ghost use Rattle.steps.specs.InMemory as memory;
 ghost use Rattle.steps.specs.Ready.{SpareEmpty};
 
+use crate::link::Link;
+use crate::process::has;
 use channel::{CAPACITY, Slots};
 use message::{Message, Pair};
 use refusal::Refusal;
 use server::Sends;
-use state::{CLIENTS, SERVERS, Settings, down, is_in, up};
+use state::allowed::Allowed;
+use state::{CLIENTS, SERVERS, down, is_in, up};
 
 // Twice the capacity of a channel, which is a power of 2 since the capacity is one, and what is added so that
 // a sum over the capacity reaches it.
@@ -37,10 +42,10 @@ pub fn has_room(slots: &Slots, channel: usize, more: u64) -> bool
 // at, and no test branches: a channel that drops or is not used is empty, and which of the others are full
 // cannot be foreseen. A sum is at most CAPACITY exactly if it is below OVER with UNDER added, and numbers
 // joined by OR are below a power of 2 exactly if each is.
-pub fn has_room_up(settings: Settings, slots: &Slots, i: usize, more: u64) -> bool
-    requires { (i < most_clients) × (settings.n ≤ most_servers) × (more ≤ capacity) × CountsFit slots.now
-        × SpareEmpty settings slots.now }
-    ensures { result ≡ memory.room_up settings slots.now i more }
+pub fn has_room_up(known: Allowed, slots: &Slots, i: usize, more: u64) -> bool
+    requires { (i < most_clients) × (more ≤ capacity) × CountsFit slots.now
+        × SpareEmpty known.settings slots.now }
+    ensures { result ≡ memory.room_up known.settings slots.now i more }
 {
     let mut over: u64 = 0;
     for j in 0..SERVERS {
@@ -50,13 +55,13 @@ pub fn has_room_up(settings: Settings, slots: &Slots, i: usize, more: u64) -> bo
 }
 
 // A message on the channels from a client to all honest servers.
-pub fn broadcast(settings: Settings, slots: &mut Slots, i: usize, message: Message)
-    requires { (i < most_clients) × (settings.n ≤ most_servers) }
-    ensures { slots.new ≡ memory.to_all settings slots.old i message }
+pub fn broadcast(known: Allowed, slots: &mut Slots, i: usize, message: Message)
+    requires { i < most_clients }
+    ensures { slots.new ≡ memory.to_all known.settings slots.old i message }
 {
     let words = message::words_of(message);
-    let faulty = settings.faulty as u64;
-    for j in 0..settings.n as usize {
+    let faulty = known.settings.faulty as u64;
+    for j in 0..known.settings.n as usize {
         if !is_in(faulty, j) {
             channel::put(slots, up(i, j), words);
         }
@@ -76,22 +81,23 @@ pub fn count_sent(sends: client::Sends) -> u64
 }
 
 // What a client sends, on the channels to all honest servers.
-pub fn send_up(settings: Settings, slots: &mut Slots, i: usize, sends: client::Sends)
-    requires { (i < most_clients) × (settings.n ≤ most_servers) }
-    ensures { slots.new ≡ memory.send_up settings slots.old i (messages_of sends) }
+pub fn send_up(known: Allowed, slots: &mut Slots, i: usize, sends: client::Sends)
+    requires { i < most_clients }
+    ensures { slots.new ≡ memory.send_up known.settings slots.old i (messages_of sends) }
 {
     match sends {
         client::Sends::Nothing => {}
-        client::Sends::GetInfo(number) => broadcast(settings, slots, i, Message::GetInfo(number)),
-        client::Sends::Done => broadcast(settings, slots, i, Message::Done),
+        client::Sends::GetInfo(number) => broadcast(known, slots, i, Message::GetInfo(number)),
+        client::Sends::Done => broadcast(known, slots, i, Message::Done),
         client::Sends::DoneAndWrite(pair) => {
-            broadcast(settings, slots, i, Message::Done);
-            broadcast(settings, slots, i, Message::WriteInfo(pair));
+            broadcast(known, slots, i, Message::Done);
+            broadcast(known, slots, i, Message::WriteInfo(pair));
         }
     }
 }
 
 // What stands oldest on a channel to a server, and on one to a client: a message that goes that way.
+// Two functions, since each goes over another one of `message`, for other kinds.
 pub fn oldest_request(slots: &Slots, channel: usize) -> Result<Message, Refusal>
     requires { (channel < channels) × (goes false (message_at slots.now channel) ≡ true) }
     ensures { result ≡ message_at slots.now channel }
@@ -127,21 +133,15 @@ fn has_room_from(stopped: u64, slots: &Slots, i: usize, j: usize, more: u64) -> 
 
 // Whether every channel from a server to a working client has room for what is forwarded, and for the
 // acknowledgement.
-fn all_have_room(
-    settings: Settings,
-    stopped: u64,
-    slots: &Slots,
-    i: usize,
-    j: usize,
-    set: u8,
-) -> bool
-    requires { (i < most_clients) × (j < most_servers) × (settings.clients ≤ most_clients) }
+fn all_have_room(link: Link, stopped: u64, slots: &Slots, set: u8) -> bool
     ensures { (pair : Pair)
-        → result ≡ memory.room_down settings stopped slots.now j
-        (sent_by (suc i) (Sends.Forward set pair)) }
+        → result ≡ memory.room_down link.known.settings stopped slots.now (link.server - 1)
+        (sent_by link.client (Sends.Forward set pair)) }
 {
+    let i = (link.client - 1) as usize;
+    let j = (link.server - 1) as usize;
     let mut fits = true;
-    for to in 0..settings.clients as usize {
+    for to in 0..link.known.settings.clients as usize {
         fits &= has_room_from(stopped, slots, to, j, count_to(set, i, to));
     }
     fits
@@ -171,47 +171,39 @@ fn forward(stopped: u64, slots: &mut Slots, j: usize, set: u8, pair: Pair)
     }
 }
 
-// One message replied: the oldest message from the client at place i goes off its channel, and the reply on
-// the one back. Without room for it nothing changes, and the answer is false.
-fn reply_one(stopped: u64, slots: &mut Slots, i: usize, j: usize, message: Message) -> bool
-    requires { (i < most_clients) × (j < most_servers) }
-    ensures { (result ≡ (contains stopped (suc i)
-        || leb (count_at slots.old (down_index i j) + 1) capacity))
-        × (slots.new ≡ cond result
-        (memory.send_one stopped (removed slots.old (up_index i j)) j (sent (suc i) message))
-        slots.old) }
+// One message replied: the client's oldest message goes off its channel, and the reply on the one back.
+// Without room for it nothing changes, and the answer is false.
+fn reply_one(link: Link, stopped: u64, slots: &mut Slots, message: Message) -> bool
+    ensures room { result ≡ (contains stopped link.client
+        || leb (count_at slots.old (down_index (link.client - 1) (link.server - 1)) + 1) capacity) }
+    ensures slots { slots.new ≡ cond result
+        (memory.send_one stopped (removed slots.old (up_index (link.client - 1) (link.server - 1)))
+        (link.server - 1) (sent link.client message)) slots.old }
 {
-    if is_in(stopped, i) {
-        channel::remove(slots, up(i, j));
+    if has(stopped, link.client) {
+        channel::remove(slots, link.up());
         return true;
     }
-    let to = down(i, j);
+    let to = link.down();
     if !has_room(slots, to, 1) {
         return false;
     }
-    channel::remove(slots, up(i, j));
+    channel::remove(slots, link.up());
     channel::put(slots, to, message::words_of(message));
     true
 }
 
 // The same of a pair forwarded to a set of clients, and acknowledged.
-fn reply_all(
-    settings: Settings,
-    stopped: u64,
-    slots: &mut Slots,
-    i: usize,
-    j: usize,
-    set: u8,
-    pair: Pair,
-) -> bool
-    requires { (i < most_clients) × (settings.clients ≤ most_clients) × (j < most_servers) }
-    ensures { memory.Delivered settings stopped slots.old i j
-        (sent_by (suc i) (Sends.Forward set pair)) result slots.new }
+fn reply_all(link: Link, stopped: u64, slots: &mut Slots, set: u8, pair: Pair) -> bool
+    ensures { memory.Delivered link.known.settings stopped slots.old (link.client - 1) (link.server - 1)
+        (sent_by link.client (Sends.Forward set pair)) result slots.new }
 {
-    if !all_have_room(settings, stopped, slots, i, j, set) {
+    if !all_have_room(link, stopped, slots, set) {
         return false;
     }
-    channel::remove(slots, up(i, j));
+    channel::remove(slots, link.up());
+    let i = (link.client - 1) as usize;
+    let j = (link.server - 1) as usize;
     forward(stopped, slots, j, set, pair);
     send_one(
         stopped,
@@ -223,36 +215,28 @@ fn reply_all(
     true
 }
 
-// The same of whatever a server replies to the client at place i, which exists.
-pub fn deliver(
-    settings: Settings,
-    stopped: u64,
-    slots: &mut Slots,
-    i: usize,
-    j: usize,
-    reply: Sends,
-) -> bool
-    requires { (i < settings.clients) × (settings.clients ≤ most_clients) × (j < most_servers)
-        × CountsFit slots.old }
-    ensures { memory.Delivered settings stopped slots.old i j (sent_by (suc i) reply) result
-        slots.new }
+// The same of whatever a server replies to the client.
+pub fn deliver(link: Link, stopped: u64, slots: &mut Slots, reply: Sends) -> bool
+    requires { CountsFit slots.old }
+    ensures { memory.Delivered link.known.settings stopped slots.old (link.client - 1) (link.server - 1)
+        (sent_by link.client reply) result slots.new }
 {
     match reply {
         Sends::Nothing => {
-            channel::remove(slots, up(i, j));
+            channel::remove(slots, link.up());
             true
         }
-        Sends::Info(number, pair) => reply_one(stopped, slots, i, j, Message::Info(number, pair)),
-        Sends::Forward(set, pair) => reply_all(settings, stopped, slots, i, j, set, pair),
+        Sends::Info(number, pair) => reply_one(link, stopped, slots, Message::Info(number, pair)),
+        Sends::Forward(set, pair) => reply_all(link, stopped, slots, set, pair),
     }
 }
 
 // The channels to a client emptied.
-pub fn empty_down(settings: Settings, slots: &mut Slots, i: usize)
-    requires { (i < most_clients) × (settings.n ≤ most_servers) }
-    ensures { slots.new ≡ memory.emptied slots.old i settings.n }
+pub fn empty_down(known: Allowed, slots: &mut Slots, i: usize)
+    requires { i < most_clients }
+    ensures { slots.new ≡ memory.emptied slots.old i known.settings.n }
 {
-    for j in 0..settings.n as usize {
+    for j in 0..known.settings.n as usize {
         channel::clear(slots, down(i, j));
     }
 }

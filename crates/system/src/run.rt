@@ -9,11 +9,10 @@ ghost use Rattle.system.specs.Run.{clamped, step_by, step_in, code_of, shown_by,
 ghost use Rattle.system.specs.MakesSteps.{MakesSteps};
 
 use crate::setup::set_up;
-use channel::Slots;
 use message::{Entry, Words};
 use refusal::Refusal;
-use register::{Answer, Step};
-use state::{Clients, Servers, Settings};
+use register::{Answer, Setup, Step};
+use state::{Settings, State};
 use steps::step::make_step;
 
 // The numbers of a step, and of an answer.
@@ -97,77 +96,60 @@ pub fn write_answer(out: &mut [u64], i: usize, answer: Result<Answer, Refusal>)
 
 // The steps one after the other, each on the memory that the one before it left: as many as there are whole, and as
 // there is room for answers.
-fn step_all<
-    F: Fn(Settings, Step, &mut Servers, &mut Clients, &mut Slots) -> Result<Answer, Refusal>,
->(
+fn step_all<F: Fn(Settings, Step, &mut State) -> Result<Answer, Refusal>>(
     make: F,
     settings: Settings,
     steps: &[u64],
     out: &mut [u64],
-    servers: &mut Servers,
-    clients: &mut Clients,
-    slots: &mut Slots,
+    state: &mut State,
 )
     requires makes { MakesSteps (F.pre make) (F.post make) }
     requires allowed { are_allowed settings ≡ true }
-    requires new { Stored new_world servers.old clients.old slots.old }
+    requires new { Stored new_world state.old.servers state.old.clients state.old.slots }
     ensures { let n = how_many steps.now out.old in
-        Run settings steps.now out.old n n servers.new clients.new slots.new out.new }
+        Run settings steps.now out.old n n
+        state.new.servers state.new.clients state.new.slots out.new }
 {
     let many = (steps.len() / STEP).min(out.len() / ANSWER);
     for i in 0..many {
-        let answer = make(settings, step_in(steps, i), servers, clients, slots);
+        let answer = make(settings, step_in(steps, i), state);
         write_answer(out, i, answer);
     }
 }
 
 // A run from a setup, each step made by `make`. Five numbers a step, two an answer; as many steps as both have room
 // for. A refused setup changes nothing.
-pub fn run_by<
-    F: Fn(Settings, Step, &mut Servers, &mut Clients, &mut Slots) -> Result<Answer, Refusal>,
->(
+pub fn run_by<F: Fn(Settings, Step, &mut State) -> Result<Answer, Refusal>>(
     make: F,
-    f: u32,
-    n: u32,
-    count: u32,
-    faulty: u32,
+    asked: Setup,
     steps: &[u64],
     out: &mut [u64],
-    servers: &mut Servers,
-    clients: &mut Clients,
-    slots: &mut Slots,
+    state: &mut State,
 ) -> Result<Settings, Refusal>
     requires { MakesSteps (F.pre make) (F.post make) }
-    ensures { (result ≡ setup_of f n count faulty)
-        × Outcome (setup_of f n count faulty) steps.now out.old
-        servers.old clients.old slots.old
-        servers.new clients.new slots.new out.new }
+    ensures { (result ≡ setup_of asked.f asked.n asked.clients asked.faulty)
+        × Outcome (setup_of asked.f asked.n asked.clients asked.faulty) steps.now out.old
+        state.old.servers state.old.clients state.old.slots
+        state.new.servers state.new.clients state.new.slots out.new }
 {
-    let setup = set_up(f, n, count, faulty, servers, clients, slots);
+    let setup = set_up(asked, state);
     if let Ok(settings) = setup {
-        step_all(make, settings, steps, out, servers, clients, slots);
+        step_all(make, settings, steps, out, state);
     }
     setup
 }
 
 // A run whose steps are not tested: its state stays its own.
 pub fn run(
-    f: u32,
-    n: u32,
-    count: u32,
-    faulty: u32,
+    asked: Setup,
     steps: &[u64],
     out: &mut [u64],
-    servers: &mut Servers,
-    clients: &mut Clients,
-    slots: &mut Slots,
+    state: &mut State,
 ) -> Result<Settings, Refusal>
-    ensures { (result ≡ setup_of f n count faulty)
-        × Outcome (setup_of f n count faulty) steps.now out.old
-        servers.old clients.old slots.old
-        servers.new clients.new slots.new out.new }
+    ensures { (result ≡ setup_of asked.f asked.n asked.clients asked.faulty)
+        × Outcome (setup_of asked.f asked.n asked.clients asked.faulty) steps.now out.old
+        state.old.servers state.old.clients state.old.slots
+        state.new.servers state.new.clients state.new.slots out.new }
 {
-    run_by(
-        make_step, f, n, count, faulty, steps, out, servers, clients, slots,
-    )
+    run_by(make_step, asked, steps, out, state)
 }

@@ -3,36 +3,36 @@
 ghost use Rattle.std.specs.Prelude.{◌≡◌};
 ghost use Rattle.system.specs.Setup.{setup_of, set_up, set_up_by};
 
-use channel::{SLOTS_LENGTH, Slots};
 use refusal::Refusal;
+use register::Setup;
 use state::sound::{count_faulty, is_in_range};
-use state::{CLIENTS_LENGTH, Clients, SERVERS, SERVERS_LENGTH, Servers, Settings};
+use state::{SERVERS, Settings, State};
 
 // The first number that has a bit beyond the marks of all servers.
 const OVER_MARKS: u32 = 1 << SERVERS;
 
 // The settings that four numbers are, or why they are refused: 1, 2. A number that has no room in the
 // settings is refused 1.
-fn settings_of(f: u32, n: u32, clients: u32, faulty: u32) -> Result<Settings, Refusal>
-    ensures { result ≡ setup_of f n clients faulty }
+fn settings_of(asked: Setup) -> Result<Settings, Refusal>
+    ensures { result ≡ setup_of asked.f asked.n asked.clients asked.faulty }
 {
-    if OVER_MARKS <= faulty {
+    if OVER_MARKS <= asked.faulty {
         return Err(Refusal::BadSettings);
     }
-    let Ok(f) = u8::try_from(f) else {
+    let Ok(f) = u8::try_from(asked.f) else {
         return Err(Refusal::BadSettings);
     };
-    let Ok(n) = u8::try_from(n) else {
+    let Ok(n) = u8::try_from(asked.n) else {
         return Err(Refusal::BadSettings);
     };
-    let Ok(clients) = u8::try_from(clients) else {
+    let Ok(clients) = u8::try_from(asked.clients) else {
         return Err(Refusal::BadSettings);
     };
     let settings = Settings {
         f,
         n,
         clients,
-        faulty: faulty as u16,
+        faulty: asked.faulty as u16,
     };
     let fine = is_in_range(settings);
     let many = (f as u32) < count_faulty(settings);
@@ -45,24 +45,13 @@ fn settings_of(f: u32, n: u32, clients: u32, faulty: u32) -> Result<Settings, Re
     }
 }
 
-// A setup of f, n, a count of clients and the faulty servers: refused (1, 2) with the memory as it was, or
-// accepted with all zero, the state at setup.
-pub fn set_up(
-    f: u32,
-    n: u32,
-    count: u32,
-    faulty: u32,
-    servers: &mut Servers,
-    clients: &mut Clients,
-    slots: &mut Slots,
-) -> Result<Settings, Refusal>
-    ensures { set_up result servers.new clients.new slots.new
-        ≡ set_up_by (setup_of f n count faulty)
-        servers.old clients.old slots.old }
+// A setup: refused (1, 2) with the memory as it was, or accepted with all zero, the state at setup.
+pub fn set_up(asked: Setup, state: &mut State) -> Result<Settings, Refusal>
+    ensures { set_up result state.new.servers state.new.clients state.new.slots
+        ≡ set_up_by (setup_of asked.f asked.n asked.clients asked.faulty)
+        state.old.servers state.old.clients state.old.slots }
 {
-    let settings = settings_of(f, n, count, faulty)?;
-    *servers = [0u64; SERVERS_LENGTH];
-    *clients = [0u64; CLIENTS_LENGTH];
-    *slots = [0u64; SLOTS_LENGTH];
+    let settings = settings_of(asked)?;
+    *state = State::new();
     Ok(settings)
 }

@@ -4,11 +4,10 @@ ghost use Rattle.std.specs.Prelude.{◌≡◌};
 ghost use Rattle.steps.specs.After.{after};
 ghost use Rattle.system.specs.Step.{stepped, words_in};
 
-use channel::Slots;
 use message::{HEAD_BYTES, MESSAGE_BYTES, Words};
 use refusal::Refusal;
 use register::{Answer, Step};
-use state::{Clients, Servers, Settings};
+use state::{Settings, State};
 use steps::step::make_step;
 
 // A first word that no message has: one bit more than theirs.
@@ -17,20 +16,14 @@ const NO_WORD: u32 = 1 << (8 * HEAD_BYTES);
 // One step. An unsound state is refused (3); a refusal leaves the memory as it was. The memory does not
 // hold the settings: a caller gives those of the setup at each call.
 #[tactic(auto, unfolding(crate::specs::Step::stepped))]
-pub fn step(
-    settings: Settings,
-    asked: Step,
-    servers: &mut Servers,
-    clients: &mut Clients,
-    slots: &mut Slots,
-) -> Result<Answer, Refusal>
-    ensures { after result servers.new clients.new slots.new
-        ≡ stepped settings servers.old clients.old slots.old asked }
+pub fn step(settings: Settings, asked: Step, state: &mut State) -> Result<Answer, Refusal>
+    ensures { after result state.new.servers state.new.clients state.new.slots
+        ≡ stepped settings state.old.servers state.old.clients state.old.slots asked }
 {
-    if !state::sound::is_sound(settings, servers, clients, slots) {
+    if !state::sound::is_sound(settings, state) {
         return Err(Refusal::Unsound);
     }
-    make_step(settings, asked, servers, clients, slots)
+    make_step(settings, asked, state)
 }
 
 // Any bytes as the message of L: eleven as two words, and for all others words that stand for none.

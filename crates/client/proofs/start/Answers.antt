@@ -12,12 +12,12 @@ returns-then-not-is_sound c =
     start_refused a.number a.n a.f a.memory.now a.phase a.licensed _
     (stop (rung _ _ _ c.is_sound.ensures (no c.if-not-is_sound.true)))
 
-pub returns-then-not-is_client : goal.returns-then-not-is_client
-returns-then-not-is_client c =
+pub returns-then-not-is_up_to : goal.returns-then-not-is_up_to
+returns-then-not-is_up_to c =
     let a = c.args in
     start_refused a.number a.n a.f a.memory.now a.phase a.licensed _
     (next (rung _ _ _ c.is_sound.ensures (yes c.if-not-is_sound.false))
-    (stop (rung _ _ _ c.is_client.ensures (no c.if-not-is_client.true))))
+    (stop (rung _ _ _ c.is_up_to.ensures (no c.if-not-is_up_to.true))))
 
 pub load-client-requires : goal.load-client-requires
 load-client-requires c = long _ _ _ _ c.is_sound.ensures c.if-not-is_sound.false
@@ -27,7 +27,7 @@ returns-then-not-is_idle c =
     let a = c.args in
     start_refused a.number a.n a.f a.memory.now a.phase a.licensed _
     (next (rung _ _ _ c.is_sound.ensures (yes c.if-not-is_sound.false))
-    (next (rung _ _ _ c.is_client.ensures (yes c.if-not-is_client.false))
+    (next (rung _ _ _ c.is_up_to.ensures (yes c.if-not-is_up_to.false))
     (next refl
     (stop (idle_rung _ _ _ _ a.memory.now _ _ c.load-client.ensures c.is_idle.ensures (no c.if-not-is_idle.true))))))
 
@@ -36,7 +36,7 @@ returns-then-not-licensed c =
     let a = c.args in
     start_refused a.number a.n a.f a.memory.now a.phase a.licensed _
     (next (rung _ _ _ c.is_sound.ensures (yes c.if-not-is_sound.false))
-    (next (rung _ _ _ c.is_client.ensures (yes c.if-not-is_client.false))
+    (next (rung _ _ _ c.is_up_to.ensures (yes c.if-not-is_up_to.false))
     (next refl
     (next (idle_rung _ _ _ _ a.memory.now _ _ c.load-client.ensures c.is_idle.ensures (yes c.if-not-is_idle.false))
     (stop (no c.if-not-licensed.true))))))
@@ -46,7 +46,7 @@ returns-then-is_last_read c =
     let a = c.args in
     start_refused a.number a.n a.f a.memory.now a.phase a.licensed _
     (next (rung _ _ _ c.is_sound.ensures (yes c.if-not-is_sound.false))
-    (next (rung _ _ _ c.is_client.ensures (yes c.if-not-is_client.false))
+    (next (rung _ _ _ c.is_up_to.ensures (yes c.if-not-is_up_to.false))
     (next refl
     (next (idle_rung _ _ _ _ a.memory.now _ _ c.load-client.ensures c.is_idle.ensures (yes c.if-not-is_idle.false))
     (next (yes c.if-not-licensed.false)
@@ -57,7 +57,7 @@ returns c =
     let a = c.args in
     start_done a.number a.n a.f a.memory.now a.phase a.licensed _ c.begin.ensures
     (next (rung _ _ _ c.is_sound.ensures (yes c.if-not-is_sound.false))
-    (next (rung _ _ _ c.is_client.ensures (yes c.if-not-is_client.false))
+    (next (rung _ _ _ c.is_up_to.ensures (yes c.if-not-is_up_to.false))
     (next refl
     (next (idle_rung _ _ _ _ a.memory.now _ _ c.load-client.ensures c.is_idle.ensures (yes c.if-not-is_idle.false))
     (next (yes c.if-not-licensed.false)

@@ -11,28 +11,28 @@ returns-then-not-is_sound c =
     take_refused a.number a.n a.f a.memory.now a.k a.bytes.now _
     (stop (rung _ _ _ c.is_sound.ensures (no c.if-not-is_sound.true)))
 
-pub returns-then-not-is_client : goal.returns-then-not-is_client
-returns-then-not-is_client c =
+pub returns-then-not-is_up_to : goal.returns-then-not-is_up_to
+returns-then-not-is_up_to c =
     let a = c.args in
     take_refused a.number a.n a.f a.memory.now a.k a.bytes.now _
     (next (rung _ _ _ c.is_sound.ensures (yes c.if-not-is_sound.false))
-    (stop (no_client _ a.number a.n a.k c.is_client.ensures c.if-not-is_client.true)))
+    (stop (no_client _ a.number a.n a.k c.is_up_to.ensures c.if-not-is_up_to.true)))
 
-pub returns-then-not-is_server : goal.returns-then-not-is_server
-returns-then-not-is_server c =
+pub returns-then-not-is_up_to-2 : goal.returns-then-not-is_up_to-2
+returns-then-not-is_up_to-2 c =
     let a = c.args in
     take_refused a.number a.n a.f a.memory.now a.k a.bytes.now _
     (next (rung _ _ _ c.is_sound.ensures (yes c.if-not-is_sound.false))
-    (stop (server_rung _ a.number a.n a.k c.is_client.ensures c.if-not-is_client.false _ c.is_server.ensures _
-    (no c.if-not-is_server.true))))
+    (stop (server_rung _ a.number a.n a.k c.is_up_to.ensures c.if-not-is_up_to.false _ c.is_up_to-2.ensures _
+    (no c.if-not-is_up_to-2.true))))
 
 pub returns-in_default : goal.returns-in_default
 returns-in_default c =
     let a = c.args in
     take_refused a.number a.n a.f a.memory.now a.k a.bytes.now _
     (next (rung _ _ _ c.is_sound.ensures (yes c.if-not-is_sound.false))
-    (next (server_rung _ a.number a.n a.k c.is_client.ensures c.if-not-is_client.false _ c.is_server.ensures _
-    (yes c.if-not-is_server.false))
+    (next (server_rung _ a.number a.n a.k c.is_up_to.ensures c.if-not-is_up_to.false _ c.is_up_to-2.ensures _
+    (yes c.if-not-is_up_to-2.false))
     (stop (search malformed_rung))))
 
 pub returns-then-not-is_reply : goal.returns-then-not-is_reply
@@ -40,8 +40,8 @@ returns-then-not-is_reply c =
     let a = c.args in
     take_refused a.number a.n a.f a.memory.now a.k a.bytes.now _
     (next (rung _ _ _ c.is_sound.ensures (yes c.if-not-is_sound.false))
-    (next (server_rung _ a.number a.n a.k c.is_client.ensures c.if-not-is_client.false _ c.is_server.ensures _
-    (yes c.if-not-is_server.false))
+    (next (server_rung _ a.number a.n a.k c.is_up_to.ensures c.if-not-is_up_to.false _ c.is_up_to-2.ensures _
+    (yes c.if-not-is_up_to-2.false))
     (stop (reply_rung _ a.bytes.now c.unpack.ensures _ _ _ c.in-Ok.is c.is_reply.ensures (no c.if-not-is_reply.true)))))
 
 pub load-client-requires : goal.load-client-requires
@@ -52,6 +52,6 @@ returns c =
     let a = c.args in
     take_done a.number a.n a.f a.memory.now a.k a.bytes.now _ (search received_as_lem)
     (next (rung _ _ _ c.is_sound.ensures (yes c.if-not-is_sound.false))
-    (next (server_rung _ a.number a.n a.k c.is_client.ensures c.if-not-is_client.false _ c.is_server.ensures _
-    (yes c.if-not-is_server.false))
+    (next (server_rung _ a.number a.n a.k c.is_up_to.ensures c.if-not-is_up_to.false _ c.is_up_to-2.ensures _
+    (yes c.if-not-is_up_to-2.false))
     (next (reply_rung _ a.bytes.now c.unpack.ensures _ _ _ c.in-Ok.is c.is_reply.ensures (yes c.if-not-is_reply.false)) end)))

@@ -4,7 +4,6 @@
 -- Assumes nothing.
 use Rattle.basics.proofs.Prelude.{◌≡◌, sym, ◌∙◌, length, take, drop, arith}
 use Rattle.script.proofs.Writing.{keeps}
-use Rattle.state.proofs.StoredSetup.{servers_new, clients_new, slots_new}
 use Rattle.rehearse.specs.Blocks.{input_bytes}
 use Rattle.rehearse.proofs.Between.{none_read, one_turn}
 use Rattle.rehearse.proofs.main.Goals as goal
@@ -13,9 +12,9 @@ pub loop-init : goal.loop-init
 loop-init c =
     none_read c.numeral_of.ensures
     (record {
-      servers = sym servers_new;
-      clients = sym clients_new;
-      slots = c.empty_slots-slots.ensures ∙ sym slots_new;
+      servers = c.new-state.ensures.servers;
+      clients = c.new-state.ensures.clients;
+      slots = c.new-state.ensures.slots;
     })
     (sym c.new_input-input.ensures) (sym c.new_output-out.ensures)
 

@@ -4,4 +4,4 @@ use Rattle.rehearse.proofs.Between.{Between}
 use Rattle.rehearse.proofs.main.Given as goal
 
 abbrev pub invariant-loop : goal.invariant-loop
-invariant-loop l = Between l.turn l.servers l.clients l.slots l.input l.have l.out
+invariant-loop l = Between l.turn l.state.servers l.state.clients l.state.slots l.input l.have l.out

@@ -5,6 +5,6 @@ use Rattle.exports.proofs.runs.exports_run_by_steps.Goals as goal
 pub run_by-requires : goal.run_by-requires
 run_by-requires c =
     record {
-      callable = λ settings asked servers clients slots sound. tt;
-      makes = λ settings asked servers clients slots answer servers' clients' slots' sound gives. gives.2;
+      callable = λ settings asked state sound. tt;
+      makes = λ settings asked state answer state' sound gives. gives.2;
     }

@@ -12,8 +12,9 @@ use Rattle.rehearse.proofs.lines.obey_lines.Given as goal
 -- ---- the lines so far
 abbrev pub invariant-loop-found : goal.invariant-loop-found
 invariant-loop-found l =
-    SoFar (stage l.initial.settings l.initial.servers l.initial.clients l.initial.slots l.initial.number.number) l.input l.initial.out
-    (stage l.settings l.servers l.clients l.slots l.number.number) l.at l.used l.out
+    SoFar (stage l.initial.settings l.initial.state.servers l.initial.state.clients l.initial.state.slots
+    l.initial.number.number) l.input l.initial.out
+    (stage l.settings l.state.servers l.state.clients l.state.slots l.number.number) l.at l.used l.out
     × (l.number ≡ numeral_of l.number.number)
 
 abbrev pub decreases-loop-found : goal.decreases-loop-found

@@ -32,7 +32,7 @@ lie_with-requires c =
 pub returns : goal.returns
 returns c =
     let a = c.args in
-    lie_on a.settings a.stopped a.slots.now a.k a.d a.words _ c.lie_with.ensures
+    lie_on a.known.settings a.stopped a.slots.now a.k a.d a.words _ c.lie_with.ensures
     (rung _ _ _ c.both_exist.ensures.is (yes c.if-not-both_exist.false))
     (rung _ _ _ c.has.ensures (yes c.if-not-has.false))
     (rung _ _ _ c.is_reply.ensures (yes c.if-not-is_reply.false))

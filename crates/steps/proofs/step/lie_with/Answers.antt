@@ -17,4 +17,4 @@ returns c =
     rw (works, sym room ∙ c.if-not-has_room.false)
     (ap (placed (Ok Went))
     (c.put.ensures ∙ ap (λ (n : ℕ). put_on a.slots.now n a.words) c.down-to.ensures
-    ∙ ap (put_on a.slots.now _) (own_words a.words c.requires.4 (omega arith))))
+    ∙ ap (put_on a.slots.now _) (own_words a.words c.requires (omega arith))))

@@ -32,7 +32,7 @@ serve_oldest-requires-clause-goes_up c =
 
 pub returns : goal.returns
 returns c =
-    serve_on c.args.settings c.args.stopped c.args.servers.now c.args.slots.now c.args.k c.args.d _
+    serve_on c.args.known.settings c.args.stopped c.args.servers.now c.args.slots.now c.args.k c.args.d _
     c.serve_oldest.ensures (rung _ _ _ c.both_exist.ensures.is (yes c.if-not-both_exist.false))
     (failed c.has.ensures c.if-has.false)
     (waiting_rung _ _ _ _ c.count.ensures c.up.ensures c.if-count-eq0.false)

@@ -10,5 +10,5 @@ pub begin-requires-clause-loaded : goal.begin-requires-clause-loaded
 begin-requires-clause-loaded c =
     let a = c.args in
     c.load-client.ensures
-    ∙ ap (client.loaded a.d a.settings.n a.settings.f)
+    ∙ ap (client.loaded a.d a.known.settings.n a.known.settings.f)
     (lent (client_start (a.d - 1)) client_length a.clients.now _ c.client_start-at.ensures)

@@ -32,7 +32,7 @@ take_oldest-requires-clause-goes_down c =
 
 pub returns : goal.returns
 returns c =
-    take_on c.args.settings c.args.clients.now c.args.slots.now c.args.d c.args.k _
+    take_on c.args.known.settings c.args.clients.now c.args.slots.now c.args.d c.args.k _
     c.take_oldest.ensures (rung _ _ _ c.both_exist.ensures.is (yes c.if-not-both_exist.false))
     (failed c.has.ensures c.if-has.false)
     (waiting_rung _ _ _ _ c.count.ensures c.down.ensures c.if-count-eq0.false)

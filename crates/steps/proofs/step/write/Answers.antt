@@ -9,5 +9,6 @@ unfolding write_step
 returns c =
     let a = c.args in
     c.start.ensures
-    ∙ ap (λ (y : Bool). start_step a.settings a.clients.now a.slots.now a.d (ReadingForWrite a.entry) (not y) 3)
+    ∙ ap (λ (y : Bool). start_step a.known.settings a.clients.now a.slots.now a.d (ReadingForWrite a.entry)
+    (not y) 3)
     c.is_licence.ensures

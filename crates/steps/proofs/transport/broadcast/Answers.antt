@@ -18,10 +18,10 @@ loop-j-preserved c message e =
     let j = c.loop-j.j in
     let before = c.loop-j.invariant message e in
     elim c.if-not-is_in.branch [
-      | then-not-is_in w ↦ broadcast_honest a.settings.faulty a.slots.now slots a.i message j before _
+      | then-not-is_in w ↦ broadcast_honest a.known.settings.faulty a.slots.now slots a.i message j before _
           (failed c.is_in.ensures w.if-not-is_in.true)
           (w.slots-is ∙ put_message slots _ _ _ _ message w.up.ensures e w.put.ensures)
       | else-not-is_in w ↦ w.slots-is
-          ∙ broadcast_faulty a.settings.faulty a.slots.now slots a.i message j before
+          ∙ broadcast_faulty a.known.settings.faulty a.slots.now slots a.i message j before
           (passed c.is_in.ensures w.if-not-is_in.false)
     ]

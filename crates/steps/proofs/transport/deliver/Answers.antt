@@ -1,5 +1,5 @@
 -- `deliver`: by the reply's kind. Assumes nothing.
-use Rattle.basics.proofs.Prelude.{sym, ap, ◌∙◌, subst, true, suc}
+use Rattle.basics.proofs.Prelude.{sym, ap, ◌∙◌, subst, true, ◌-◌, arith}
 use Rattle.channel.specs.Memory.{removed}
 use Rattle.server.specs.declared.Sends.{Sends}
 use Rattle.server.specs.Serving.{sent_by}
@@ -11,9 +11,15 @@ pub returns-in-Nothing : goal.returns-in-Nothing
 unfolding sent_by send_down
 returns-in-Nothing c =
     let a = c.args in
-    subst (λ (x : Sends). Delivered a.settings a.stopped a.slots.now a.i a.j (sent_by (suc a.i) x) true c.remove.new.slots)
+    let link = a.link in
+    let settings = link.known.settings in
+    let i = link.client - 1 in
+    let j = link.server - 1 in
+    subst (λ (x : Sends). Delivered settings a.stopped a.slots.now i j (sent_by link.client x) true
+    c.remove.new.slots)
     (sym c.in-Nothing.is) (
-      sym (room_none a.settings a.stopped a.slots.now a.i a.j c.requires.2 c.requires.1 c.requires.3),
+      sym (room_none settings a.stopped a.slots.now link.client j (omega arith) link.known.few_clients
+          c.requires),
       c.remove.ensures ∙ ap (removed a.slots.now) c.up.ensures,
     )
 
@@ -21,10 +27,15 @@ pub returns-in-Info : goal.returns-in-Info
 unfolding sent_by send_down
 returns-in-Info c =
     let a = c.args in
-    subst (λ (x : Sends). Delivered a.settings a.stopped a.slots.now a.i a.j (sent_by (suc a.i) x) c.reply_one.result c.reply_one.new.slots)
+    let link = a.link in
+    let settings = link.known.settings in
+    let i = link.client - 1 in
+    let j = link.server - 1 in
+    subst (λ (x : Sends). Delivered settings a.stopped a.slots.now i j (sent_by link.client x)
+    c.reply_one.result c.reply_one.new.slots)
     (sym c.in-Info.is) (
-      c.reply_one.ensures.0
-          ∙ sym (room_info a.settings a.stopped a.slots.now a.i a.j c.requires.2 c.requires.1 c.requires.3 _ _
-          c.requires.0),
-      c.reply_one.ensures.1,
+      c.reply_one.ensures.room
+          ∙ sym (room_info settings a.stopped a.slots.now link.client j (omega arith) link.known.few_clients
+          c.requires _ _ link.client_there.0 link.client_there.1),
+      c.reply_one.ensures.slots,
     )

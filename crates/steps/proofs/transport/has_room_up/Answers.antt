@@ -23,4 +23,5 @@ returns c =
     let a = c.args in
     let last : c.loop-j.j ≡ most_servers = omega arith in
     c.loop-j.invariant ∙ ap (all_below _) last
-    ∙ room_on_all a.settings a.slots.now a.i a.more c.requires.1 c.requires.0 c.requires.2 c.requires.4
+    ∙ room_on_all a.known.settings a.slots.now a.i a.more a.known.few_servers c.requires.0 c.requires.1
+    c.requires.3

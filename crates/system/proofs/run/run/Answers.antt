@@ -8,8 +8,8 @@ use Rattle.system.proofs.run.run.Goals as goal
 pub run_by-requires : goal.run_by-requires
 run_by-requires c =
     record {
-      callable = λ settings asked servers clients slots sound.
+      callable = λ settings asked state sound.
           ready _ _ _ _ (facts _ _ _ _ sound);
-      makes = λ settings asked servers clients slots answer servers' clients' slots' sound gives.
+      makes = λ settings asked state answer state' sound gives.
           step_law _ _ _ _ sound asked _ gives.2;
     }

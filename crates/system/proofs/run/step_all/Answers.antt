@@ -12,7 +12,7 @@ loop-i-init g c = run_none _ _ _ _ _ _ _ c.requires.new
 
 pub make-answer-requires : goal.make-answer-requires
 make-answer-requires g c =
-    c.requires.makes.callable _ _ _ _ _
+    c.requires.makes.callable _ _ _
     (run_sound _ _ _ _ c.loop-i.i c.loop-i-test.true (allowed_facts _ c.requires.allowed) _ _ _ _ c.loop-i.invariant)
 
 pub loop-i-preserved : goal.loop-i-preserved
@@ -20,7 +20,7 @@ loop-i-preserved g c =
     let allowed = allowed_facts _ c.requires.allowed in
     turn _ _ _ _ c.loop-i.i c.loop-i-test.true allowed _ _ _ _
     c.loop-i.invariant c.step_in.result c.step_in.ensures _ _ c.write_answer.ensures
-    (c.requires.makes.makes _ _ _ _ _ _ _ _ _
+    (c.requires.makes.makes _ _ _ _ _
     (run_sound _ _ _ _ c.loop-i.i c.loop-i-test.true allowed _ _ _ _ c.loop-i.invariant)
     c.make-answer.ensures)
 

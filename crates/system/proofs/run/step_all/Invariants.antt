@@ -7,4 +7,4 @@ use Rattle.system.proofs.run.step_all.Given as goal
 
 abbrev pub invariant-loop-i : goal.invariant-loop-i
 invariant-loop-i g l =
-    Run l.settings l.steps l.initial.out l.many l.i l.servers l.clients l.slots l.out
+    Run l.settings l.steps l.initial.out l.many l.i l.state.servers l.state.clients l.state.slots l.out

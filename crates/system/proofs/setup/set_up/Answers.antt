@@ -1,8 +1,7 @@
--- `set_up`: a refused setup stores nothing; memory of zeros is what is stored of the new world.
+-- `set_up`: a refused setup stores nothing; a new state is what is stored of the new world.
 -- Assumes nothing.
 use Rattle.basics.proofs.Prelude.{sym, ◌∙◌}
 use Rattle.std.proofs.lemmas.Result.{err_from_is_err_and}
-use Rattle.state.proofs.StoredSetup.{servers_new, clients_new, slots_new}
 use Rattle.system.specs.Setup.{set_up_by}
 use Rattle.system.proofs.setup.set_up.Goals as goal
 
@@ -15,4 +14,5 @@ returns-in_err-settings c =
 pub returns : goal.returns
 unfolding set_up_by
 returns c =
-    rw (sym c.settings_of.ensures ∙ c.in_ok-settings.was, servers_new, clients_new, slots_new)
+    let new = c.new.ensures in
+    rw (sym c.settings_of.ensures ∙ c.in_ok-settings.was, new.servers, new.clients, new.slots)
