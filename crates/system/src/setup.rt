@@ -45,7 +45,9 @@ fn settings_of(asked: Setup) -> Result<Settings, Refusal>
     }
 }
 
-// A setup: refused (1, 2) with the memory as it was, or accepted with all zero, the state at setup.
+// A setup: refused (1, 2) with the memory as it was, or accepted with all zero, the state at setup. It is compiled into
+// its caller: a new state of the caller's own is then not zeroed twice, and not at all where the setup is refused.
+#[inline]
 pub fn set_up(asked: Setup, state: &mut State) -> Result<Settings, Refusal>
     ensures { set_up result state.new.servers state.new.clients state.new.slots
         ≡ set_up_by (setup_of asked.f asked.n asked.clients asked.faulty)
