@@ -1,5 +1,8 @@
 // Two clients and five servers: the memory that they are lent, and the way of each message.
-ghost use Rattle.std.specs.Prelude.{◌<◌, ◌≤◌};
+ghost use Rattle.std.specs.Prelude.{◌≡◌, ℕ, ◌-◌, ◌<◌, ◌≤◌, [], ◌∷◌, replicate, slice_get};
+ghost use Rattle.server.specs.Memory.{server_length};
+ghost use Rattle.exchange.specs.Clients.{number_of, index_of, new_client, WentTo, Went, SameNumbers, Serves};
+ghost use Rattle.exchange.specs.Clients.{read_memory, written_memory, taken_memory};
 
 use crate::print::{Bytes, Process, print_answer, print_message, print_refused};
 use message::{Entry, MESSAGE_BYTES, Message, Pair};
@@ -20,7 +23,7 @@ pub enum Who {
 
 impl Who {
     fn index(self) -> usize
-        ensures { result < 2 }
+        ensures { (result ≡ index_of self) × (result < 2) }
     {
         match self {
             Who::First => 0,
@@ -28,7 +31,9 @@ impl Who {
         }
     }
 
-    fn number(self) -> u8 {
+    fn number(self) -> u8
+        ensures { result ≡ number_of self }
+    {
         self.index() as u8 + 1
     }
 }
@@ -48,7 +53,9 @@ struct Client {
 
 impl Client {
     // All memory is zero at setup.
-    fn new(who: Who, n: u8, f: u8) -> Client {
+    fn new(who: Who, n: u8, f: u8) -> Client
+        ensures { result ≡ new_client who n f }
+    {
         Client {
             who,
             n,
@@ -68,7 +75,9 @@ impl Client {
     }
 
     // Keeps a message. More than ten are not kept.
-    fn keep(&mut self, bytes: Bytes) {
+    fn keep(&mut self, bytes: Bytes)
+        ensures { WentTo self.old.memory self.old self.new }
+    {
         let count = self.count;
         if count < MOST_SENT {
             self.sent[count] = bytes;
@@ -77,7 +86,9 @@ impl Client {
     }
 
     // Prints a message for each server, and keeps it.
-    fn send(&mut self, rt: &impl Print, message: Message) -> io::Result<()> {
+    fn send(&mut self, rt: &impl Print, message: Message) -> io::Result<()>
+        ensures { WentTo self.old.memory self.old self.new }
+    {
         let bytes = Bytes::from(message);
         for k in 1..=self.n {
             print_message(rt, self.process(), Process::Server(k), bytes)?;
@@ -86,7 +97,9 @@ impl Client {
         Ok(())
     }
 
-    fn send_all(&mut self, rt: &impl Print, sends: client::Sends) -> io::Result<()> {
+    fn send_all(&mut self, rt: &impl Print, sends: client::Sends) -> io::Result<()>
+        ensures { WentTo self.old.memory self.old self.new }
+    {
         match sends {
             client::Sends::Nothing => Ok(()),
             client::Sends::GetInfo(tag) => self.send(rt, Message::GetInfo(tag)),
@@ -103,7 +116,9 @@ impl Client {
         &mut self,
         rt: &impl Print,
         outcome: Result<client::Outcome, Refusal>,
-    ) -> io::Result<()> {
+    ) -> io::Result<()>
+        ensures { WentTo self.old.memory self.old self.new }
+    {
         match outcome {
             Ok(outcome) => {
                 self.send_all(rt, outcome.sends)?;
@@ -113,18 +128,24 @@ impl Client {
         }
     }
 
-    fn read(&mut self, rt: &impl Print) -> io::Result<()> {
+    fn read(&mut self, rt: &impl Print) -> io::Result<()>
+        ensures { WentTo (read_memory self.old) self.old self.new }
+    {
         let outcome = client::read(self.who.number(), self.n, self.f, &mut self.memory);
         self.stepped(rt, outcome)
     }
 
-    fn write(&mut self, rt: &impl Print, entry: Entry) -> io::Result<()> {
+    fn write(&mut self, rt: &impl Print, entry: Entry) -> io::Result<()>
+        ensures { WentTo (written_memory entry self.old) self.old self.new }
+    {
         let outcome = client::write(self.who.number(), self.n, self.f, entry, &mut self.memory);
         self.stepped(rt, outcome)
     }
 
     // Takes bytes from server k.
-    fn take(&mut self, rt: &impl Print, k: u8, bytes: Bytes) -> io::Result<()> {
+    fn take(&mut self, rt: &impl Print, k: u8, bytes: Bytes) -> io::Result<()>
+        ensures { WentTo (taken_memory k bytes self.old) self.old self.new }
+    {
         let (number, n, f) = (self.who.number(), self.n, self.f);
         let memory = &mut self.memory;
         let outcome = client::take(number, n, f, k, &bytes.0, memory);
@@ -145,6 +166,9 @@ pub struct Group {
 impl Group {
     pub fn new(n: u8, f: u8, live: u8) -> Group
         requires { live ≤ 5 }
+        ensures live { result.live ≡ live }
+        ensures servers { result.servers ≡ replicate 5 (replicate server_length 0) }
+        ensures clients { result.clients ≡ new_client Who.First n f ∷ new_client Who.Second n f ∷ [] }
     {
         Group {
             clients: [
@@ -156,18 +180,30 @@ impl Group {
         }
     }
 
-    pub fn read(&mut self, rt: &impl Print, who: Who) -> io::Result<()> {
+    pub fn read(&mut self, rt: &impl Print, who: Who) -> io::Result<()>
+        ensures live { self.new.live ≡ self.old.live }
+        ensures servers { self.new.servers ≡ self.old.servers }
+        ensures clients { Went who read_memory self.old.clients self.new.clients }
+    {
         let clients = &mut self.clients;
         clients[who.index()].read(rt)
     }
 
-    pub fn write(&mut self, rt: &impl Print, who: Who, entry: Entry) -> io::Result<()> {
+    pub fn write(&mut self, rt: &impl Print, who: Who, entry: Entry) -> io::Result<()>
+        ensures live { self.new.live ≡ self.old.live }
+        ensures servers { self.new.servers ≡ self.old.servers }
+        ensures clients { Went who (written_memory entry) self.old.clients self.new.clients }
+    {
         let clients = &mut self.clients;
         clients[who.index()].write(rt, entry)
     }
 
     // A reply of server k to one client.
-    fn reply(&mut self, rt: &impl Print, who: Who, k: u8, message: Message) -> io::Result<()> {
+    fn reply(&mut self, rt: &impl Print, who: Who, k: u8, message: Message) -> io::Result<()>
+        ensures live { self.new.live ≡ self.old.live }
+        ensures servers { self.new.servers ≡ self.old.servers }
+        ensures numbers { SameNumbers self.old.clients self.new.clients }
+    {
         let bytes = Bytes::from(message);
         let clients = &mut self.clients;
         let client = &mut clients[who.index()];
@@ -183,7 +219,11 @@ impl Group {
         k: u8,
         readers: u8,
         pair: Pair,
-    ) -> io::Result<()> {
+    ) -> io::Result<()>
+        ensures live { self.new.live ≡ self.old.live }
+        ensures servers { self.new.servers ≡ self.old.servers }
+        ensures numbers { SameNumbers self.old.clients self.new.clients }
+    {
         let fwd = Bytes::from(Message::Fwd(pair));
         let ack = Bytes::from(Message::WriteAck(message::counter_of(pair)));
         let server = Process::Server(k);
@@ -204,6 +244,12 @@ impl Group {
     // Server k serves message j of a client.
     fn serve(&mut self, rt: &impl Print, who: Who, j: usize, k: u8) -> io::Result<()>
         requires { (j < 10) × (1 ≤ k) × (k ≤ 5) }
+        ensures live { self.new.live ≡ self.old.live }
+        ensures others { (i : ℕ) → (i ≡ k - 1 → ⊥)
+            → slice_get self.new.servers i ≡ slice_get self.old.servers i }
+        ensures own { Serves who j self.old.clients
+            (slice_get self.old.servers (k - 1)) (slice_get self.new.servers (k - 1)) }
+        ensures numbers { SameNumbers self.old.clients self.new.clients }
     {
         let sender = &self.clients[who.index()];
         let bytes = sender.sent[j];
@@ -227,6 +273,12 @@ impl Group {
         last: u8,
     ) -> io::Result<()>
         requires { (j < 10) × (1 ≤ first) × (last ≤ 5) }
+        ensures live { self.new.live ≡ self.old.live }
+        ensures before { (i : ℕ) → i < first - 1
+            → slice_get self.new.servers i ≡ slice_get self.old.servers i }
+        ensures behind { (i : ℕ) → last ≤ i
+            → slice_get self.new.servers i ≡ slice_get self.old.servers i }
+        ensures numbers { SameNumbers self.old.clients self.new.clients }
     {
         for k in first..=last {
             self.serve(rt, who, j, k)?;
@@ -237,6 +289,10 @@ impl Group {
     // Every server that serves does so.
     pub fn serve_all(&mut self, rt: &impl Print, who: Who, j: usize) -> io::Result<()>
         requires { j < 10 }
+        ensures live { self.new.live ≡ self.old.live }
+        ensures behind { (i : ℕ) → self.old.live ≤ i
+            → slice_get self.new.servers i ≡ slice_get self.old.servers i }
+        ensures numbers { SameNumbers self.old.clients self.new.clients }
     {
         self.serve_from(rt, who, j, 1, self.live)
     }

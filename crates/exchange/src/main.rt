@@ -4,8 +4,8 @@
 // be enough.
 //
 // `tests/exchange_oracle.py` works the same lines out from 01, and `stdout` is what it wrote. That comparison
-// says that the lines are right; what is proved here is only that the program never stops short, but where
-// its output cannot be written: its contracts are what its places ask.
+// says that the lines are right; what is proved here is that the program never stops short, but where its
+// output cannot be written, and what the clients and servers keep and go to, but not what is printed.
 #![tactic(auto)]
 
 ghost use Rattle.std.specs.Prelude.{◌+◌, ◌<◌, ◌≤◌};

@@ -1,5 +1,9 @@
 // What the lines show: clients and servers by their numbers, the bytes of a message, and the outcome of a read or
 // a write.
+ghost use Rattle.std.specs.Prelude.{◌≡◌, replicate};
+ghost use Rattle.message.specs.Layout.{message_bytes};
+ghost use Rattle.message.specs.Packing.{pack_leaves};
+
 use message::{MESSAGE_BYTES, Message, Pair};
 use refusal::Refusal;
 use register::Answer;
@@ -26,6 +30,8 @@ impl fmt::Display for Process {
 pub struct Bytes(pub [u8; MESSAGE_BYTES]);
 
 impl From<Message> for Bytes {
+    ghost from_gives = { λ message bytes. bytes.0 ≡ pack_leaves message (replicate message_bytes 0) };
+
     fn from(message: Message) -> Bytes {
         let mut bytes = [0; MESSAGE_BYTES];
         // A buffer of eleven bytes is never too short, and the ends send nothing over its width.
