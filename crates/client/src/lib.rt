@@ -454,6 +454,14 @@ pub fn take_message(client: Client, k: u8, message: Message, memory: &mut [u64])
     Outcome { sends, answer }
 }
 
+// A copy of the replies in a memory, for a trial.
+fn copied(memory: &[u64]) -> Replies
+    requires { length memory.now ≡ client_length }
+    ensures { result ≡ drop replies_at memory.now }
+{
+    *replies_in(memory)
+}
+
 // What the message would have the client send. The memory is not touched: it is collected in a copy.
 pub fn would_send(client: Client, k: u8, message: Message, memory: &[u64]) -> Sends
     requires { (client ≡ loaded client.number client.n client.f memory.now)
@@ -462,7 +470,7 @@ pub fn would_send(client: Client, k: u8, message: Message, memory: &[u64]) -> Se
     ensures { messages_of result
         ≡ (outcome.taken_of client.number client.n client.f memory.now k message).sends }
 {
-    let mut trial = *replies_in(memory);
+    let mut trial = copied(memory);
     foreseen(client, k, message, &mut trial)
 }
 

@@ -3,11 +3,11 @@
 use Rattle.client.proofs.Lent.{memory_long, lent_sound, copy_sends}
 use Rattle.client.proofs.would_send.Goals as goal
 
-pub replies_in-requires : goal.replies_in-requires
-replies_in-requires c = search memory_long
+pub copied-trial-requires : goal.copied-trial-requires
+copied-trial-requires c = search memory_long
 
 pub foreseen-requires : goal.foreseen-requires
-foreseen-requires c = let lent = c.replies_in.ensures in search lent_sound
+foreseen-requires c = let lent = c.copied-trial.ensures in search lent_sound
 
 pub returns : goal.returns
-returns c = let lent = c.replies_in.ensures in search copy_sends
+returns c = let lent = c.copied-trial.ensures in search copy_sends
