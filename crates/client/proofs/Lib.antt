@@ -6,6 +6,7 @@ pub mod Outcomes
 pub mod Others
 pub mod Taking
 pub mod Lent
+pub mod Made
 pub mod Dropping
 pub mod Starting
 pub mod Fitting

@@ -454,12 +454,14 @@ pub fn take_message(client: Client, k: u8, message: Message, memory: &mut [u64])
     Outcome { sends, answer }
 }
 
-// A copy of the replies in a memory, for a trial.
+// A copy of the replies in a memory, for a trial. It goes by number, and is no `*replies_in(memory)`, so that a wrong copy
+// can be written there, as the edits `copied-every-other` and `copied-to-acks` do.
 fn copied(memory: &[u64]) -> Replies
     requires { length memory.now ≡ client_length }
     ensures { result ≡ drop replies_at memory.now }
 {
-    *replies_in(memory)
+    let replies = replies_in(memory);
+    std::array::from_fn(|at| replies[at])
 }
 
 // What the message would have the client send. The memory is not touched: it is collected in a copy.

@@ -5,7 +5,8 @@
 //
 // `tests/exchange_oracle.py` works the same lines out from 01, and `stdout` is what it wrote. That comparison
 // says that the lines are right; what is proved here is that the program never stops short, but where its
-// output cannot be written, and what the clients and servers keep and go to, but not what is printed.
+// output cannot be written, and what a read or a write makes of a client's memory, and a served message of its
+// server's.
 #![tactic(auto)]
 
 ghost use Rattle.std.specs.Prelude.{◌+◌, ◌<◌, ◌≤◌};
