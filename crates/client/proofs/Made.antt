@@ -1,5 +1,6 @@
--- What `from_fn` gives: where each call gives the number that a list has at its place, it is that list. The
--- calls go from one state of the closure to the next, and none changes it (`made_from`).
+-- What `from_fn` gives: where each call gives the number that a list has at its place, and leaves the closure as
+-- it was (`gives`), it is that list, if there are as many calls as numbers. The calls go from place to place
+-- (`made_from`), and two lists of one length with the same numbers are one.
 -- Assumes nothing.
 use Rattle.basics.proofs.Prelude.{◌≡◌, sym, ◌∙◌, subst, List, length, get_or, ℕ, zero, suc, ◌+◌, ◌<◌, zero-add, arith}
 use Rattle.std.proofs.lemmas.List.{ext_get_or}

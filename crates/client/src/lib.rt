@@ -454,8 +454,8 @@ pub fn take_message(client: Client, k: u8, message: Message, memory: &mut [u64])
     Outcome { sends, answer }
 }
 
-// A copy of the replies in a memory, for a trial. It goes by number, and is no `*replies_in(memory)`, so that a wrong copy
-// can be written there, as the edits `copied-every-other` and `copied-to-acks` do.
+// A copy of the replies in a memory, for a trial. It goes by number, and is no `*replies_in(memory)`, so that the edits
+// `copied-every-other` and `copied-to-acks` fall at the numbers that they leave out, and not at their form.
 fn copied(memory: &[u64]) -> Replies
     requires { length memory.now ≡ client_length }
     ensures { result ≡ drop replies_at memory.now }
